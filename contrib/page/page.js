@@ -173,7 +173,7 @@ function problemOf(library, answer) {
   const problems = {
     [DONE]: () => '',
     [REFUSED]: () => library.refusal(answer),
-    [OUT_OF_MEMORY]: () => 'The memory of this page does not suffice.',
+    [OUT_OF_MEMORY]: () => 'This page has run out of memory.',
   };
   return answer.status in problems ? problems[answer.status]() : `status ${answer.status}`;
 }

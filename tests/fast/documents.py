@@ -4,7 +4,7 @@ is one:
 - each link leads to a file, and to a heading of it;
 - each path in backticks that begins with a directory of the workspace is there, but for what is built (`out`), and each file of specs/
   that is named after the directory of a crate;
-- TESTING.md has each script of tests/ in the list of its group, and PERFORMANCE.md each of bench/, and no other;
+- each script of tests/ begins with a comment on what it does, and PERFORMANCE.md has each script of bench/, and no other;
 - the code in PROOFS.md after a paragraph that names a source and ends with a colon is in that source;
 - each check in a table of FORMATS.md has the name of a definition;
 - CONFORMANCE.md has the totals of tests/conformance/tools.md, and names each file there on which a tool crashed;
@@ -140,16 +140,18 @@ def lines_of_merges(text):
 
 
 def main(root):
-    pages = ["README.md", "CHANGELOG.md", "CONTRIBUTING.md", "SECURITY.md", "examples/README.md", "tests/prover/README.md"] + sorted(os.path.relpath(path, root) for path in glob.glob(os.path.join(root, "docs/*.md")))
+    pages = ["README.md", "CHANGELOG.md", "CONTRIBUTING.md", "SECURITY.md", "examples/README.md", "tests/prover/README.md"] + sorted(os.path.relpath(path, root) for path in glob.glob(os.path.join(root, "docs/**/*.md"), recursive=True))
     wrong = []
     for page in pages:
         text = read(os.path.join(root, page))
         for reason in [*wrong_links(root, page, text), *wrong_paths(root, text), *lines_of_merges(text)]:
             wrong.append(f"{page}: {reason}")
-    for page, pattern, others in ("docs/TESTING.md", "tests/*/*.sh", ()), ("docs/PERFORMANCE.md", "bench/*.sh", ("bench/names.py",)):
-        scripts = {os.path.relpath(path, root) for path in glob.glob(os.path.join(root, pattern))}.union(others)
-        wrong += [f"{page}: {reason}" for reason in wrong_scripts(root, page, scripts)]
-    wrong += [f"docs/PROOFS.md: {reason}" for reason in wrong_code(root, read(os.path.join(root, "docs/PROOFS.md")))]
+    for path in sorted(glob.glob(os.path.join(root, "tests/*/*.sh"))):
+        if not re.match(r"#!.*\n# \w", read(path)):
+            wrong.append(f"{os.path.relpath(path, root)}: no comment says what it does")
+    scripts = {os.path.relpath(path, root) for path in glob.glob(os.path.join(root, "bench/*.sh"))} | {"bench/names.py"}
+    wrong += [f"docs/PERFORMANCE.md: {reason}" for reason in wrong_scripts(root, "docs/PERFORMANCE.md", scripts)]
+    wrong += [f"docs/dev/PROOFS.md: {reason}" for reason in wrong_code(root, read(os.path.join(root, "docs/dev/PROOFS.md")))]
     wrong += [f"docs/FORMATS.md: {reason}" for reason in wrong_checks(root, read(os.path.join(root, "docs/FORMATS.md")))]
     page, tables = (read(os.path.join(root, path)) for path in ("docs/CONFORMANCE.md", "tests/conformance/tools.md"))
     wrong += [f"docs/CONFORMANCE.md: {reason}" for reason in wrong_outcomes(page, tables)]

@@ -1,5 +1,5 @@
 """Checks the form and the English of the documents of a workspace. english.py ROOT prints a line for each thing that is wrong, and fails
-if there is one. `english.py ROOT --counts` prints how often each pattern is there, and in crates/ too:
+if there is one. `english.py ROOT --counts` prints how often each pattern is there, and in crates/ too, and how frequent some words are:
 
 - README.md has at most 150 lines and 1,200 words;
 - no line of a document, of the header for C, of the module for Python or of the manual page has more than 100 columns;
@@ -43,7 +43,7 @@ PATTERNS = [
 def documents(root):
     """The paths of the documents."""
     pages = ["README.md", "CHANGELOG.md", "CONTRIBUTING.md", "SECURITY.md", "examples/README.md"]
-    return pages + sorted(os.path.relpath(path, root) for path in glob.glob(os.path.join(root, "docs/*.md")))
+    return pages + sorted(os.path.relpath(path, root) for path in glob.glob(os.path.join(root, "docs/**/*.md"), recursive=True))
 
 
 def others(root):
@@ -97,6 +97,23 @@ def counts(root, paths):
         yield pattern, most, better, {path: count for path, count in found.items() if count}
 
 
+# Words that are frequent in texts that read as translated, and how often they may be there: twice as often as in git's manual pages. They
+# are only counted.
+FREQUENT = [
+    (r"\b(?:has|have)\b", 5.6, "contains, gives, an active verb"),
+    (r"\beach\b", 2.2, "the plural, every"),
+    (r"\b(?:that|those) of\b", 0.2, "the noun again"),
+    (r"\bso\b", 0.6, "because, a new sentence"),
+]
+
+
+def rates(root, paths):
+    """How often each frequent word is there for 1,000 words of prose."""
+    text = " ".join(prose(path, read(os.path.join(root, path))) for path in paths)
+    for pattern, most, better in FREQUENT:
+        yield pattern, most, better, 1000 * len(re.findall(pattern, text, re.I)) / len(text.split())
+
+
 def wrong_words(root):
     for pattern, most, better, found in counts(root, documents(root) + others(root)):
         if sum(found.values()) > most:
@@ -110,6 +127,8 @@ def main(root, *words):
         for pattern, most, _, found in counts(root, documents(root) + others(root) + sources):
             here = sum(count for path, count in found.items() if not path.startswith("crates/"))
             print(f"{here:5} of {most:3}, in crates/ {sum(found.values()) - here:5}: {pattern}")
+        for pattern, most, better, rate in rates(root, documents(root) + others(root)):
+            print(f"{rate:5.1f} of {most} in 1,000 words: {pattern} (write: {better})")
         return False
     wrong = [*wrong_forms(root), *wrong_words(root)]
     print("\n".join(wrong + [f"{len(documents(root))} documents"]))

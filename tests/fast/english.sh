@@ -11,7 +11,7 @@ need python3 python3
 check "the documents have their form" python3 "$root/tests/fast/english.py" "$root"
 [ "$failed" = 0 ] || finish
 work_in_new_directory
-copy_here README.md CHANGELOG.md CONTRIBUTING.md SECURITY.md examples/README.md 'docs/*.md' include man 'python/bootimg/*.py'
+copy_here README.md CHANGELOG.md CONTRIBUTING.md SECURITY.md examples/README.md 'docs/*.md' 'docs/dev/*.md' include man 'python/bootimg/*.py'
 
 # is_found FILE COMMAND TEXT: with this file of the copy edited by this command of sed, a line that begins with this text is printed, and
 # no other file is changed.
@@ -26,7 +26,7 @@ is_found() {
 
 check "a README of more lines is found" is_found README.md '1s/$/\n\n\n\n\n\n\n\n\n\n\n\n\n\n\n\n\n\n\n\n\n\n\n\n\n\n\n\n\n\n\n/' "README.md: 1[5-9][0-9] lines"
 check "a README of more words is found" is_found README.md "\$a $(seq -s ' ' 1200)" "README.md: [0-9]* words"
-check "a long line is found" is_found docs/DESIGN.md "\$a $(printf '%0101d' 0)" "docs/DESIGN.md:[0-9]*: 101 columns"
+check "a long line is found" is_found docs/dev/DESIGN.md "\$a $(printf '%0101d' 0)" "docs/dev/DESIGN.md:[0-9]*: 101 columns"
 check "a long line of the header is found" is_found include/bootimg.h "1s/.*/$(printf '%0101d' 0)/" "include/bootimg.h:1: 101 columns"
 check "a heading that the table of contents lacks is found" is_found docs/CLI.md '$a \
 \

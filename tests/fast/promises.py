@@ -1,7 +1,7 @@
-"""Checks docs/PROMISE_TABLES.md and docs/PROMISES.md against the contracts and the definitions of a workspace.
+"""Checks docs/dev/PROMISE_TABLES.md and docs/PROMISES.md against the contracts and the definitions of a workspace.
 
 promises.py ROOT: ROOT/crates.txt names the crates, which are in ROOT/crates. Prints what is wrong with a row, a line for each, and
-fails if there is anything. A row is an item of the lists of docs/PROMISE_TABLES.md, below a heading that begins with the crate. Its
+fails if there is anything. A row is an item of the lists of docs/dev/PROMISE_TABLES.md, below a heading that begins with the crate. Its
 cells are the text of the item and the items below it, each of which may be wrapped. A promise has the items `By:`, its functions, and
 `With:`, its definitions:
 
@@ -11,7 +11,8 @@ cells are the text of the item and the items below it, each of which may be wrap
   brackets. Each is in that module of specs/, and the clauses of the row cite it, or cite a definition that does, and so on.
 
 Each function that a library exports, and each of its labels, has to be in a row, but for the facts in modules `known_..`, each of which has
-a docstring. A wrong definition has the item `Refused by:`, and each function that this names is a public one of the crate. Each item of
+a docstring. A wrong definition, in tests/prover/wrong_definitions.md, has the item `Refused by:`, and each function that this names is a
+public one of the crate. Each item of
 both lists has these items and no other. In docs/PROMISES.md the reading order names the files of definitions that the contract of
 `normalise` leads to, and no other, and each line of the blocks of code with a contract or a definition is in the sources, and so is the one
 of README.md.
@@ -291,13 +292,13 @@ def check_quotes(crates, text, count):
 def check(root):
     """Prints what is wrong with the tables, and returns how much."""
     crates = {name: Crate(root, name) for name in crates_of(root)}
-    tables, page = read(f"{root}/docs/PROMISE_TABLES.md"), read(f"{root}/docs/PROMISES.md")
+    tables, page = read(f"{root}/docs/dev/PROMISE_TABLES.md"), read(f"{root}/docs/PROMISES.md")
     wrong, rows, named = [], 0, set()
     for number, crate, cells in rows_of(tables, PROMISES):
         rows += 1
-        wrong += [f"docs/PROMISE_TABLES.md:{number}: {reason}" for reason in check_row(crates, crate, cells, named)]
-    for number, crate, cells in rows_of(tables, WRONG):
-        wrong += [f"docs/PROMISE_TABLES.md:{number}: {reason}" for reason in check_wrong_row(crates, crate, cells)]
+        wrong += [f"docs/dev/PROMISE_TABLES.md:{number}: {reason}" for reason in check_row(crates, crate, cells, named)]
+    for number, crate, cells in rows_of(read(f"{root}/tests/prover/wrong_definitions.md"), WRONG):
+        wrong += [f"tests/prover/wrong_definitions.md:{number}: {reason}" for reason in check_wrong_row(crates, crate, cells)]
     wrong += [f"docs/PROMISES.md: {reason}" for reason in [*check_reading_order(crates, page), *check_quotes(crates, page, 2)]]
     wrong += [f"README.md: {reason}" for reason in check_quotes(crates, read(f"{root}/README.md"), 1)]
     for crate in crates.values():

@@ -1,5 +1,5 @@
 #!/bin/sh
-# Checks docs/PROMISE_TABLES.md: each function, clause and definition that a row names is in the sources, the clauses of a row lead to its
+# Checks docs/dev/PROMISE_TABLES.md: each function, clause and definition that a row names is in the sources, the clauses of a row lead to its
 # definitions, and each function that a library exports is in a row, with each of its clauses. Checks docs/PROMISES.md: the reading order
 # names the files of definitions that the contract of `normalise` leads to, and the claim is quoted there and in README.md as it is in the sources.
 # tests/fast/promises.py does this. Then breaks a page, a contract or a definition in a copy, in each way in turn, and shows that this is
@@ -16,7 +16,8 @@ if [ "${1-}" = --definitions ]; then
     exec python3 "$root/tests/fast/promises.py" "$root" --definitions
 fi
 work_in_new_directory
-copy_here crates.txt 'crates/*/src' 'crates/*/specs' README.md docs/PROMISES.md docs/PROMISE_TABLES.md
+copy_here crates.txt 'crates/*/src' 'crates/*/specs' README.md docs/PROMISES.md docs/dev/PROMISE_TABLES.md \
+    tests/prover/wrong_definitions.md
 
 check "the tables are those of the sources" python3 "$root/tests/fast/promises.py" copy
 [ "$failed" = 0 ] || finish
@@ -61,10 +62,10 @@ check "a field that is not there is found" \
     is_found crates/bi_norm/specs/NormalForm.antt 'pub distinguishes :' 'pub tells :' \
     '`NormalForm.IsNormalForm` has no field `distinguishes`'
 check "a missing row is found" \
-    is_found docs/PROMISE_TABLES.md '`same_meaning`: `compared`, `failed`; ' '' 'no row has `comparing::same_meaning`: `compared` of bi_norm'
+    is_found docs/dev/PROMISE_TABLES.md '`same_meaning`: `compared`, `failed`; ' '' 'no row has `comparing::same_meaning`: `compared` of bi_norm'
 check "a fact without a docstring is found" is_found crates/bi_hash/src/known_verdicts.rt '/// ' '// ' 'no docstring has `verdicts_are_known` of bi_hash'
 check "a wrong definition that no function refuses is found" \
-    is_found docs/PROMISE_TABLES.md '  - Refused by: `firmware_text`
+    is_found tests/prover/wrong_definitions.md '  - Refused by: `firmware_text`
 ' '  - Refused by: `firmware`
 ' 'no public function `firmware` with a contract is in bi_legacy'
 check "a file that the reading order lacks is found" \
@@ -76,11 +77,11 @@ check "a definition that is quoted wrongly is found" \
 check "a claim of README that is quoted wrongly is found" \
     is_found README.md '↔ (other ≡ meaning)' '↔ ⊤' 'README.md: this line is not in the sources: → (normal'
 check "a row without definitions is found" \
-    is_found docs/PROMISE_TABLES.md '  - With: `NormalForm.IsNormalForm` (`is_own`)
+    is_found docs/dev/PROMISE_TABLES.md '  - With: `NormalForm.IsNormalForm` (`is_own`)
 ' '' 'this is no row of three cells below the heading of a crate'
 check "a wrong definition that nothing refuses is found" \
-    is_found docs/PROMISE_TABLES.md '  - Refused by: `firmware_text`
+    is_found tests/prover/wrong_definitions.md '  - Refused by: `firmware_text`
 ' '' 'this is no row of two cells below the heading of a crate'
 check "a row of an unknown crate is found" \
-    is_found docs/PROMISE_TABLES.md '### `bi_norm`:' '### `bi_normal`:' 'this is no row of three cells below the heading of a crate'
+    is_found docs/dev/PROMISE_TABLES.md '### `bi_norm`:' '### `bi_normal`:' 'this is no row of three cells below the heading of a crate'
 finish

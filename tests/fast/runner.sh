@@ -103,6 +103,12 @@ check "those of a crate that bi_commands exports" of_crate bi_report tests/calls
 check "those of the library for C" of_crate bi_c tests/tools/c_library.sh
 check "those of the program" of_crate bootimg tests/calls/program.sh
 
+# is_list: --list prints the path of each script, which has no comment here, and nothing is started.
+is_list() {
+    run 0 --list && [ ! -s started ] && [ "$(cat output)" = "$scripts" ]
+}
+check "the scripts are listed" is_list
+
 # is_wrong ARGUMENT..: these arguments are refused, and nothing is started.
 is_wrong() {
     run 2 "$@" && [ ! -s started ] && grep -q '^usage: ' output && [ "$(wc -l < output)" = 1 ]
@@ -110,6 +116,7 @@ is_wrong() {
 check "an unknown group is refused" is_wrong none
 check "an unknown script is refused" is_wrong fast tests/fast/none.sh
 check "an unknown option is refused" is_wrong --help
+check "a list of one group is refused" is_wrong --list fast
 check "an unknown crate is refused" is_wrong crate bi_none
 check "two crates are refused" is_wrong crate bi_base bi_c
 check "an empty argument is refused" is_wrong ""

@@ -1,9 +1,9 @@
-use Rattle.std.proofs.Common.{◌≡◌, ℕ, zero, suc, ◌+◌, ◌<◌, ◌≤◌, List, [], ◌∷◌, ◌++◌, Bool, true, false, cond, map, length, drop, get_or}
-use Rattle.std.proofs.Common.{Option, Some, None, slice_get, bytes_eq, refl, sym, ap, subst, ◌∙◌, arith, length-append, rules}
+use Rattle.std.proofs.Common.{◌≡◌, ℕ, zero, suc, ◌+◌, ◌<◌, List, [], ◌∷◌, ◌++◌, Bool, true, false, cond, map, length, drop, get_or}
+use Rattle.std.proofs.Common.{Option, Some, None, slice_get, bytes_eq, refl, sym, ap, subst, ◌∙◌, arith, length-append}
 use Rattle.std.proofs.lemmas.List.{drop-map, drop_more, drop_all, length-map}
 use Rattle.std.proofs.lemmas.Option.{same_Some}
 use Rattle.std.proofs.lemmas.Map.Text.{is_eq-slice_cmp}
-use Rattle.std.specs.BTreeMap.{BTreeMap, Updates, IsEmpty}
+use Rattle.std.specs.BTreeMap.{Updates, IsEmpty}
 use Rattle.std.specs.Map.{lookup}
 use Rattle.std.specs.Ordering.{is_eq, nat_cmp}
 use Rattle.std.specs.Cmp.Lexicographic.{slice_cmp}
@@ -13,7 +13,7 @@ use Rattle.bi_blob.specs.Tree.{Nodes, none, node, FileNode}
 use Rattle.bi_blob.proofs.NameSets.{name_cmp}
 use Rattle.bi_fdt.specs.declared.node.NodeRef.{NodeRef}
 use Rattle.bi_fdt.specs.Views.{node_of}
-use Rattle.bi_coverage.specs.ChildNumbers.{Children, child_number, number_from, HasNumbersFrom}
+use Rattle.bi_coverage.specs.ChildNumbers.{Children, child_number, first_index, HasNumbersFrom}
 use Rattle.bi_coverage.specs.NodeIndices.{HasChildren}
 
 -- The numbers of the children of nodes.
@@ -24,7 +24,7 @@ pub number_inserted : (index : ℕ) (sibling : Sibling FileNode) (later : List (
     HasNumbersFrom (index + 1) later old → HasNumbersFrom index (sibling ∷ later) new
 number_inserted index sibling later name old new named updates has = record { each = λ wanted. at wanted }
   where
-    at : (wanted : List ℕ) → child_number new wanted ≡ number_from index wanted (sibling ∷ later)
+    at : (wanted : List ℕ) → child_number new wanted ≡ first_index index wanted (sibling ∷ later)
     at wanted =
         let key : Bor (List ℕ) = record { ref_ptr = (0, 0); now = wanted } in
         updates.0 key
@@ -45,7 +45,7 @@ get_after (x ∷ front) later k =
 
 -- The numbers of the children of a node, after those of other nodes.
 numbers_from : (index : ℕ) (nodes : Nodes FileNode) (name : List ℕ) (number : ℕ) →
-    number_from index name (siblings nodes) ≡ Some number →
+    first_index index name (siblings nodes) ≡ Some number →
     (k : ℕ) × (number ≡ index + k) × (slice_get (siblings nodes) k ≡ node_named nodes name) × (k < length (siblings nodes))
 numbers_from index none name number is = absurd cc
 numbers_from index (node first own children later) name number is =
@@ -55,8 +55,8 @@ numbers_from index (node first own children later) name number is =
     Found index nodes =
         (k : ℕ) × (number ≡ index + k) × (slice_get (siblings nodes) k ≡ node_named nodes name) × (k < length (siblings nodes))
 
-    by : (b : Bool) → bytes_eq first name ≡ b → number_from index name (siblings (node first own children later)) ≡ Some number →
-        (number_from (index + 1) name (siblings later) ≡ Some number → Found (index + 1) later) →
+    by : (b : Bool) → bytes_eq first name ≡ b → first_index index name (siblings (node first own children later)) ≡ Some number →
+        (first_index (index + 1) name (siblings later) ≡ Some number → Found (index + 1) later) →
         Found index (node first own children later)
     by true same is rest =
         let here : Some index ≡ Some number = rw same at is in
@@ -68,14 +68,14 @@ numbers_from index (node first own children later) name number is =
         let within : found.0 < length (siblings later) = found.3 in
         (suc found.0, omega arith, rw same found.2, omega arith)
 
-no_number : (index : ℕ) (nodes : Nodes FileNode) (name : List ℕ) → number_from index name (siblings nodes) ≡ None →
+no_number : (index : ℕ) (nodes : Nodes FileNode) (name : List ℕ) → first_index index name (siblings nodes) ≡ None →
     node_named nodes name ≡ None
 no_number index none name is = refl
 no_number index (node first own children later) name is =
     by (bytes_eq first name) refl is (λ is. no_number (index + 1) later name is)
   where
-    by : (b : Bool) → bytes_eq first name ≡ b → number_from index name (siblings (node first own children later)) ≡ None →
-        (number_from (index + 1) name (siblings later) ≡ None → node_named later name ≡ None) →
+    by : (b : Bool) → bytes_eq first name ≡ b → first_index index name (siblings (node first own children later)) ≡ None →
+        (first_index (index + 1) name (siblings later) ≡ None → node_named later name ≡ None) →
         node_named (node first own children later) name ≡ None
     by true same is rest = absurd (let e : Some index ≡ None = rw same at is in cc)
     by false same is rest = rw same (rest (rw same at is))
@@ -95,9 +95,10 @@ children_numbered front parent children has = record {
         × (index < length (front ++ siblings parent.children))
     at name index found =
         let is : index ≡ length front + found.0 = found.1 in
-        let within : found.0 < length (siblings parent.children) = found.3 in
-        (ap (slice_get (front ++ siblings parent.children)) is ∙ get_after front (siblings parent.children) found.0 ∙ found.2,
-          omega (arith, length-append front (siblings parent.children)))
+        let within : found.0 < length (siblings parent.children) = found.3 in (
+          ap (slice_get (front ++ siblings parent.children)) is ∙ get_after front (siblings parent.children) found.0 ∙ found.2,
+          omega (arith, length-append front (siblings parent.children)),
+        )
 
 -- What is at an index stays there in a longer list.
 pub get_front : {X : Type 0} (front later : List X) (index : ℕ) → index < length front →
@@ -118,11 +119,11 @@ children_stay nodes more parent children has = record {
 }
 
 -- One more name is inserted, from the end of nodes on.
-pub numbered_more : (nodes : List NodeRef) (index next : ℕ) (default : NodeRef) (name : Bor (List ℕ)) (old new : Children) →
+pub child_numbered : (nodes : List NodeRef) (index next : ℕ) (default : NodeRef) (name : Bor (List ℕ)) (old new : Children) →
     next ≡ index + 1 → index < length nodes → name.now ≡ (node_of (get_or nodes index default)).name →
     Updates name_cmp old new name (Some index) → HasNumbersFrom next (drop next (map node_of nodes)) old →
     HasNumbersFrom index (drop index (map node_of nodes)) new
-numbered_more nodes index next default name old new is_next within named updates has =
+child_numbered nodes index next default name old new is_next within named updates has =
     let first : drop index (map node_of nodes) ≡ node_of (get_or nodes index default) ∷ drop (index + 1) (map node_of nodes) =
     drop-map node_of index nodes ∙ ap (map node_of) (drop_more nodes index default within)
     ∙ ap (λ l. node_of (get_or nodes index default) ∷ l) (sym (drop-map node_of (index + 1) nodes)) in
@@ -136,5 +137,5 @@ pub none_numbered : (nodes : List NodeRef) (numbers : Children) → IsEmpty numb
 none_numbered nodes numbers empty = record {
   each = λ name.
       ap (λ entries. lookup (λ (other : Bor (List ℕ)). is_eq (slice_cmp nat_cmp name other.now)) entries) empty
-      ∙ ap (number_from (length nodes) name) (sym (drop_all (length nodes) (map node_of nodes) (simp length-map (omega arith))));
+      ∙ ap (first_index (length nodes) name) (sym (drop_all (length nodes) (map node_of nodes) (simp length-map (omega arith))));
 }

@@ -1,4 +1,5 @@
-use Rattle.std.proofs.Common.{◌≡◌, ℕ, List, [], ◌∷◌, ◌++◌, Bool, true, false, not, map, filter, Option, Some, refl, sym, ap, ◌∙◌, append_assoc}
+use Rattle.std.proofs.Common.{◌≡◌, ℕ, List, [], ◌∷◌, ◌++◌, Bool, true, false, not, map, filter, Option, Some, refl, sym, ap, ◌∙◌}
+use Rattle.std.proofs.Common.{append_assoc}
 use Rattle.std.specs.FinMap.{get}
 use Rattle.std.specs.Prelude.{◌&&◌, if◌then◌else◌}
 use Rattle.std.specs.List.{list_all}
@@ -11,11 +12,12 @@ use Rattle.bi_fdt.specs.Content.{root_of}
 use Rattle.bi_fit.specs.Content.{FitModel}
 use Rattle.bi_fit.proofs.FileNodes.{get-by_name}
 use Rattle.bi_coverage.specs.Coverage.{SignatureConcern, Uncovered, Foreign, Strings, is_covered, uncovered_concerns, foreign_paths}
-use Rattle.bi_coverage.specs.Coverage.{image_concerns, concerns_of_paths, concerns_of_strings, strings_concerns, has_strings, recorded_end}
+use Rattle.bi_coverage.specs.Coverage.{reference_concerns, concerns_of_paths, concerns_of_strings, strings_concerns, has_strings}
+use Rattle.bi_coverage.specs.Coverage.{recorded_end}
 use Rattle.bi_coverage.specs.Coverage.{hashed_strings_name}
 use Rattle.bi_coverage.specs.Paths.{each_once}
 use Rattle.bi_coverage.specs.Signatures.{NeededPart, paths_of_part, paths_of_parts, recorded_paths}
-use Rattle.bi_coverage.specs.Values.{meaning_of}
+use Rattle.bi_coverage.specs.Values.{meaning_of_sibling}
 use Rattle.bi_coverage.proofs.NamesOnce.{among_once}
 
 -- The concerns about paths, one after the other.
@@ -24,7 +26,8 @@ module _ (recorded : List (List ℕ)) (parts : List NeededPart) (part : NeededPa
   both : uncovered_concerns recorded (parts ++ part ∷ [])
       ≡ uncovered_concerns recorded parts ++ uncovered_concerns recorded (part ∷ [])
   both =
-      ap (map (λ (part : NeededPart). Uncovered part.path)) (filter-append (λ (part : NeededPart). not (is_covered recorded part)) parts (part ∷ []))
+      ap (map (λ (part : NeededPart). Uncovered part.path))
+      (filter-append (λ (part : NeededPart). not (is_covered recorded part)) parts (part ∷ []))
       ∙ map-append (λ (part : NeededPart). Uncovered part.path) (filter (λ part. not (is_covered recorded part)) parts)
       (filter (λ part. not (is_covered recorded part)) (part ∷ []))
 
@@ -96,7 +99,7 @@ foreign_once (path ∷ later) needed = by (is_among path needed) refl (among_onc
 -- The concerns about paths, added one kind after the other.
 pub all_added : (old one two three : List SignatureConcern) (references : List (List ℕ)) (parts : List NeededPart)
     (listed recorded needed : List (List ℕ)) → recorded ≡ each_once listed → needed ≡ each_once (paths_of_parts parts) →
-    one ≡ old ++ image_concerns references → two ≡ one ++ uncovered_concerns recorded parts →
+    one ≡ old ++ reference_concerns references → two ≡ one ++ uncovered_concerns recorded parts →
     three ≡ two ++ map Foreign (foreign_paths recorded needed) → three ≡ old ++ concerns_of_paths references parts (Some listed)
 all_added old one two three references parts listed recorded needed is_recorded is_needed is_one is_two is_three =
     let uncovered : uncovered_concerns recorded parts ≡ uncovered_concerns listed parts =
@@ -106,25 +109,28 @@ all_added old one two three references parts listed recorded needed is_recorded 
     ∙ foreign_once (each_once listed) (paths_of_parts parts) in
     is_three
     ∙ ap (λ l. l ++ map Foreign (foreign_paths recorded needed)) (is_two ∙ ap (λ l. l ++ uncovered_concerns recorded parts) is_one)
-    ∙ ap (λ l. (old ++ image_concerns references ++ uncovered_concerns recorded parts) ++ map Foreign l) foreign
-    ∙ ap (λ l. (old ++ image_concerns references ++ l) ++ map Foreign (foreign_paths (each_once listed) (paths_of_parts parts))) uncovered
-    ∙ append_assoc (old ++ image_concerns references) (uncovered_concerns listed parts) _
-    ∙ append_assoc old (image_concerns references) _
+    ∙ ap (λ l. (old ++ reference_concerns references ++ uncovered_concerns recorded parts) ++ map Foreign l) foreign
+    ∙ ap (λ l. (old ++ reference_concerns references ++ l) ++ map Foreign
+    (foreign_paths (each_once listed) (paths_of_parts parts))) uncovered
+    ∙ append_assoc (old ++ reference_concerns references) (uncovered_concerns listed parts) _
+    ∙ append_assoc old (reference_concerns references) _
 
 -- The concern about strings is added to them.
 pub strings_added : (content : FitModel) (sibling : Sibling FileNode) (references : List (List ℕ)) (parts : List NeededPart)
     (listed : List (List ℕ)) (value : Option (List ℕ)) (end : ℕ) (paths all : List SignatureConcern) →
-    recorded_paths (meaning_of sibling) ≡ Some listed → value ≡ value_named (properties_of sibling.own) hashed_strings_name →
+    recorded_paths (meaning_of_sibling sibling) ≡ Some listed → value ≡ value_named (properties_of sibling.own) hashed_strings_name →
     end ≡ recorded_end content.blob.file (root_of content.blob) listed → paths ≡ concerns_of_paths references parts (Some listed) →
     all ≡ paths ++ (if has_strings value end then [] else Strings ∷ []) →
-    all ≡ concerns_of_paths references parts (recorded_paths (meaning_of sibling)) ++ strings_concerns content (meaning_of sibling)
+    all ≡ concerns_of_paths references parts (recorded_paths (meaning_of_sibling sibling))
+    ++ strings_concerns content (meaning_of_sibling sibling)
 strings_added content sibling references parts listed value end paths all is_listed is_value is_end is_paths is_all =
-    let same : value ≡ get (meaning_of sibling).own hashed_strings_name =
+    let same : value ≡ get (meaning_of_sibling sibling).own hashed_strings_name =
     is_value ∙ sym (get-by_name (properties_of sibling.own) hashed_strings_name) in
     is_all
     ∙ ap (λ l. l ++ (if has_strings value end then [] else Strings ∷ [])) is_paths
     ∙ ap (λ value. concerns_of_paths references parts (Some listed) ++ (if has_strings value end then [] else Strings ∷ [])) same
     ∙ ap (λ end. concerns_of_paths references parts (Some listed)
-        ++ (if has_strings (get (meaning_of sibling).own hashed_strings_name) end then [] else Strings ∷ [])) is_end
+    ++ (if has_strings (get (meaning_of_sibling sibling).own hashed_strings_name) end then [] else Strings ∷ [])) is_end
     ∙ ap (λ recorded. concerns_of_paths references parts recorded
-        ++ concerns_of_strings content.blob.file (root_of content.blob) (get (meaning_of sibling).own hashed_strings_name) recorded) (sym is_listed)
+    ++ concerns_of_strings content.blob.file (root_of content.blob) (get (meaning_of_sibling sibling).own hashed_strings_name) recorded)
+    (sym is_listed)

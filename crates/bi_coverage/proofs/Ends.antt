@@ -1,11 +1,11 @@
-use Rattle.std.proofs.Common.{◌≡◌, ℕ, max, List, [], ◌∷◌, ◌++◌, Bool, true, false, cond, map, filter, refl, sym, ap, ◌∙◌, bytes_eq, arith, rules}
+use Rattle.std.proofs.Common.{◌≡◌, ℕ, max, List, [], ◌∷◌, Bool, true, false, map, filter, refl, sym, ap, ◌∙◌, bytes_eq, arith}
 use Rattle.std.specs.Prelude.{◌||◌}
 use Rattle.bi_blob.specs.Layout.{is_among}
 use Rattle.bi_blob.specs.Tree.{FileNode, FileProperty, Root}
 use Rattle.bi_fit.specs.Judgement.{listed_names, BeginsWithName}
 use Rattle.bi_fit.specs.Names.{is_payload_name}
 use Rattle.bi_coverage.specs.Coverage.{name_end, names_end, properties_end, recorded_end}
-use Rattle.bi_coverage.specs.NodeIndices.{end_at}
+use Rattle.bi_coverage.specs.NodeIndices.{path_end}
 use Rattle.bi_coverage.specs.Numbers.{greatest}
 use Rattle.bi_coverage.specs.Paths.{path_text, all_nodes}
 
@@ -13,42 +13,43 @@ use Rattle.bi_coverage.specs.Paths.{path_text, all_nodes}
 
 module _ {X : Type 0} (key : X → List ℕ) (number : X → ℕ) where
   -- The greatest number of the things that pass a test.
-  abbrev pub end_of : (X → Bool) → List X → ℕ
-  end_of test things = greatest (map number (filter test things))
+  abbrev pub tested_end : (X → Bool) → List X → ℕ
+  tested_end test things = greatest (map number (filter test things))
 
   -- Of those that pass one of two tests.
-  end_of-or : (test other : X → Bool) (things : List X) →
-      end_of (λ thing. test thing || other thing) things ≡ max (end_of test things) (end_of other things)
-  end_of-or test other [] = refl
-  end_of-or test other (thing ∷ later) = by (test thing) (other thing) refl refl (end_of-or test other later)
+  tested_end-or : (test other : X → Bool) (things : List X) →
+      tested_end (λ thing. test thing || other thing) things ≡ max (tested_end test things) (tested_end other things)
+  tested_end-or test other [] = refl
+  tested_end-or test other (thing ∷ later) = by (test thing) (other thing) refl refl (tested_end-or test other later)
     where
       by : (a b : Bool) → test thing ≡ a → other thing ≡ b →
-          end_of (λ thing. test thing || other thing) later ≡ max (end_of test later) (end_of other later) →
-          end_of (λ thing. test thing || other thing) (thing ∷ later) ≡ max (end_of test (thing ∷ later)) (end_of other (thing ∷ later))
+          tested_end (λ thing. test thing || other thing) later ≡ max (tested_end test later) (tested_end other later) →
+          tested_end (λ thing. test thing || other thing) (thing ∷ later)
+          ≡ max (tested_end test (thing ∷ later)) (tested_end other (thing ∷ later))
       by true true is is_other rest = rw (is, is_other) (omega arith)
       by true false is is_other rest = rw (is, is_other) (omega arith)
       by false true is is_other rest = rw (is, is_other) (omega arith)
       by false false is is_other rest = rw (is, is_other) rest
 
   -- Of none.
-  end_of-none : (things : List X) → end_of (λ thing. false) things ≡ 0
-  end_of-none [] = refl
-  end_of-none (thing ∷ later) = end_of-none later
+  tested_end-none : (things : List X) → tested_end (λ thing. false) things ≡ 0
+  tested_end-none [] = refl
+  tested_end-none (thing ∷ later) = tested_end-none later
 
   -- Of those whose keys are among some paths, it is the greatest for one of the paths.
-  pub end_of-among : (paths : List (List ℕ)) (things : List X) →
-      end_of (λ thing. is_among (key thing) paths) things
-      ≡ greatest (map (λ path. end_of (λ thing. bytes_eq path (key thing)) things) paths)
-  end_of-among [] things = end_of-none things
-  end_of-among (path ∷ later) things =
-      end_of-or (λ thing. bytes_eq path (key thing)) (λ thing. is_among (key thing) later) things
-      ∙ ap (max (end_of (λ thing. bytes_eq path (key thing)) things)) (end_of-among later things)
+  pub tested_end-among : (paths : List (List ℕ)) (things : List X) →
+      tested_end (λ thing. is_among (key thing) paths) things
+      ≡ greatest (map (λ path. tested_end (λ thing. bytes_eq path (key thing)) things) paths)
+  tested_end-among [] things = tested_end-none things
+  tested_end-among (path ∷ later) things =
+      tested_end-or (λ thing. bytes_eq path (key thing)) (λ thing. is_among (key thing) later) things
+      ∙ ap (max (tested_end (λ thing. bytes_eq path (key thing)) things)) (tested_end-among later things)
 
 -- Where the last name of recorded nodes ends is the greatest end at one of the paths.
 pub recorded_is : (file : List ℕ) (root : Root FileNode) (recorded : List (List ℕ)) →
-    greatest (map (end_at file root) recorded) ≡ recorded_end file root recorded
+    greatest (map (path_end file root) recorded) ≡ recorded_end file root recorded
 recorded_is file root recorded =
-    sym (end_of-among (λ located. path_text located.names) (λ located. names_end file located.own) recorded (all_nodes root))
+    sym (tested_end-among (λ located. path_text located.names) (λ located. names_end file located.own) recorded (all_nodes root))
 
 -- One more path of a list.
 pub recorded_more : (f : List ℕ → ℕ) (rest name later : List ℕ) (end new all : ℕ) → BeginsWithName rest name later →
@@ -83,11 +84,13 @@ property_more file property later end new all so_far is = by (is_payload_name pr
         omega (arith, first, alone, is, so_far)
 
 -- The end of the name of one property.
-pub payload_end : (file : List ℕ) (property : FileProperty) → is_payload_name property.name ≡ true → 0 ≡ properties_end file (property ∷ [])
-payload_end file property is = rw is refl
+pub payload_name_end : (file : List ℕ) (property : FileProperty) → is_payload_name property.name ≡ true →
+    0 ≡ properties_end file (property ∷ [])
+payload_name_end file property is = rw is refl
 
-pub other_end : (file : List ℕ) (property : FileProperty) (end : ℕ) → is_payload_name property.name ≡ false → end ≡ name_end file property →
+pub counted_name_end : (file : List ℕ) (property : FileProperty) (end : ℕ) → is_payload_name property.name ≡ false →
+    end ≡ name_end file property →
     end ≡ properties_end file (property ∷ [])
-other_end file property end is same =
+counted_name_end file property end is same =
     let alone : properties_end file (property ∷ []) ≡ max (name_end file property) 0 = rw is refl in
     omega (arith, alone, same)

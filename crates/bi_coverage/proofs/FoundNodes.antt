@@ -1,20 +1,21 @@
-use Rattle.std.proofs.Common.{◌≡◌, ◌≢◌, ℕ, suc, zero, ◌<◌, List, [], ◌∷◌, ◌++◌, Bool, true, false, max, map, filter, length, Option, Some, None, slice_get}
-use Rattle.std.proofs.Common.{bytes_eq, get_or, ◌==◌, refl, sym, ap, subst, ◌∙◌, arith, rules}
+use Rattle.std.proofs.Common.{◌≡◌, ◌≢◌, ℕ, suc, zero, ◌<◌, List, [], ◌∷◌, Bool, true, false, max, map, filter, length, Some}
+use Rattle.std.proofs.Common.{None, slice_get}
+use Rattle.std.proofs.Common.{bytes_eq, get_or, ◌==◌, refl, sym, ap, subst, ◌∙◌, arith}
 use Rattle.std.specs.List.{AllZip}
 use Rattle.std.proofs.lemmas.Bool.{eqb-true, true≢false}
-use Rattle.std.proofs.lemmas.List.{length-map}
 use Rattle.std.proofs.lemmas.Slice.Zip.{AllZip-long}
 use Rattle.std.proofs.lemmas.Option.{same_Some}
 use Rattle.std.proofs.lemmas.Slice.Eq.{bytes_eq-Decides}
 use Rattle.bi_blob.specs.Lookups.{Sibling, root_node, node_named}
-use Rattle.bi_blob.specs.Tree.{Nodes, none, node, FileNode, Root, AreNodes, AreProperties, IsTree, IsNew, names, properties_of, tree_without_places, with_each}
+use Rattle.bi_blob.specs.Tree.{Nodes, none, node, FileNode, Root, AreNodes, AreProperties, IsTree, IsNew, properties_of}
+use Rattle.bi_blob.specs.Tree.{tree_without_places, with_each}
 use Rattle.bi_blob.proofs.Blobs.Lookups.{names-with_each}
 use Rattle.bi_coverage.specs.ChildNumbers.{Children, child_number}
 use Rattle.bi_coverage.specs.Coverage.{names_end}
-use Rattle.bi_coverage.specs.NodeIndices.{HasChildren, IsNodeIndex, end_at}
+use Rattle.bi_coverage.specs.NodeIndices.{HasChildren, IsNodeIndex, path_end}
 use Rattle.bi_coverage.specs.Numbers.{greatest}
 use Rattle.bi_coverage.specs.PathParts.{BeginsWithNode, BeginsWithNoSlash}
-use Rattle.bi_coverage.specs.Paths.{LocatedNode, path_text, nodes_below, all_nodes}
+use Rattle.bi_coverage.specs.Paths.{LocatedNode, path_text, nodes_below}
 use Rattle.bi_coverage.proofs.NodePaths.{owns_with, owns_found, owns_located, owns_by_name, owns_elsewhere}
 
 -- The node of a path is found name by name.
@@ -79,9 +80,9 @@ got_at {X = X} things index thing within is = there things index within ∙ ap (
     there (first ∷ later) (suc index) within = there later index (omega arith)
 
 -- A path may be empty.
-pub no_path : (path : List ℕ) → (length path == 0) ≡ true → path ≡ []
-no_path [] is = refl
-no_path (byte ∷ path) is = absurd (let e = eqb-true (length (byte ∷ path)) 0 is in omega (arith, e))
+pub no_node_at_path : (path : List ℕ) → (length path == 0) ≡ true → path ≡ []
+no_node_at_path [] is = refl
+no_node_at_path (byte ∷ path) is = absurd (let e = eqb-true (length (byte ∷ path)) 0 is in omega (arith, e))
 
 pub some_path : (path : List ℕ) → (length path == 0) ≡ false → path ≢ []
 some_path [] is empty = true≢false is
@@ -137,7 +138,8 @@ module _ (file : List ℕ) (root : Root FileNode) (children : List Children) (en
 
   -- The children of the node.
   its_children : (numbers : Children) → slice_get children number ≡ Some numbers → HasChildren at.index.nodes at.sibling numbers
-  its_children numbers is = zipped_at (HasChildren at.index.nodes) at.index.nodes children number at.sibling numbers at.index.have_children at.there is
+  its_children numbers is =
+      zipped_at (HasChildren at.index.nodes) at.index.nodes children number at.sibling numbers at.index.have_children at.there is
 
   -- A child has the name.
   pub at_child : (numbers : Children) (name later : List ℕ) (child : ℕ) → slice_get children number ≡ Some numbers →
@@ -210,12 +212,12 @@ end_below file root path =
 
 -- The end at a path other than that of the root.
 pub end_elsewhere : (file : List ℕ) (root : Root FileNode) (path : List ℕ) → bytes_eq path (47 ∷ []) ≡ false →
-    end_at file root path ≡ greatest (map (names_end file) (owns_with [] root.children path))
+    path_end file root path ≡ greatest (map (names_end file) (owns_with [] root.children path))
 end_elsewhere file root path other = rw other (end_below file root path)
 
 -- The end at the path of the root.
 pub end_root : (file : List ℕ) (root : Root FileNode) → IsTree AreProperties (tree_without_places root) →
-    end_at file root (47 ∷ []) ≡ names_end file root.own
+    path_end file root (47 ∷ []) ≡ names_end file root.own
 end_root file root is =
     let lost : owns_with [] root.children (47 ∷ []) ≡ [] =
     owns_by_name IsOwn root.children [] [] (root_is root is) tt tt
@@ -228,13 +230,13 @@ end_root file root is =
 
 -- No node has a path.
 pub lost_end : (file : List ℕ) (root : Root FileNode) (path : List ℕ) → bytes_eq path (47 ∷ []) ≡ false →
-    owns_with [] root.children path ≡ [] → 0 ≡ end_at file root path
+    owns_with [] root.children path ≡ [] → 0 ≡ path_end file root path
 lost_end file root path other none_there =
     sym (end_elsewhere file root path other ∙ ap (λ owns. greatest (map (names_end file) owns)) none_there)
 
 -- No node has the empty path.
 pub empty_end : (file : List ℕ) (root : Root FileNode) (path : List ℕ) → bytes_eq path (47 ∷ []) ≡ false → path ≡ [] →
-    0 ≡ end_at file root path
+    0 ≡ path_end file root path
 empty_end file root path other empty =
     lost_end file root path other
     (ap (owns_with [] root.children) empty ∙ owns_elsewhere [] root.children [] (λ rest same. absurd cc))
@@ -242,23 +244,23 @@ empty_end file root path other empty =
 -- The end at the path of the root that was read.
 pub root_end : (file : List ℕ) (root : Root FileNode) (children : List Children) (ends path : List ℕ) →
     IsNodeIndex file root children ends → IsTree AreProperties (tree_without_places root) → bytes_eq path (47 ∷ []) ≡ true → (end : ℕ) →
-    end ≡ get_or ends 0 end → end ≡ end_at file root path
+    end ≡ get_or ends 0 end → end ≡ path_end file root path
 unfolding at_root
 root_end file root children ends path index is same end is_end =
     let at = at_root file root children ends (47 ∷ []) index is (λ empty. absurd cc) in
     let there = end_there file root children ends (47 ∷ []) 0 (47 ∷ []) at in
     let within = within_ends file root children ends (47 ∷ []) 0 (47 ∷ []) at in
     let is_path : path ≡ 47 ∷ [] = (bytes_eq-Decides path (47 ∷ [])).0 same in
-    same_Some _ _ (sym (got_at ends 0 end within is_end) ∙ there) ∙ sym (end_root file root is) ∙ ap (end_at file root) (sym is_path)
+    same_Some _ _ (sym (got_at ends 0 end within is_end) ∙ there) ∙ sym (end_root file root is) ∙ ap (path_end file root) (sym is_path)
 
 -- The end at another path that was read.
 pub found_end : (file : List ℕ) (root : Root FileNode) (children : List Children) (ends path : List ℕ) (number : ℕ) (rest : List ℕ) →
     IsAtNode file root children ends path number rest → rest ≡ [] → bytes_eq path (47 ∷ []) ≡ false → (end : ℕ) →
-    end ≡ get_or ends number end → end ≡ end_at file root path
+    end ≡ get_or ends number end → end ≡ path_end file root path
 found_end file root children ends path number rest at none_left other end is_end =
     let there = end_there file root children ends path number rest at in
     let within = within_ends file root children ends path number rest at in
-    let whole : end_at file root path ≡ max (names_end file at.sibling.own) 0 =
+    let whole : path_end file root path ≡ max (names_end file at.sibling.own) 0 =
     end_elsewhere file root path other
     ∙ ap (λ owns. greatest (map (names_end file) owns)) (at_end file root children ends path number rest at none_left) in
     let read : end ≡ names_end file at.sibling.own = same_Some _ _ (sym (got_at ends number end within is_end) ∙ there) in

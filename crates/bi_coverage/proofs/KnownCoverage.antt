@@ -1,4 +1,4 @@
-use Rattle.std.proofs.Common.{rules}
+use Rattle.std.proofs.Common.{refl}
 use Rattle.bi_base.specs.Cells.{cell, u32_at}
 use Rattle.bi_fit.proofs.BuildFacts.{entries_in_order}
 use Rattle.bi_fit.proofs.JudgementFacts.{find-properties}
@@ -9,13 +9,14 @@ use Rattle.bi_coverage.specs.KnownCoverage.{CoverageIsKnown}
 pub coverage_known : CoverageIsKnown
 unfolding cell u32_at
 coverage_known = record {
-  covered = simp (find-properties, entries_in_order);
-  uncovered = simp (find-properties, entries_in_order);
-  foreign = simp (find-properties, entries_in_order);
+  covered = refl;
+  uncovered = refl;
+  foreign = refl;
+  enough_strings = refl;
+  short_strings = refl;
+  other_strings = refl;
   all_uncovered = simp (find-properties, entries_in_order);
-  short_strings = simp (find-properties, entries_in_order);
-  own_strings = simp (find-properties, entries_in_order);
   no_list = simp (find-properties, entries_in_order);
-  unsigned = simp (find-properties, entries_in_order);
+  unsigned = simp (find-properties);
   needed = simp (find-properties, entries_in_order);
 }

@@ -1,31 +1,31 @@
-use Rattle.std.proofs.Common.{◌≡◌, ℕ, ◌+◌, suc, List, [], ◌∷◌, ◌++◌, Bool, true, false, not, ◌==◌, length, map, filter, Option, Some, None, Bor, slice_get, bytes_eq}
-use Rattle.std.proofs.Common.{refl, sym, ap, subst, ◌∙◌, arith, append-nil, option_and_then}
+use Rattle.std.proofs.Common.{◌≡◌, ℕ, ◌+◌, suc, List, [], ◌∷◌, ◌++◌, Bool, true, false, not, ◌==◌, length, map, filter, Option, Some, None}
+use Rattle.std.proofs.Common.{Bor, slice_get, bytes_eq}
+use Rattle.std.proofs.Common.{refl, sym, ap, ◌∙◌, arith, append-nil, option_and_then}
 use Rattle.std.specs.Prelude.{◌&&◌}
 use Rattle.std.specs.List.{AllZip}
 use Rattle.std.specs.Option.{option_map, is_some}
 use Rattle.std.proofs.lemmas.Bool.Decides.{nat_tests}
-use Rattle.std.proofs.lemmas.List.{map-append}
 use Rattle.std.proofs.lemmas.Option.{same_Some}
 use Rattle.bi_blob.specs.Layout.{is_among}
 use Rattle.bi_blob.specs.Lookups.{Sibling, siblings, node_named, value_named}
 use Rattle.bi_blob.specs.Tree.{Nodes, none, node, FileNode, PropertyMap, names, properties_of}
 use Rattle.bi_fit.specs.Content.{FitModel, ImageModel, IsHeld, IsReadImage, tree_of, index_from, index_of}
 use Rattle.bi_fit.specs.HashNodes.{file_images}
-use Rattle.bi_fit.specs.ImageTree.{children_of, nodes_or_none, without_payloads, image_nodes}
+use Rattle.bi_fit.specs.ImageTree.{children_of, nodes_or_none, without_payloads}
 use Rattle.bi_fit.specs.Names.{is_hash_name, is_signature_name, value_name}
 use Rattle.bi_fit.specs.NormalNodes.{nodes_by_name}
-use Rattle.bi_fit.proofs.FileNodes.{get-by_name, names-by_name, image_nodes_named, siblings-by_name}
+use Rattle.bi_fit.proofs.FileNodes.{get-by_name, names-by_name, image_nodes_named}
 use Rattle.bi_fdt.specs.Content.{root_of}
 use Rattle.bi_coverage.specs.IndexedFits.{covered_by_images}
 use Rattle.bi_coverage.specs.Signatures.{has_bytes, images_in, is_signed, covered_names, covered_below, cipher_name}
-use Rattle.bi_coverage.specs.Signatures.{hashed_nodes_name, list_of_names, recorded_paths}
-use Rattle.bi_coverage.specs.Values.{meaning_of}
+use Rattle.bi_coverage.specs.Signatures.{hashed_nodes_name, names_of_value, recorded_paths}
+use Rattle.bi_coverage.specs.Values.{meaning_of_sibling}
 
 -- What is read from the nodes of a file follows from what the file means.
 
 -- Whether a node is signed.
 pub signed_is : (sibling : Sibling FileNode) (value : Option (List ℕ)) → value ≡ value_named (properties_of sibling.own) value_name →
-    (is_signature_name sibling.name && has_bytes value) ≡ is_signed (meaning_of sibling)
+    (is_signature_name sibling.name && has_bytes value) ≡ is_signed (meaning_of_sibling sibling)
 signed_is sibling value is =
     ap (λ value. is_signature_name sibling.name && has_bytes value) (is ∙ sym (get-by_name (properties_of sibling.own) value_name))
 
@@ -153,25 +153,25 @@ covered_nothing content held name none_there =
     by (Some sibling) is lost = absurd cc
 
 -- A list that takes the things of another one by one has all of them in the end.
-pub gathered : {X Y : Type 0} (done initial : List Y) (f : List X → List Y) (left all : List X) →
+pub gathered_all : {X Y : Type 0} (done initial : List Y) (f : List X → List Y) (left all : List X) →
     done ++ f left ≡ initial ++ f all → left ≡ [] → f [] ≡ [] → initial ≡ [] → done ≡ f all
-gathered done initial f left all so_far nothing of_nothing empty =
+gathered_all done initial f left all so_far nothing of_nothing empty =
     sym (append-nil done) ∙ ap (λ l. done ++ l) (sym of_nothing) ∙ ap (λ l. done ++ f l) (sym nothing) ∙ so_far ∙ ap (λ l. l ++ f all) empty
 
 -- The list that a signature node records.
 pub recorded_some : (sibling : Sibling FileNode) (found : Option (Bor (List ℕ))) (value : Bor (List ℕ)) →
     option_map (λ value. value.now) found ≡ value_named (properties_of sibling.own) hashed_nodes_name → found ≡ Some value →
-    list_of_names value.now ≡ recorded_paths (meaning_of sibling)
+    names_of_value value.now ≡ recorded_paths (meaning_of_sibling sibling)
 recorded_some sibling found value is there =
-    ap (λ (found : Option (Bor (List ℕ))). option_and_then list_of_names (option_map (λ value. value.now) found)) (sym there)
-    ∙ ap (option_and_then list_of_names) (is ∙ sym (get-by_name (properties_of sibling.own) hashed_nodes_name))
+    ap (λ (found : Option (Bor (List ℕ))). option_and_then names_of_value (option_map (λ value. value.now) found)) (sym there)
+    ∙ ap (option_and_then names_of_value) (is ∙ sym (get-by_name (properties_of sibling.own) hashed_nodes_name))
 
 pub recorded_none : (sibling : Sibling FileNode) (found : Option (Bor (List ℕ))) →
     option_map (λ value. value.now) found ≡ value_named (properties_of sibling.own) hashed_nodes_name → found ≡ None →
-    None ≡ recorded_paths (meaning_of sibling)
+    None ≡ recorded_paths (meaning_of_sibling sibling)
 recorded_none sibling found is there =
-    ap (λ (found : Option (Bor (List ℕ))). option_and_then list_of_names (option_map (λ value. value.now) found)) (sym there)
-    ∙ ap (option_and_then list_of_names) (is ∙ sym (get-by_name (properties_of sibling.own) hashed_nodes_name))
+    ap (λ (found : Option (Bor (List ℕ))). option_and_then names_of_value (option_map (λ value. value.now) found)) (sym there)
+    ∙ ap (option_and_then names_of_value) (is ∙ sym (get-by_name (properties_of sibling.own) hashed_nodes_name))
 
 -- Whether something is there does not change by a function.
 mapped_some : {X Y : Type 0} (f : X → Y) (found : Option X) → is_some (option_map f found) ≡ is_some found

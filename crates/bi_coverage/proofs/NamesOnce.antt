@@ -1,9 +1,9 @@
-use Rattle.std.proofs.Common.{◌≡◌, ℕ, List, [], ◌∷◌, ◌++◌, Bool, true, false, ◌<◌, ◌+◌, length, map, flat_map, take, get_or, bytes_eq, append-nil, refl, sym, ap, subst, ◌∙◌, rules}
+use Rattle.std.proofs.Common.{◌≡◌, ℕ, List, [], ◌∷◌, ◌++◌, Bool, true, false, ◌<◌, ◌+◌, length, map, flat_map, take, get_or, bytes_eq}
+use Rattle.std.proofs.Common.{append-nil, refl, sym, ap, subst, ◌∙◌}
 use Rattle.std.specs.Prelude.{◌||◌}
-use Rattle.std.specs.List.{list_any}
 use Rattle.std.proofs.lemmas.List.{map-append, take_more}
 use Rattle.std.proofs.lemmas.List.Concat.{flat_map-append}
-use Rattle.std.proofs.lemmas.List.Folds.{list_any-append, flat_map-map}
+use Rattle.std.proofs.lemmas.List.Folds.{list_any-append}
 use Rattle.std.proofs.lemmas.Slice.Eq.{bytes_eq-Decides}
 use Rattle.bi_blob.specs.Layout.{is_among}
 use Rattle.bi_coverage.specs.Paths.{with_new, with_all_new, each_once}
@@ -38,7 +38,9 @@ among_new held name path = by (is_among name held) (bytes_eq name path) refl ref
 
     by : (a b : Bool) → is_among name held ≡ a → bytes_eq name path ≡ b →
         is_among path (with_new held name) ≡ (is_among path held || bytes_eq name path)
-    by false b is same = rw is (list_any-append (λ other. bytes_eq other path) held (name ∷ []) ∙ ap (λ c. is_among path held || c) (or_false (bytes_eq name path)))
+    by false b is same =
+        rw is (list_any-append (λ other. bytes_eq other path) held (name ∷ [])
+        ∙ ap (λ c. is_among path held || c) (or_false (bytes_eq name path)))
     by true true is same =
         let there : is_among path held ≡ true = subst (λ name. is_among name held ≡ true) ((bytes_eq-Decides name path).0 same) is in
         rw (is, same) (there ∙ sym (or_true (is_among path held)))

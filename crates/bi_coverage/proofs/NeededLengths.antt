@@ -1,20 +1,21 @@
-use Rattle.std.proofs.Common.{◌≡◌, ◌<◌, ℕ, zero, suc, ◌+◌, ◌-◌, ◌*◌, List, [], ◌∷◌, ◌++◌, Bor, map, length, drop, get_or, refl, sym, ap, ◌∙◌}
+use Rattle.std.proofs.Common.{◌≡◌, ◌<◌, ℕ, zero, suc, ◌+◌, ◌-◌, ◌*◌, List, [], ◌∷◌, ◌++◌, Bor, map, length, drop, get_or, sym, ap}
+use Rattle.std.proofs.Common.{◌∙◌}
 use Rattle.std.proofs.Common.{arith, length-append, append-nil}
 use Rattle.std.proofs.Math.Nat.{suc-mul, zero-mul}
 use Rattle.std.proofs.lemmas.List.{drop_more}
 use Rattle.bi_base.specs.Slices.{bytes_of}
 use Rattle.bi_fit.specs.Names.{images_name, configurations_name}
 use Rattle.bi_fit.specs.ImageTree.{ImageTree}
-use Rattle.bi_coverage.specs.Numbers.{total}
+use Rattle.bi_coverage.specs.Numbers.{sum_of}
 use Rattle.bi_coverage.specs.Paths.{path_text}
 use Rattle.bi_coverage.specs.Signatures.{NeededPart, total_length, image_part, paths_of_part, paths_of_parts, parts_for, covered_below}
 
 -- The lengths of paths.
 
 -- The sum of the numbers of two lists.
-pub total-append : (numbers later : List ℕ) → total (numbers ++ later) ≡ total numbers + total later
-total-append [] later = omega arith
-total-append (number ∷ numbers) later = omega (arith, total-append numbers later)
+pub sum_of-append : (numbers later : List ℕ) → sum_of (numbers ++ later) ≡ sum_of numbers + sum_of later
+sum_of-append [] later = omega arith
+sum_of-append (number ∷ numbers) later = omega (arith, sum_of-append numbers later)
 
 -- The lengths of the paths of two lists.
 pub total_length-append : (paths later : List (List ℕ)) → total_length (paths ++ later) ≡ total_length paths + total_length later
@@ -77,20 +78,20 @@ times_less (suc left) length some =
     rw less (suc-mul left length)
 
 -- The sum of as many equal numbers as there are things.
-pub total_times : {X : Type 0} (number : ℕ) (things : List X) → total (map (λ thing. number) things) ≡ length things * number
-total_times number [] = sym (zero-mul number)
-total_times number (thing ∷ later) =
+pub sum_of_times : {X : Type 0} (number : ℕ) (things : List X) → sum_of (map (λ thing. number) things) ≡ length things * number
+sum_of_times number [] = sym (zero-mul number)
+sum_of_times number (thing ∷ later) =
     let more : suc (length later) * number ≡ length later * number + number = suc-mul (length later) number in
-    omega (arith, more, total_times number later)
+    omega (arith, more, sum_of_times number later)
 
 module _ (tree : ImageTree) where
   -- The part of a reference.
-  abbrev pub part_of : List ℕ → NeededPart
-  part_of image = image_part image (covered_below tree image)
+  abbrev pub needed_part_of : List ℕ → NeededPart
+  needed_part_of image = image_part image (covered_below tree image)
 
   -- How long the paths of references are.
   abbrev pub references_length : List (List ℕ) → ℕ
-  references_length references = total_length (paths_of_parts (map part_of references))
+  references_length references = total_length (paths_of_parts (map needed_part_of references))
 
   -- The root, the configuration, and the references.
   pub parts_length : (name : List ℕ) (references : List (List ℕ)) →
@@ -105,10 +106,10 @@ module _ (tree : ImageTree) where
         + references_length (bytes_of (drop (index + 1) references))
     next_length =
         ap references_length (first_dropped references index default within)
-        ∙ total_length-append (paths_of_part (part_of (get_or references index default).now))
-        (paths_of_parts (map part_of (bytes_of (drop (index + 1) references))))
+        ∙ total_length-append (paths_of_part (needed_part_of (get_or references index default).now))
+        (paths_of_parts (map needed_part_of (bytes_of (drop (index + 1) references))))
         ∙ ap (λ children. total_length (paths_of_part (image_part (get_or references index default).now children))
-            + references_length (bytes_of (drop (index + 1) references))) (sym are)
+        + references_length (bytes_of (drop (index + 1) references))) (sym are)
 
     -- The length of one more reference is added.
     pub reference_added : (sum : ℕ) →

@@ -1,6 +1,5 @@
-use Rattle.std.proofs.Common.{◌≡◌, ◌≢◌, ℕ, List, [], ◌∷◌, ◌++◌, Bool, true, false, cond, map, filter, flat_map, Option, Some, None}
-use Rattle.std.proofs.Common.{bytes_eq, refl, sym, ap, subst, ◌∙◌, append_assoc, append-nil, rules, if◌then◌else◌, ◌&&◌, nat_eq, arith}
-use borrow.Author.Tests.{tests}
+use Rattle.std.proofs.Common.{◌≡◌, ◌≢◌, ℕ, List, [], ◌∷◌, ◌++◌, Bool, true, false, map, filter, flat_map, Option, Some, None}
+use Rattle.std.proofs.Common.{bytes_eq, refl, sym, ap, subst, ◌∙◌, append_assoc, append-nil, if◌then◌else◌, ◌&&◌, nat_eq, arith}
 use Rattle.std.specs.List.{AllByRecursion}
 use Rattle.std.proofs.lemmas.Bool.{false≢true}
 use Rattle.std.proofs.lemmas.Bool.Decides.{nat_tests}
@@ -9,36 +8,37 @@ use Rattle.std.proofs.lemmas.List.Concat.{flat_map-append}
 use Rattle.std.proofs.lemmas.List.Elements.{filter-append}
 use Rattle.std.proofs.lemmas.Slice.Eq.{bytes_eq-Decides}
 use Rattle.bi_blob.specs.Tree.{Nodes, none, node, AreNodes, IsNew, names}
-use Rattle.bi_blob.specs.Lookups.{Sibling, siblings, node_named}
+use Rattle.bi_blob.specs.Lookups.{Sibling, node_named}
 use Rattle.bi_coverage.specs.PathParts.{IsRestOfPath}
 use Rattle.bi_coverage.specs.Paths.{LocatedNode, path_text, nodes_below}
 
 -- A path has the node that is found name by name.
 
 -- The bytes of names, each after a slash.
-abbrev pub joined : List (List ℕ) → List ℕ
-joined names = flat_map (λ name. 47 ∷ name) names
+abbrev pub joined_path : List (List ℕ) → List ℕ
+joined_path names = flat_map (λ name. 47 ∷ name) names
 
 -- The path of a child.
-path_text-child : (parent : List (List ℕ)) (name : List ℕ) → path_text (parent ++ name ∷ []) ≡ joined parent ++ 47 ∷ name
+path_text-child : (parent : List (List ℕ)) (name : List ℕ) → path_text (parent ++ name ∷ []) ≡ joined_path parent ++ 47 ∷ name
 path_text-child [] name = ap (λ l. 47 ∷ l) (append-nil name)
 path_text-child (first ∷ later) name =
     flat_map-append (λ (name : List ℕ). 47 ∷ name) (first ∷ later) (name ∷ [])
-    ∙ ap (λ l. joined (first ∷ later) ++ 47 ∷ l) (append-nil name)
+    ∙ ap (λ l. joined_path (first ∷ later) ++ 47 ∷ l) (append-nil name)
 
 -- Two paths begin with the same name.
-pub same_name : (name other later rest : List ℕ) → AllByRecursion (λ byte. byte ≢ 47) name → AllByRecursion (λ byte. byte ≢ 47) other → IsRestOfPath later → IsRestOfPath rest →
+pub same_first_name : (name other later rest : List ℕ) → AllByRecursion (λ byte. byte ≢ 47) name →
+    AllByRecursion (λ byte. byte ≢ 47) other → IsRestOfPath later → IsRestOfPath rest →
     name ++ later ≡ other ++ rest → (name ≡ other) × (later ≡ rest)
-same_name [] [] later rest plain other_plain is_later is_rest same = (refl, same)
-same_name [] (byte ∷ other) [] rest plain other_plain is_later is_rest same = absurd cc
-same_name [] (byte ∷ other) (first ∷ later) rest plain other_plain is_later is_rest same =
+same_first_name [] [] later rest plain other_plain is_later is_rest same = (refl, same)
+same_first_name [] (byte ∷ other) [] rest plain other_plain is_later is_rest same = absurd cc
+same_first_name [] (byte ∷ other) (first ∷ later) rest plain other_plain is_later is_rest same =
     let e : first ≡ byte = cc in absurd (other_plain.0 (sym e ∙ is_later))
-same_name (byte ∷ name) [] later [] plain other_plain is_later is_rest same = absurd cc
-same_name (byte ∷ name) [] later (first ∷ rest) plain other_plain is_later is_rest same =
+same_first_name (byte ∷ name) [] later [] plain other_plain is_later is_rest same = absurd cc
+same_first_name (byte ∷ name) [] later (first ∷ rest) plain other_plain is_later is_rest same =
     let e : byte ≡ first = cc in absurd (plain.0 (e ∙ is_rest))
-same_name (byte ∷ name) (other_byte ∷ other) later rest plain other_plain is_later is_rest same =
+same_first_name (byte ∷ name) (other_byte ∷ other) later rest plain other_plain is_later is_rest same =
     let first : byte ≡ other_byte = cc in
-    let below = same_name name other later rest plain.1 other_plain.1 is_later is_rest cc in
+    let below = same_first_name name other later rest plain.1 other_plain.1 is_later is_rest cc in
     (cc (first, below.0), below.1)
 
 -- The same bytes before two paths make no difference.
@@ -60,7 +60,7 @@ module _ {Own : Type 0} where
   -- It is what the located nodes with this path have.
   pub owns_located : (parent : List (List ℕ)) (nodes : Nodes Own) (path : List ℕ) →
       map (λ located. located.own) (filter (λ located. bytes_eq path (path_text located.names)) (nodes_below parent nodes))
-      ≡ owns_with (joined parent) nodes path
+      ≡ owns_with (joined_path parent) nodes path
   owns_located parent none path = refl
   owns_located parent (node name own children later) path =
       by (bytes_eq path (path_text (parent ++ name ∷ []))) refl
@@ -75,29 +75,30 @@ module _ {Own : Type 0} where
       below : List (LocatedNode Own)
       below = nodes_below (parent ++ name ∷ []) children
 
-      joined_child : joined (parent ++ name ∷ []) ≡ joined parent ++ 47 ∷ name
+      joined_child : joined_path (parent ++ name ∷ []) ≡ joined_path parent ++ 47 ∷ name
       joined_child =
-          flat_map-append (λ (name : List ℕ). 47 ∷ name) parent (name ∷ []) ∙ ap (λ l. joined parent ++ 47 ∷ l) (append-nil name)
+          flat_map-append (λ (name : List ℕ). 47 ∷ name) parent (name ∷ []) ∙ ap (λ l. joined_path parent ++ 47 ∷ l) (append-nil name)
 
-      both : owns below ≡ owns_with (joined (parent ++ name ∷ [])) children path →
-          owns (nodes_below parent later) ≡ owns_with (joined parent) later path →
+      both : owns below ≡ owns_with (joined_path (parent ++ name ∷ [])) children path →
+          owns (nodes_below parent later) ≡ owns_with (joined_path parent) later path →
           owns (below ++ nodes_below parent later) ≡
-          owns_with (joined parent ++ 47 ∷ name) children path ++ owns_with (joined parent) later path
+          owns_with (joined_path parent ++ 47 ∷ name) children path ++ owns_with (joined_path parent) later path
       both inside after =
           ap (map (λ located. located.own)) (filter-append has below (nodes_below parent later))
           ∙ map-append (λ (located : LocatedNode Own). located.own) (filter has below) (filter has (nodes_below parent later))
           ∙ ap (λ l. l ++ owns (nodes_below parent later)) (inside ∙ ap (λ above. owns_with above children path) joined_child)
-          ∙ ap (λ l. owns_with (joined parent ++ 47 ∷ name) children path ++ l) after
+          ∙ ap (λ l. owns_with (joined_path parent ++ 47 ∷ name) children path ++ l) after
 
       by : (b : Bool) → bytes_eq path (path_text (parent ++ name ∷ [])) ≡ b →
-          owns below ≡ owns_with (joined (parent ++ name ∷ [])) children path →
-          owns (nodes_below parent later) ≡ owns_with (joined parent) later path →
-          owns (nodes_below parent (node name own children later)) ≡ owns_with (joined parent) (node name own children later) path
+          owns below ≡ owns_with (joined_path (parent ++ name ∷ [])) children path →
+          owns (nodes_below parent later) ≡ owns_with (joined_path parent) later path →
+          owns (nodes_below parent (node name own children later)) ≡ owns_with (joined_path parent) (node name own children later) path
       by true is inside after =
-          let here : bytes_eq path (joined parent ++ 47 ∷ name) ≡ true = ap (bytes_eq path) (sym (path_text-child parent name)) ∙ is in
+          let here : bytes_eq path (joined_path parent ++ 47 ∷ name) ≡ true = ap (bytes_eq path) (sym (path_text-child parent name)) ∙ is in
           rw (is, here) (ap (λ l. own ∷ l) (both inside after))
       by false is inside after =
-          let here : bytes_eq path (joined parent ++ 47 ∷ name) ≡ false = ap (bytes_eq path) (sym (path_text-child parent name)) ∙ is in
+          let here : bytes_eq path (joined_path parent ++ 47 ∷ name) ≡ false =
+          ap (bytes_eq path) (sym (path_text-child parent name)) ∙ is in
           rw (is, here) (both inside after)
 
   -- No node has a path that does not go on with a slash after that of its parent.
@@ -142,7 +143,8 @@ module _ {Own : Type 0} where
   owns_found (Some sibling) (byte ∷ later) = owns_with [] sibling.children (byte ∷ later)
 
   -- The node of a path is below the node that has its first name.
-  pub owns_by_name : (IsOwn : Own → Type 0) (nodes : Nodes Own) (name later : List ℕ) → AreNodes IsOwn nodes → AllByRecursion (λ byte. byte ≢ 47) name →
+  pub owns_by_name : (IsOwn : Own → Type 0) (nodes : Nodes Own) (name later : List ℕ) → AreNodes IsOwn nodes →
+      AllByRecursion (λ byte. byte ≢ 47) name →
       IsRestOfPath later → owns_with [] nodes (47 ∷ (name ++ later)) ≡ owns_found (node_named nodes name) later
   owns_by_name IsOwn none name later are plain is_rest = refl
   owns_by_name IsOwn (node first own children others) name later are plain is_rest =
@@ -155,7 +157,7 @@ module _ {Own : Type 0} where
       elsewhere : bytes_eq first name ≡ false → (rest : List ℕ) → IsRestOfPath rest → path ≡ 47 ∷ (first ++ rest) → ⊥
       elsewhere differ rest rest_is same =
           let e : name ++ later ≡ first ++ rest = cc in
-          let names = same_name name first later rest plain are.0.is_name.no_slash is_rest rest_is e in
+          let names = same_first_name name first later rest plain are.0.is_name.no_slash is_rest rest_is e in
           false≢true (sym differ ∙ (bytes_eq-Decides first name).1 (sym names.0))
 
       -- Below the node of the name is what has the rest of the path.
@@ -170,7 +172,7 @@ module _ {Own : Type 0} where
           let below : owns_with (47 ∷ first) children (47 ∷ (name ++ [])) ≡ [] =
           owns_elsewhere (47 ∷ first) children (47 ∷ (name ++ []))
           (λ rest e. let after : name ++ [] ≡ first ++ 47 ∷ rest = cc in
-              let parts = same_name name first [] (47 ∷ rest) plain are.0.is_name.no_slash tt refl after in absurd (cc parts.1)) in
+          let parts = same_first_name name first [] (47 ∷ rest) plain are.0.is_name.no_slash tt refl after in absurd (cc parts.1)) in
           rw (here, below) refl
       at_name (byte ∷ rest) rest_is is =
           let same : first ≡ name = (bytes_eq-Decides first name).0 is in
@@ -188,7 +190,7 @@ module _ {Own : Type 0} where
           not_here true is =
               let e : 47 ∷ (name ++ byte ∷ rest) ≡ 47 ∷ first = (bytes_eq-Decides (47 ∷ (name ++ byte ∷ rest)) (47 ∷ first)).0 is in
               let after : name ++ byte ∷ rest ≡ first ++ [] = (cc e) ∙ sym (append-nil first) in
-              let parts = same_name name first (byte ∷ rest) [] plain are.0.is_name.no_slash rest_is tt after in
+              let parts = same_first_name name first (byte ∷ rest) [] plain are.0.is_name.no_slash rest_is tt after in
               absurd (cc parts.1)
 
       by : (b : Bool) → bytes_eq first name ≡ b → owns_with [] others path ≡ owns_found (node_named others name) later →

@@ -1,4 +1,5 @@
-use Rattle.std.proofs.Common.{◌≡◌, ◌≢◌, ℕ, ◌≤◌, ◌==◌, length, List, [], ◌∷◌, ◌++◌, Bool, true, false, take, drop, refl, sym, ap, ◌∙◌, one-add, arith}
+use Rattle.std.proofs.Common.{◌≡◌, ◌≢◌, ℕ, ◌≤◌, ◌==◌, length, List, [], ◌∷◌, Bool, true, false, take, drop, refl, sym, ap, ◌∙◌}
+use Rattle.std.proofs.Common.{one-add, arith}
 use Rattle.std.proofs.lemmas.List.{take-append-drop}
 use Rattle.std.specs.List.{AllByRecursion, position_or_len}
 use Rattle.std.proofs.lemmas.Bool.{eqb-true, eqb-false}
@@ -36,9 +37,9 @@ slash_within (byte ∷ later) = by (is_slash byte) refl (slash_within later)
     by false is rest = rw is (omega (arith, rest))
 
 -- So a path begins with the name before it.
-pub begins_with_node : (path names name later : List ℕ) (first index : ℕ) → path ≡ first ∷ names → first ≡ 47 →
+pub path_begins_with_node : (path names name later : List ℕ) (first index : ℕ) → path ≡ first ∷ names → first ≡ 47 →
     index ≡ position_or_len is_slash names → name ≡ take index names → later ≡ drop index names → BeginsWithNode path name later
-begins_with_node path names name later first index is slash at is_name is_later =
+path_begins_with_node path names name later first index is slash at is_name is_later =
     rw (is_name, is_later, at) (record {
       is = is ∙ ap (λ byte. byte ∷ names) slash ∙ ap (λ l. 47 ∷ l) (sym (take-append-drop (position_or_len is_slash names) names));
       no_slash = (cut_at names).0;

@@ -10,10 +10,10 @@ use Rattle.bi_blob.specs.Tree.{FileNode}
 -- The numbers of the children of nodes.
 
 -- The index of the first of these nodes with a name, if the first of them has this index.
-abbrev pub number_from : (index : ℕ) → (name : List ℕ) → List (Sibling FileNode) → Option ℕ
-number_from index name [] = None
-number_from index name (sibling ∷ later) =
-    if bytes_eq sibling.name name then Some index else number_from (index + 1) name later
+abbrev pub first_index : (index : ℕ) → (name : List ℕ) → List (Sibling FileNode) → Option ℕ
+first_index index name [] = None
+first_index index name (sibling ∷ later) =
+    if bytes_eq sibling.name name then Some index else first_index (index + 1) name later
 
 -- The number of each child of a node, by its name.
 abbrev pub Children : Type 0
@@ -26,4 +26,4 @@ child_number children name = get_by (λ other. slice_cmp nat_cmp name other.now)
 -- These are the numbers of nodes by their names, if the first of them has this number.
 pub record HasNumbersFrom (index : ℕ) (nodes : List (Sibling FileNode)) (children : Children)
     : Type 0 where
-  pub each : (name : List ℕ) → child_number children name ≡ number_from index name nodes
+  pub each : (name : List ℕ) → child_number children name ≡ first_index index name nodes

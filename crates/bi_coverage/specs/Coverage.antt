@@ -1,5 +1,6 @@
-use Rattle.std.specs.Prelude.{ℕ, ◌+◌, ◌==◌, Bool, false, not, ◌&&◌, List, [], ◌∷◌, ◌++◌, length, map}
-use Rattle.std.specs.Prelude.{filter, flat_map, Option, None, Some, codes, nat_le, if◌then◌else◌}
+use Rattle.std.specs.Prelude.{ℕ, ◌+◌, ◌==◌, Bool, false, not, ◌&&◌, List, [], ◌∷◌, ◌++◌, length}
+use Rattle.std.specs.Prelude.{map}
+use Rattle.std.specs.Prelude.{filter, Option, None, Some, codes, nat_le, if◌then◌else◌}
 use Rattle.std.specs.FinMap.{get}
 use Rattle.std.specs.List.{list_all}
 use Rattle.bi_base.specs.Cells.{u32_at}
@@ -12,7 +13,7 @@ use Rattle.bi_fit.specs.ImageTree.{ImageTree}
 use Rattle.bi_fit.specs.Judgement.{configuration_nodes}
 use Rattle.bi_fit.specs.Names.{is_payload_name}
 use Rattle.bi_coverage.specs.Numbers.{greatest}
-use Rattle.bi_coverage.specs.Paths.{LocatedNode, path_text, all_nodes, each_once}
+use Rattle.bi_coverage.specs.Paths.{path_text, all_nodes, each_once}
 use Rattle.bi_coverage.specs.Signatures.{NeededPart, paths_of_part, paths_of_parts, needed_parts}
 use Rattle.bi_coverage.specs.Signatures.{recorded_paths, references, signed_nodes}
 
@@ -39,9 +40,9 @@ abbrev pub is_covered : (recorded : List (List ℕ)) → NeededPart → Bool
 is_covered recorded part = list_all (λ path. is_among path recorded) (paths_of_part part)
 
 -- The concern that a configuration has no reference.
-abbrev pub image_concerns : (references : List (List ℕ)) → List SignatureConcern
-image_concerns [] = NoImages ∷ []
-image_concerns (first ∷ later) = []
+abbrev pub reference_concerns : (references : List (List ℕ)) → List SignatureConcern
+reference_concerns [] = NoImages ∷ []
+reference_concerns (first ∷ later) = []
 
 -- The concerns about the needed parts that are not covered.
 abbrev pub uncovered_concerns : (recorded : List (List ℕ)) → List NeededPart
@@ -59,7 +60,7 @@ abbrev pub concerns_of_paths : (references : List (List ℕ)) → List NeededPar
     → Option (List (List ℕ)) → List SignatureConcern
 concerns_of_paths references parts None = NoNodes ∷ []
 concerns_of_paths references parts (Some recorded) =
-    image_concerns references
+    reference_concerns references
     ++ (uncovered_concerns recorded parts
     ++ map Foreign (foreign_paths (each_once recorded) (paths_of_parts parts)))
 
@@ -73,8 +74,8 @@ path_concerns tree configuration signature =
 
 -- ---- the strings block
 
--- The property of a signature node that has the offset and the size of the part of the strings block
--- that was hashed.
+-- The property of a signature node that has the offset and the size of the part of the strings
+-- block that was hashed.
 abbrev pub hashed_strings_name : List ℕ
 hashed_strings_name = codes "hashed-strings"
 

@@ -1,17 +1,20 @@
-use Rattle.std.specs.Prelude.{◌≡◌, ℕ, List, [], ◌∷◌, ◌++◌, length, map, flat_map, codes, Option}
+use Rattle.std.specs.Prelude.{◌≡◌, ℕ, List, [], ◌∷◌, ◌++◌, length, map, flat_map, codes}
 use Rattle.std.specs.Prelude.{None, Some}
 use Rattle.bi_base.specs.Cells.{cell}
-use Rattle.bi_blob.specs.Tree.{Nodes, none, node, Root, Property}
+use Rattle.bi_blob.specs.Tree.{Nodes, none, node, FileNode, Root, Property}
 use Rattle.bi_blob.specs.Events.{file_events_of}
 use Rattle.bi_blob.specs.Layout.{text_of_tree, tree_with_places}
 use Rattle.bi_fdt.specs.TableItems.{items_of}
 use Rattle.bi_fit.specs.declared.image.Place.TheVariants as place
 use Rattle.bi_fit.specs.Content.{FitModel, tree_of}
-use Rattle.bi_fit.specs.Names.{images_name, configurations_name, value_name, data_size_name}
-use Rattle.bi_coverage.specs.Coverage.{ConfigurationCoverage, SignatureConcern, NoNodes, NoImages}
+use Rattle.bi_fit.specs.Names.{images_name, configurations_name, value_name, data_name}
+use Rattle.bi_fit.specs.Names.{data_size_name}
+use Rattle.bi_coverage.specs.Coverage.{ConfigurationCoverage, SignatureConcern, NoNodes}
 use Rattle.bi_coverage.specs.Coverage.{Uncovered, Foreign, Strings, coverage_of}
-use Rattle.bi_coverage.specs.Coverage.{hashed_strings_name}
-use Rattle.bi_coverage.specs.Signatures.{hashed_nodes_name, all_needed_length}
+use Rattle.bi_coverage.specs.Coverage.{concerns_of_paths, concerns_of_strings, hashed_strings_name}
+use Rattle.bi_coverage.specs.Signatures.{NeededPart, all_needed_length, covered_names}
+use Rattle.bi_coverage.specs.Signatures.{hashed_nodes_name}
+use Rattle.bi_coverage.specs.Signatures.{image_part, single_part}
 
 -- A small file whose configuration is signed, with what its signature covers, by which a reader can
 -- judge the definitions.
@@ -21,8 +24,8 @@ abbrev pub list_value : List (List ℕ) → List ℕ
 list_value names = flat_map (λ name. name ++ 0 ∷ []) names
 
 -- An image node with a hash node.
-abbrev pub hashed_image : (name : List ℕ) → (later : Nodes (List Property)) → Nodes (List Property)
-hashed_image name later = node name [] (node (codes "hash-1") [] none none) later
+abbrev pub hash_image : (name : List ℕ) → (later : Nodes (List Property)) → Nodes (List Property)
+hash_image name later = node name [] (node (codes "hash-1") [] none none) later
 
 -- The properties of the configuration: it names three images. Its other properties name none.
 abbrev pub configuration_properties : List Property
@@ -35,13 +38,13 @@ configuration_properties =
     ∷ []
 
 -- A tree with four images, and a configuration with this signature node.
-abbrev pub signed_tree : (signature : List Property) → Root (List Property)
-signed_tree signature = record {
+abbrev pub coverage_tree : (signature : List Property) → Root (List Property)
+coverage_tree signature = record {
   own = [];
   children = node images_name []
-      (hashed_image (codes "kernel-1")
+      (hash_image (codes "kernel-1")
       (node (codes "fdt-1") [] (node (codes "cipher") [] none (node (codes "hash-1") [] none none))
-      (hashed_image (codes "ramdisk-1") (hashed_image (codes "other-1") none))))
+      (hash_image (codes "ramdisk-1") (hash_image (codes "other-1") none))))
       (node configurations_name []
       (node (codes "conf-1") configuration_properties
       (node (codes "signature-1") signature none none) none)
@@ -49,8 +52,8 @@ signed_tree signature = record {
 }
 
 -- What a file with this tree holds.
-abbrev pub content_of : Root (List Property) → FitModel
-content_of root = record {
+abbrev pub signed_content : Root (List Property) → FitModel
+signed_content root = record {
   blob = record {
     file = text_of_tree 4 0 [] root;
     cpu = 0;
@@ -95,23 +98,64 @@ known_coverage concerns =
       signatures = record { name = codes "signature-1"; concerns = concerns } ∷ [];
     } ∷ []
 
--- The concerns about signatures. The names of the properties of recorded nodes end at 31 in the
--- strings block: `kernel`, `fdt`, `ramdisk` and `description`. The name `data-size` after them does
--- not count. The names of the signature node itself end later.
+-- What a signature of a configuration `c` needs that names one image, with a hash node and a child
+-- `cipher`.
+abbrev pub coverage_parts : List NeededPart
+coverage_parts =
+    single_part []
+    ∷ single_part (configurations_name ∷ codes "c" ∷ [])
+    ∷ image_part (codes "a")
+    (covered_names (codes "cipher" ∷ codes "other" ∷ codes "hash-1" ∷ []))
+    ∷ []
+
+-- The concerns about the paths that it records.
+abbrev pub concerns_about_paths : (recorded : List (List ℕ)) → List SignatureConcern
+concerns_about_paths recorded =
+    concerns_of_paths (codes "a" ∷ []) coverage_parts (Some recorded)
+
+-- All that it needs, but the last path.
+abbrev pub first_paths : List (List ℕ)
+first_paths =
+    codes "/images/a/hash-1" ∷ codes "/" ∷ codes "/images/a" ∷ codes "/configurations/c" ∷ []
+
+-- The tokens of two properties. The name of the first is at 5 in the strings block, and that of the
+-- second, which is `data`, is at 50.
+abbrev pub tokens_file : List ℕ
+tokens_file =
+    cell 3 ++ (cell 0 ++ (cell 5 ++ (cell 3 ++ (cell 0 ++ cell 50))))
+
+-- The root of that file: it has these properties.
+abbrev pub tokens_root : Root FileNode
+tokens_root = record {
+  own = record {
+    place = 0;
+    properties = record { name = codes "ab"; value = []; place = 0 }
+        ∷ record { name = data_name; value = []; place = 12 }
+        ∷ [];
+  };
+  children = none;
+}
+
+-- The concern about the strings of a signature that records these paths and reaches this end.
+abbrev pub concerns_about_strings : (recorded : List (List ℕ)) → (end : ℕ)
+    → List SignatureConcern
+concerns_about_strings recorded end =
+    concerns_of_strings tokens_file tokens_root (Some (cell 0 ++ cell end)) (Some recorded)
+
+-- The concerns about signatures. The name of the recorded property ends at 8 in the strings block.
+-- That of `data` does not count.
 pub record CoverageIsKnown : Type 0 where
-  pub covered : coverage_of (content_of (signed_tree (signature_of (last_path ∷ most_paths) 31)))
-      ≡ known_coverage []
-  pub uncovered : coverage_of (content_of (signed_tree (signature_of most_paths 31)))
-      ≡ known_coverage (Uncovered (codes "/images/ramdisk-1") ∷ [])
+  pub covered : concerns_about_paths (codes "/images/a/cipher" ∷ first_paths) ≡ []
+  pub uncovered : concerns_about_paths first_paths ≡ Uncovered (codes "/images/a") ∷ []
   pub foreign :
-      coverage_of
-      (content_of
-      (signed_tree
-      (signature_of
-      (codes "/images/x" ∷ last_path ∷ codes "/images/other-1" ∷ codes "/images/x" ∷ most_paths)
-      31)))
-      ≡ known_coverage (Foreign (codes "/images/x") ∷ Foreign (codes "/images/other-1") ∷ [])
-  pub all_uncovered : coverage_of (content_of (signed_tree (signature_of (last_path ∷ []) 0)))
+      concerns_about_paths
+      (codes "/images/x" ∷ codes "/images/a/cipher" ∷ codes "/x" ∷ codes "/images/x" ∷ first_paths)
+      ≡ Foreign (codes "/images/x") ∷ Foreign (codes "/x") ∷ []
+  pub enough_strings : concerns_about_strings (codes "/" ∷ []) 8 ≡ []
+  pub short_strings : concerns_about_strings (codes "/" ∷ []) 7 ≡ Strings ∷ []
+  pub other_strings : concerns_about_strings (codes "/x" ∷ []) 0 ≡ []
+  pub all_uncovered :
+      coverage_of (signed_content (coverage_tree (signature_of (last_path ∷ []) 0)))
       ≡ known_coverage
       (Uncovered (codes "/")
       ∷ Uncovered (codes "/configurations/conf-1")
@@ -119,24 +163,16 @@ pub record CoverageIsKnown : Type 0 where
       ∷ Uncovered (codes "/images/kernel-1")
       ∷ Uncovered (codes "/images/ramdisk-1")
       ∷ [])
-  pub short_strings :
-      coverage_of (content_of (signed_tree (signature_of (last_path ∷ most_paths) 30)))
-      ≡ known_coverage (Strings ∷ [])
-  pub own_strings :
-      coverage_of
-      (content_of
-      (signed_tree
-      (signature_of (codes "/configurations/conf-1/signature-1" ∷ last_path ∷ most_paths) 31)))
-      ≡ known_coverage (Foreign (codes "/configurations/conf-1/signature-1") ∷ Strings ∷ [])
   pub no_list :
       coverage_of
-      (content_of
-      (signed_tree ((value_name, cell 1) ∷ (hashed_nodes_name, codes "/") ∷ [])))
+      (signed_content
+      (coverage_tree ((value_name, cell 1) ∷ (hashed_nodes_name, codes "/") ∷ [])))
       ≡ known_coverage (NoNodes ∷ [])
   pub unsigned :
       coverage_of
-      (content_of
-      (signed_tree ((value_name, []) ∷ (hashed_nodes_name, list_value most_paths) ∷ [])))
+      (signed_content
+      (coverage_tree ((value_name, []) ∷ (hashed_nodes_name, list_value most_paths) ∷ [])))
       ≡ record { name = codes "conf-1"; signatures = [] } ∷ []
   pub needed :
-      all_needed_length (tree_of (content_of (signed_tree (signature_of most_paths 31)))) ≡ 156
+      all_needed_length (tree_of (signed_content (coverage_tree (signature_of most_paths 31))))
+      ≡ 156

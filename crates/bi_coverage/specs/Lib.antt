@@ -5,8 +5,8 @@ pub mod Coverage
 pub mod Values
 pub mod ChildNumbers
 pub mod PathParts
+pub mod NeededParts
 pub mod NodeIndices
 pub mod ReferenceOrders
 pub mod IndexedFits
-pub mod NeededPaths
 pub mod KnownCoverage

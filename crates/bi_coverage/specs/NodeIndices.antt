@@ -50,8 +50,8 @@ pub record IsIndexOf (blob : Blob) (children : List Children) (ends : List ℕ) 
   pub is_tree : IsTree AreProperties (tree_without_places (root_of blob))
 
 -- Where the last name of the properties of the nodes with this path ends.
-abbrev pub end_at : (file : List ℕ) → Root FileNode → (path : List ℕ) → ℕ
-end_at file root path =
+abbrev pub path_end : (file : List ℕ) → Root FileNode → (path : List ℕ) → ℕ
+path_end file root path =
     greatest
     (map (λ located. names_end file located.own)
     (filter (λ located. bytes_eq path (path_text located.names)) (all_nodes root)))

@@ -8,6 +8,6 @@ greatest [] = 0
 greatest (number ∷ later) = max number (greatest later)
 
 -- The sum of these numbers.
-abbrev pub total : List ℕ → ℕ
-total [] = 0
-total (number ∷ later) = number + total later
+abbrev pub sum_of : List ℕ → ℕ
+sum_of [] = 0
+sum_of (number ∷ later) = number + sum_of later

@@ -1,8 +1,8 @@
 use Rattle.std.specs.Prelude.{ℕ, Bool, true, false, ◌&&◌, List, [], ◌∷◌, ◌++◌, length, map}
 use Rattle.std.specs.Prelude.{filter, flat_map, Option, None, Some}
-use Rattle.std.specs.Prelude.{option_and_then, unwrap_or, codes, bytes_eq, nat_eq, if◌then◌else◌}
+use Rattle.std.specs.Prelude.{option_and_then, unwrap_or, codes, nat_eq, if◌then◌else◌}
 use Rattle.std.specs.FinMap.{get, entries}
-use Rattle.std.specs.List.{ends_with, list_any}
+use Rattle.std.specs.List.{ends_with}
 use Rattle.bi_blob.specs.Layout.{is_among}
 use Rattle.bi_blob.specs.Lookups.{Sibling, siblings}
 use Rattle.bi_blob.specs.Tree.{Nodes, Property, PropertyMap, names}
@@ -10,7 +10,7 @@ use Rattle.bi_fit.specs.ImageTree.{ImageTree, image_nodes, nodes_or_none, childr
 use Rattle.bi_fit.specs.Judgement.{configuration_nodes, listed_names}
 use Rattle.bi_fit.specs.Names.{images_name, configurations_name, value_name, default_name}
 use Rattle.bi_fit.specs.Names.{is_hash_name, is_signature_name}
-use Rattle.bi_coverage.specs.Numbers.{total}
+use Rattle.bi_coverage.specs.Numbers.{sum_of}
 use Rattle.bi_coverage.specs.Paths.{path_text, each_once}
 
 -- The signatures of configurations, and what they must cover (Flattened Image Tree Specification;
@@ -43,13 +43,13 @@ abbrev pub signed_nodes : Sibling PropertyMap → List (Sibling PropertyMap)
 signed_nodes configuration = filter is_signed (siblings configuration.children)
 
 -- The names that a value lists, if it is a list of names: its last byte is a zero.
-abbrev pub list_of_names : List ℕ → Option (List (List ℕ))
-list_of_names value =
+abbrev pub names_of_value : List ℕ → Option (List (List ℕ))
+names_of_value value =
     if ends_with nat_eq value (0 ∷ []) then Some (listed_names value) else None
 
 -- The paths that a signature node records, if its `hashed-nodes` is a list of names.
 abbrev pub recorded_paths : Sibling PropertyMap → Option (List (List ℕ))
-recorded_paths signature = option_and_then list_of_names (get signature.own hashed_nodes_name)
+recorded_paths signature = option_and_then names_of_value (get signature.own hashed_nodes_name)
 
 -- ---- references
 
@@ -58,13 +58,13 @@ abbrev pub other_names : List (List ℕ)
 other_names = codes "description" ∷ codes "compatible" ∷ default_name ∷ []
 
 -- The names that a property of a configuration lists. They may be names of images.
-abbrev pub names_in : Property → List (List ℕ)
-names_in property =
-    if is_among property.0 other_names then [] else unwrap_or (list_of_names property.1) []
+abbrev pub names_in_property : Property → List (List ℕ)
+names_in_property property =
+    if is_among property.0 other_names then [] else unwrap_or (names_of_value property.1) []
 
 -- The names that a configuration lists, in byte order of the names of its properties.
 abbrev pub names_of_configuration : Sibling PropertyMap → List (List ℕ)
-names_of_configuration configuration = flat_map names_in (entries configuration.own)
+names_of_configuration configuration = flat_map names_in_property (entries configuration.own)
 
 -- The image nodes of a tree.
 abbrev pub images_in : ImageTree → Nodes PropertyMap
@@ -137,7 +137,7 @@ needed_paths tree configuration = paths_of_parts (needed_parts tree configuratio
 
 -- How long some paths are together.
 abbrev pub total_length : List (List ℕ) → ℕ
-total_length paths = total (map length paths)
+total_length paths = sum_of (map length paths)
 
 -- How long the needed paths of each signed node of a configuration are.
 abbrev pub needed_lengths : ImageTree → Sibling PropertyMap → List ℕ
@@ -149,4 +149,4 @@ needed_lengths tree configuration =
 -- How long those of all signed nodes of all configurations are together.
 abbrev pub all_needed_length : ImageTree → ℕ
 all_needed_length tree =
-    total (flat_map (needed_lengths tree) (siblings (configuration_nodes tree)))
+    sum_of (flat_map (needed_lengths tree) (siblings (configuration_nodes tree)))

@@ -7,7 +7,7 @@ ghost use Rattle.bi_fdt.specs.Views.{node_of};
 ghost use Rattle.bi_fit.specs.Names.{is_hash_name};
 ghost use Rattle.bi_coverage.specs.IndexedFits.{covered_by_images};
 ghost use Rattle.bi_coverage.specs.Signatures.{covered_names};
-ghost use Rattle.bi_coverage.specs.Values.{name_lists};
+ghost use Rattle.bi_coverage.specs.Values.{names_in_lists};
 
 use bi_fdt::NodeRef;
 use bi_fit::Fit;
@@ -49,7 +49,7 @@ pub(crate) fn covered_by_image<'a>(
     alloc: Global,
     fit: &Fit<'a>,
 ) -> Result<Vec<Vec<&'a [u8]>>, AllocError>
-    ensures { IfOk result (λ found. name_lists found.items ≡ covered_by_images fit.now) }
+    ensures { IfOk result (λ found. names_in_lists found.items ≡ covered_by_images fit.now) }
 {
     let mut found = Vec::new(alloc);
     for image in fit.image_nodes() {

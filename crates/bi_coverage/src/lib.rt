@@ -19,5 +19,5 @@ mod references;
 mod signed;
 mod strings;
 
-pub use concern::{NeededPath, SignatureConcern};
+pub use concern::SignatureConcern;
 pub use reading::{ConfigurationCoverage, SignatureCoverage, read_coverage};

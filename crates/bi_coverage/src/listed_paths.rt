@@ -4,7 +4,7 @@ ghost use Rattle.std.specs.Prelude.{◌≡◌, IfOk};
 ghost use Rattle.bi_fit.specs.Judgement.{listed_names};
 ghost use Rattle.bi_coverage.specs.Coverage.{is_covered};
 ghost use Rattle.bi_coverage.specs.Paths.{each_once};
-ghost use Rattle.bi_coverage.specs.Values.{part_value};
+ghost use Rattle.bi_coverage.specs.NeededParts.{part_value};
 
 use crate::name_set::NameSet;
 use crate::needed_part::NeededPart;

@@ -1,6 +1,6 @@
 //! The paths that the signatures of a configuration must cover.
 
-ghost use Rattle.std.specs.Prelude.{◌≡◌, ◌+◌, ◌*◌, ◌<◌, ◌≤◌, [], map, length};
+ghost use Rattle.std.specs.Prelude.{◌≡◌, ◌+◌, ◌*◌, ◌<◌, ◌≤◌, map, length};
 ghost use Rattle.std.specs.Prelude.{IfOk, IfErr, OnOk};
 ghost use Rattle.bi_base.specs.Reading.{too_large};
 ghost use Rattle.bi_base.specs.Slices.{bytes_of};
@@ -8,60 +8,42 @@ ghost use Rattle.bi_coverage.specs.Paths.{each_once, with_all_new};
 ghost use Rattle.bi_coverage.specs.Signatures.{image_part as image_part_of, paths_of_part};
 ghost use Rattle.bi_coverage.specs.Signatures.{paths_of_parts};
 ghost use Rattle.bi_coverage.specs.Signatures.{total_length};
-ghost use Rattle.bi_coverage.specs.NeededPaths.{needed_path as needed_path_of};
-ghost use Rattle.bi_coverage.specs.Values.{part_value};
+ghost use Rattle.bi_coverage.specs.Signatures.{single_part as single_part_of};
+ghost use Rattle.bi_coverage.specs.NeededParts.{part_value};
 
-use crate::concern::NeededPath;
 use crate::name_set::NameSet;
 use crate::needed_part::NeededPart;
 use crate::paths::path_text;
 use bi_base::{Cause, Fault, refuse};
 use std::alloc::{AllocError, Global};
 
-/// Returns a needed path as bytes. Fails if memory runs out.
-fn needed_path(alloc: Global, subject: NeededPath) -> Result<Vec<u8>, AllocError>
-    ensures { IfOk result (λ path. path.items ≡ needed_path_of subject.entry) }
-{
-    match subject {
-        NeededPath::Root => path_text(alloc, &[]),
-        NeededPath::Configuration(name) => path_text(alloc, &[b"configurations", name]),
-        NeededPath::Image(name) => path_text(alloc, &[b"images", name]),
-    }
-}
-
-/// Returns a needed path without paths below it. Fails if memory runs out.
-pub(crate) fn single_part<'a>(
-    alloc: Global,
-    subject: NeededPath<'a>,
-) -> Result<NeededPart<'a>, AllocError>
-    ensures { IfOk result (λ part. part_value part
-        ≡ record { path = needed_path_of subject.entry; below = [] }) }
+/// Returns the path of the node with these names on its path, without paths below it. Fails if
+/// memory runs out.
+pub(crate) fn single_part(alloc: Global, names: &[&[u8]]) -> Result<NeededPart, AllocError>
+    ensures { IfOk result (λ part. part_value part ≡ single_part_of (bytes_of names.now)) }
 {
     Ok(NeededPart {
-        subject,
-        path: needed_path(alloc, subject)?,
+        path: path_text(alloc, names)?,
         below: Vec::new(alloc),
     })
 }
 
 /// Returns the path of an image with those of its children with these names. Fails if memory runs
 /// out.
-pub(crate) fn image_part<'a>(
+pub(crate) fn image_part(
     alloc: Global,
-    image: &'a [u8],
+    image: &[u8],
     children: &[&[u8]],
-) -> Result<NeededPart<'a>, AllocError>
+) -> Result<NeededPart, AllocError>
     ensures { IfOk result (λ part. part_value part
-        ≡ image_part_of image.entry.now (bytes_of children.now)) }
+        ≡ image_part_of image.now (bytes_of children.now)) }
 {
     let mut below = Vec::new(alloc);
     for child in children {
         below.push(path_text(alloc, &[b"images", image, child])?)?;
     }
-    let subject = NeededPath::Image(image);
     Ok(NeededPart {
-        subject,
-        path: needed_path(alloc, subject)?,
+        path: path_text(alloc, &[b"images", image])?,
         below,
     })
 }

@@ -3,7 +3,7 @@
 ghost use Rattle.std.specs.Prelude.{◌≡◌, map};
 ghost use Rattle.bi_coverage.specs.Paths.{each_once};
 ghost use Rattle.bi_coverage.specs.Signatures.{paths_of_parts};
-ghost use Rattle.bi_coverage.specs.Values.{part_value};
+ghost use Rattle.bi_coverage.specs.NeededParts.{part_value};
 
 use crate::name_set::NameSet;
 use crate::needed_part::NeededPart;
@@ -13,7 +13,7 @@ use crate::needed_part::NeededPart;
 #[derive(Clone, Copy)]
 pub(crate) struct Needs<'a, 'p, 'q> {
     pub(crate) references: &'p [&'a [u8]],
-    pub(crate) parts: &'p [NeededPart<'a>],
+    pub(crate) parts: &'p [NeededPart],
     pub(crate) paths: &'q NameSet<'p>,
     ghost are_paths: { paths.now ≡ each_once (paths_of_parts (map part_value parts.now)) },
 }

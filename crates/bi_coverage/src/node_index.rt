@@ -7,7 +7,7 @@ ghost use Rattle.bi_fdt.specs.Content.{root_of};
 ghost use Rattle.bi_fdt.specs.Views.{node_of};
 ghost use Rattle.bi_fit.specs.Judgement.{listed_names};
 ghost use Rattle.bi_coverage.specs.Coverage.{recorded_end as recorded_end_of};
-ghost use Rattle.bi_coverage.specs.NodeIndices.{end_at, HaveTokens};
+ghost use Rattle.bi_coverage.specs.NodeIndices.{path_end, HaveTokens};
 
 use crate::child_numbers::number_names;
 use crate::path_parts::split_path;
@@ -70,7 +70,7 @@ impl<'a, 'b> NodeIndex<'a, 'b> {
     /// Returns where the last name of the properties of the node with this path ends in the strings
     /// block, or 0 if no node has the path. Takes n log n time in the length of the path.
     fn end_at(&self, path: &[u8]) -> usize
-        ensures { result ≡ end_at self.now.file (root_of self.now) path.now }
+        ensures { result ≡ path_end self.now.file (root_of self.now) path.now }
     {
         if path == b"/".as_slice() {
             return self.ends[0];
@@ -87,7 +87,11 @@ impl<'a, 'b> NodeIndex<'a, 'b> {
             number = *child;
             rest = later;
         }
-        if rest.is_empty() { self.ends[number] } else { 0 }
+        if rest.is_empty() {
+            self.ends[number]
+        } else {
+            0
+        }
     }
 
     /// Returns where the last name of the properties of the nodes with the paths that a value lists

@@ -6,6 +6,15 @@ ghost use Rattle.bi_coverage.specs.Paths.{path_text};
 
 use std::alloc::{AllocError, Global};
 
+/// Returns a copy of a path. Fails if memory runs out.
+pub(crate) fn copy_path(alloc: Global, path: &[u8]) -> Result<Vec<u8>, AllocError>
+    ensures { IfOk result (λ copy. copy.items ≡ path.now) }
+{
+    let mut copy = Vec::new(alloc);
+    copy.extend_from_slice(path)?;
+    Ok(copy)
+}
+
 /// Returns the path of the node with these names on its path, without the root: each after a `/`,
 /// or `/` alone for the root. Fails if memory runs out.
 pub(crate) fn path_text(alloc: Global, names: &[&[u8]]) -> Result<Vec<u8>, AllocError>

@@ -14,16 +14,17 @@ ghost use Rattle.bi_fit.specs.Judgement.{listed_names};
 ghost use Rattle.bi_fit.specs.NormalNodes.{HasDistinctNames};
 ghost use Rattle.bi_coverage.specs.Coverage.{Foreign, Strings, coverage_of, configuration_coverage};
 ghost use Rattle.bi_coverage.specs.Coverage.{has_strings as reaches};
-ghost use Rattle.bi_coverage.specs.Coverage.{concerns_of_paths, image_concerns, signature_with};
+ghost use Rattle.bi_coverage.specs.Coverage.{concerns_of_paths, reference_concerns, signature_with};
 ghost use Rattle.bi_coverage.specs.Coverage.{strings_concerns, uncovered_concerns, foreign_paths};
-ghost use Rattle.bi_coverage.specs.Numbers.{total as total_of};
+ghost use Rattle.bi_coverage.specs.Numbers.{sum_of as total_of};
 ghost use Rattle.bi_coverage.specs.Signatures.{all_needed_length, needed_lengths, parts_for};
 ghost use Rattle.bi_coverage.specs.Signatures.{paths_of_parts, total_length, covered_below};
 ghost use Rattle.bi_coverage.specs.Signatures.{recorded_paths};
-ghost use Rattle.bi_coverage.specs.Values.{configuration_value, signature_value, concern_value};
-ghost use Rattle.bi_coverage.specs.Values.{meaning_of_node, part_value};
+ghost use Rattle.bi_coverage.specs.Values.{configuration_value, signature_value, signature_concern};
+ghost use Rattle.bi_coverage.specs.Values.{meaning_of_node};
+ghost use Rattle.bi_coverage.specs.NeededParts.{part_value};
 
-use crate::concern::{NeededPath, SignatureConcern};
+use crate::concern::SignatureConcern;
 use crate::covered_names::covered_by_image;
 use crate::listed_paths::{is_covered, listed_paths};
 use crate::name_set::NameSet;
@@ -33,8 +34,9 @@ use crate::needed::{
 use crate::needed_part::NeededPart;
 use crate::needs::Needs;
 use crate::node_index::NodeIndex;
+use crate::paths::copy_path;
 use crate::references::{order_by_names, references};
-use crate::signed::{recorded_list, signed_nodes};
+use crate::signed::{has_signed_node, recorded_list, signed_nodes};
 use crate::strings::has_strings;
 use bi_base::{Error, Fault, Limits};
 use bi_fdt::{NodeRef, PropertyOrder};
@@ -68,6 +70,50 @@ pub struct ConfigurationCoverage<'a> {
 ///
 /// Errors: TooLarge at that limit, only if they are more; OutOfMemory.
 pub fn read_coverage<'a>(
+    alloc: Global,
+    fit: &Fit<'a>,
+    limits: Limits,
+) -> Result<Vec<ConfigurationCoverage<'a>>, Error>
+    requires held { IsHeld fit.now }
+    ensures read { IfOk result (λ read. map configuration_value read.items ≡ coverage_of fit.now) }
+    ensures within { IfOk result (λ _. all_needed_length (tree_of fit.now) ≤ limits.file) }
+    ensures failed { IfErr result (IsFaultOrNoMemory (λ fault. (fault ≡ too_large limits.file)
+        × (limits.file < all_needed_length (tree_of fit.now)))) }
+{
+    if let Some(read) = unsigned_configurations(alloc, fit)? {
+        return Ok(read);
+    }
+    read_configurations(alloc, fit, limits)
+}
+
+/// Returns the configurations of a flattened image tree, in their order in the file, if none of
+/// them has a signed node. Returns None if one of them has. Fails if memory runs out. Requires: the
+/// tree was read.
+fn unsigned_configurations<'a>(
+    alloc: Global,
+    fit: &Fit<'a>,
+) -> Result<Option<Vec<ConfigurationCoverage<'a>>>, AllocError>
+    requires held { IsHeld fit.now }
+    ensures read { IfOk result (λ found. IfSome found (λ read.
+        map configuration_value read.items ≡ coverage_of fit.now)) }
+    ensures none_needed { IfOk result (λ found. IfSome found (λ _.
+        all_needed_length (tree_of fit.now) ≡ 0)) }
+{
+    let mut read = Vec::new(alloc);
+    for configuration in fit.configuration_nodes() {
+        if has_signed_node(configuration) {
+            return Ok(None);
+        }
+        read.push(ConfigurationCoverage {
+            name: configuration.name(),
+            signatures: Vec::new(alloc),
+        })?;
+    }
+    Ok(Some(read))
+}
+
+/// Does what `read_coverage` does, with an index of the tree.
+fn read_configurations<'a>(
     alloc: Global,
     fit: &Fit<'a>,
     limits: Limits,
@@ -115,14 +161,14 @@ struct IndexedFit<'a, 'b> {
 
 impl<'a, 'b> Model for IndexedFit<'a, 'b> {
     ghost use Rattle.bi_coverage.specs.IndexedFits.{IndexedFit, IsIndexedFit};
-    ghost use Rattle.bi_coverage.specs.Values.{name_lists};
+    ghost use Rattle.bi_coverage.specs.Values.{names_in_lists};
 
     ghost Value = { IndexedFit };
 
     ghost view = { λ indexed. record { content = indexed.fit.now; limit = indexed.limit } };
 
     ghost invariant = { λ indexed. IsIndexedFit indexed.fit.now indexed.order
-        (name_lists indexed.covered.items) indexed.nodes };
+        (names_in_lists indexed.covered.items) indexed.nodes };
 }
 
 impl<'a, 'b> IndexedFit<'a, 'b> {
@@ -143,7 +189,7 @@ impl<'a, 'b> IndexedFit<'a, 'b> {
     }
 
     /// Returns the names of the children of an image that a signature must cover.
-    fn covered(&self, image: &[u8]) -> &[&'a [u8]]
+    fn covered_names(&self, image: &[u8]) -> &[&'a [u8]]
         ensures { bytes_of result.now ≡ covered_below (tree_of self.now.content) image.now }
     {
         match self.fit.image(image) {
@@ -197,7 +243,7 @@ impl<'a, 'b> IndexedFit<'a, 'b> {
         alloc: Global,
         signed: &[NodeRef<'a, '_>],
         references: &[&'a [u8]],
-        parts: &[NeededPart<'a>],
+        parts: &[NeededPart],
     ) -> Result<Vec<SignatureCoverage<'a>>, AllocError>
         ensures { IfOk result (λ read. map signature_value read.items ≡ map
             (signature_with self.now.content (bytes_of references.now)
@@ -246,7 +292,7 @@ impl<'a, 'b> IndexedFit<'a, 'b> {
         let mut length = add_length(0, 17, self.limit)?;
         length = add_length(length, name.len(), self.limit)?;
         for image in references {
-            length = add_image_length(length, image, self.covered(image), self.limit)?;
+            length = add_image_length(length, image, self.covered_names(image), self.limit)?;
         }
         Ok(length)
     }
@@ -256,17 +302,17 @@ impl<'a, 'b> IndexedFit<'a, 'b> {
     fn needed_parts(
         &self,
         alloc: Global,
-        name: &'a [u8],
-        references: &[&'a [u8]],
-    ) -> Result<Vec<NeededPart<'a>>, AllocError>
+        name: &[u8],
+        references: &[&[u8]],
+    ) -> Result<Vec<NeededPart>, AllocError>
         ensures { IfOk result (λ parts. map part_value parts.items ≡ parts_for
-            (tree_of self.now.content) name.entry.now (bytes_of references.now)) }
+            (tree_of self.now.content) name.now (bytes_of references.now)) }
     {
         let mut parts = Vec::new(alloc);
-        parts.push(single_part(alloc, NeededPath::Root)?)?;
-        parts.push(single_part(alloc, NeededPath::Configuration(name))?)?;
+        parts.push(single_part(alloc, &[])?)?;
+        parts.push(single_part(alloc, &[b"configurations", name])?)?;
         for image in references {
-            parts.push(image_part(alloc, image, self.covered(image))?)?;
+            parts.push(image_part(alloc, image, self.covered_names(image))?)?;
         }
         Ok(parts)
     }
@@ -296,7 +342,7 @@ impl<'a, 'b> IndexedFit<'a, 'b> {
         signature: NodeRef<'a, '_>,
         needs: Needs<'a, '_, '_>,
     ) -> Result<Vec<SignatureConcern<'a>>, AllocError>
-        ensures { IfOk result (λ concerns. map concern_value concerns.items
+        ensures { IfOk result (λ concerns. map signature_concern concerns.items
             ≡ concerns_of_paths (bytes_of needs.entry.references.now)
             (map part_value needs.entry.parts.now)
             (recorded_paths (meaning_of_node signature.entry))
@@ -321,14 +367,14 @@ fn add_path_concerns<'a>(
     list: &'a [u8],
     needs: Needs<'a, '_, '_>,
 ) -> Result<(), AllocError>
-    ensures { OnOk result (map concern_value concerns.new.items
-        ≡ map concern_value concerns.old.items
+    ensures { OnOk result (map signature_concern concerns.new.items
+        ≡ map signature_concern concerns.old.items
         ++ concerns_of_paths (bytes_of needs.entry.references.now)
         (map part_value needs.entry.parts.now) (Some (listed_names list.entry.now))) }
 {
     let recorded = listed_paths(alloc, list)?;
     add_image_concern(concerns, needs.references)?;
-    add_uncovered(concerns, &recorded, needs.parts)?;
+    add_uncovered(alloc, concerns, &recorded, needs.parts)?;
     add_foreign(concerns, &recorded, needs.paths)?;
     Ok(())
 }
@@ -340,8 +386,8 @@ fn add_strings_concern(
     strings: Option<&[u8]>,
     end: usize,
 ) -> Result<(), AllocError>
-    ensures { OnOk result (map concern_value concerns.new.items
-        ≡ map concern_value concerns.old.items
+    ensures { OnOk result (map signature_concern concerns.new.items
+        ≡ map signature_concern concerns.old.items
         ++ (if reaches (option_map (λ value. value.now) strings.entry) end
         then [] else Strings ∷ [])) }
 {
@@ -357,8 +403,9 @@ fn add_image_concern(
     concerns: &mut Vec<SignatureConcern>,
     references: &[&[u8]],
 ) -> Result<(), AllocError>
-    ensures { OnOk result (map concern_value concerns.new.items
-        ≡ map concern_value concerns.old.items ++ image_concerns (bytes_of references.now)) }
+    ensures { OnOk result (map signature_concern concerns.new.items
+        ≡ map signature_concern concerns.old.items
+        ++ reference_concerns (bytes_of references.now)) }
 {
     if references.is_empty() {
         concerns.push(SignatureConcern::NoImages)?;
@@ -368,18 +415,20 @@ fn add_image_concern(
 
 /// Adds the concerns about the parts that are not covered by recorded paths. Fails if memory runs
 /// out.
-fn add_uncovered<'a>(
-    concerns: &mut Vec<SignatureConcern<'a>>,
+fn add_uncovered(
+    alloc: Global,
+    concerns: &mut Vec<SignatureConcern>,
     recorded: &NameSet,
-    parts: &[NeededPart<'a>],
+    parts: &[NeededPart],
 ) -> Result<(), AllocError>
-    ensures { OnOk result (map concern_value concerns.new.items
-        ≡ map concern_value concerns.old.items
+    ensures { OnOk result (map signature_concern concerns.new.items
+        ≡ map signature_concern concerns.old.items
         ++ uncovered_concerns recorded.now (map part_value parts.now)) }
 {
     for part in parts {
         if !is_covered(recorded, part) {
-            concerns.push(SignatureConcern::Uncovered(part.subject))?;
+            let path = copy_path(alloc, &part.path)?;
+            concerns.push(SignatureConcern::Uncovered(path))?;
         }
     }
     Ok(())
@@ -391,8 +440,8 @@ fn add_foreign<'a>(
     recorded: &NameSet<'a>,
     needed: &NameSet,
 ) -> Result<(), AllocError>
-    ensures { OnOk result (map concern_value concerns.new.items
-        ≡ map concern_value concerns.old.items
+    ensures { OnOk result (map signature_concern concerns.new.items
+        ≡ map signature_concern concerns.old.items
         ++ map Foreign (foreign_paths recorded.now needed.now)) }
 {
     for path in recorded.names() {

@@ -9,7 +9,7 @@ ghost use Rattle.bi_fit.specs.Judgement.{listed_names};
 ghost use Rattle.bi_fit.specs.NormalNodes.{HasDistinctNames};
 ghost use Rattle.bi_coverage.specs.Paths.{with_all_new};
 ghost use Rattle.bi_coverage.specs.ReferenceOrders.{IsNamesOrder};
-ghost use Rattle.bi_coverage.specs.Signatures.{images_in, names_in, other_names};
+ghost use Rattle.bi_coverage.specs.Signatures.{images_in, names_in_property, other_names};
 ghost use Rattle.bi_coverage.specs.Signatures.{references as references_of};
 ghost use Rattle.bi_coverage.specs.Values.{meaning_of_node};
 
@@ -58,8 +58,8 @@ pub(crate) fn references<'a>(
 /// images.
 fn image_list(property: Property<'_>) -> Option<&[u8]>
     ensures { MatchOption result
-        (names_in (property.entry.name.now, property.entry.value.now) ≡ [])
-        (λ list. names_in (property.entry.name.now, property.entry.value.now)
+        (names_in_property (property.entry.name.now, property.entry.value.now) ≡ [])
+        (λ list. names_in_property (property.entry.name.now, property.entry.value.now)
         ≡ listed_names list.now) }
 {
     if is_other_name(property.name) {
@@ -80,11 +80,7 @@ fn is_other_name(name: &[u8]) -> bool
 
 /// Adds the names of images that a value lists. Fails if memory runs out. Requires: the tree was
 /// read.
-fn add_images<'a>(
-    found: &mut NameSet<'a>,
-    fit: &Fit<'a>,
-    value: &'a [u8],
-) -> Result<(), AllocError>
+fn add_images<'a>(found: &mut NameSet<'a>, fit: &Fit<'a>, value: &'a [u8]) -> Result<(), AllocError>
     requires held { IsHeld fit.now }
     ensures { OnOk result (found.new ≡ with_all_new found.old
         (filter (λ name. is_among name (names (images_in (tree_of fit.now))))

@@ -1,10 +1,12 @@
 //! The signed nodes of configurations, and the lists in them.
 
 ghost use Rattle.std.specs.Prelude.{◌≡◌, map, IfOk};
+ghost use Rattle.std.specs.List.{list_any};
 ghost use Rattle.std.specs.Option.{option_map};
-ghost use Rattle.bi_coverage.specs.Signatures.{is_signed, has_bytes, signed_nodes, list_of_names};
+ghost use Rattle.bi_blob.specs.Lookups.{siblings};
+ghost use Rattle.bi_coverage.specs.Signatures.{is_signed, has_bytes, signed_nodes, names_of_value};
 ghost use Rattle.bi_coverage.specs.Signatures.{recorded_paths};
-ghost use Rattle.bi_coverage.specs.Values.{meaning_of_node, listed_by};
+ghost use Rattle.bi_coverage.specs.Values.{meaning_of_node, names_listed_by};
 
 use bi_fdt::NodeRef;
 use bi_fit::nodes::Siblings;
@@ -31,6 +33,19 @@ fn has_bytes(value: Option<&[u8]>) -> bool
     }
 }
 
+/// Returns whether a configuration has a signed node.
+pub(crate) fn has_signed_node(configuration: NodeRef) -> bool
+    ensures { result ≡ list_any is_signed
+        (siblings (meaning_of_node configuration.entry).children) }
+{
+    for child in Siblings::children(configuration) {
+        if is_signed(child) {
+            return true;
+        }
+    }
+    false
+}
+
 /// Returns the signed nodes of a configuration, in order. Fails if memory runs out.
 pub(crate) fn signed_nodes<'a, 'b>(
     alloc: Global,
@@ -50,7 +65,7 @@ pub(crate) fn signed_nodes<'a, 'b>(
 
 /// Returns a value if it is a list of names: its last byte is a zero.
 pub(crate) fn list_of_names(value: &[u8]) -> Option<&[u8]>
-    ensures { option_map listed_by result ≡ list_of_names value.now }
+    ensures { option_map names_listed_by result ≡ names_of_value value.now }
 {
     if value.ends_with(b"\0") {
         Some(value)
@@ -61,7 +76,7 @@ pub(crate) fn list_of_names(value: &[u8]) -> Option<&[u8]>
 
 /// Returns the list of the paths that a signature node records. Returns None if it records no list.
 pub(crate) fn recorded_list<'a>(signature: NodeRef<'a, '_>) -> Option<&'a [u8]>
-    ensures { option_map listed_by result ≡ recorded_paths (meaning_of_node signature.entry) }
+    ensures { option_map names_listed_by result ≡ recorded_paths (meaning_of_node signature.entry) }
 {
     match signature.property(b"hashed-nodes") {
         Some(value) => list_of_names(value),

@@ -10,8 +10,8 @@ use Rattle.bi_legacy.specs.KnownImages.{kernel_file}
 use Rattle.bi_legacy.specs.Laws.{OneLegacyMeaning}
 use Rattle.bi_norm.proofs.NormalFormFacts.{kept_of_normal_forms_is_known}
 use Rattle.bi_report.specs.KnownOutputs.{bad_lines, file_with_hash}
+use Rattle.bi_report.specs.KnownScans.{ScansAreKnown}
 use Rattle.bi_report.proofs.OutputFacts.{check_outputs_are_known, json_listings_are_known, verify_outputs_are_known}
-use Rattle.bi_report.proofs.ScanFacts.{scans_are_known}
 use Rattle.bi_show.specs.KnownPages.{PagesAreKnown}
 use Rattle.bi_values.specs.Getting.{IsGetError, IsTextOfValues}
 use Rattle.bi_values.specs.KnownValues.{IsOnlyGetText}
@@ -84,8 +84,8 @@ get_failures_are_known one_legacy = record {
       ];
 }
 
-pub task_ends_are_known : OneLegacyMeaning → PagesAreKnown → TaskEndsAreKnown
-task_ends_are_known one_legacy pages =
+pub task_ends_are_known : OneLegacyMeaning → ScansAreKnown → PagesAreKnown → TaskEndsAreKnown
+task_ends_are_known one_legacy scans pages =
     let verified = verify_outputs_are_known one_legacy in
     let checked = check_outputs_are_known one_legacy in
     let updated = updated_texts_are_known one_legacy in
@@ -97,7 +97,7 @@ task_ends_are_known one_legacy pages =
       layout = (pages.kernel, ends _);
       no_layout = (pages.no_layout, ends _);
       list = ((json_listings_are_known one_legacy).legacy, ends _);
-      describe = ((described_files_are_known one_legacy).text, ends _);
+      describe = ((described_files_are_known one_legacy).text.is_text, ends _);
       verify = (_, verified.good, ends _);
       bad_hash = (_, verified.bad, ends _);
       bad_answer = λ done output is.
@@ -106,8 +106,8 @@ task_ends_are_known one_legacy pages =
       check = (_, checked.nothing_json, ends _);
       concern = (_, checked.unhashed, ends _);
       allowed = (_, checked.allowed, ends _);
-      scan = (_, scans_are_known.two, ends _);
-      nothing_found = (_, scans_are_known.none, ends _);
+      scan = (_, scans.two.is_output, ends _);
+      nothing_found = (_, scans.none.is_output, ends _);
       update = λ form. record {
         done = λ done other is. updated.text form other is.0.output.is;
         text = λ other is. updated.text form other is;

@@ -60,6 +60,7 @@ pub fn task_ends_are_known()
     ensures { TaskEndsAreKnown }
 {
     bi_legacy::laws::one_meaning();
+    bi_report::known_texts::scans_are_known();
     bi_show::known_texts::pages_are_known();
 }
 

@@ -1,7 +1,7 @@
-use Rattle.std.proofs.Common.{◌≡◌, ◌+◌, arith}
+use Rattle.std.proofs.Common.{arith}
 use Rattle.bi_base.specs.Slices.{bytes_of}
 use Rattle.bi_base.proofs.Refusals.{fault_passed_on}
-use Rattle.bi_coverage.proofs.NeededLengths.{children_length, part_length, child_added, child_too_long}
+use Rattle.bi_coverage.proofs.NeededLengths.{part_length, child_added, child_too_long}
 use Rattle.bi_coverage.proofs.needed.add_image_length.Goals as goal
 
 pub loop-child-init : goal.loop-child-init
@@ -12,9 +12,10 @@ loop-child-init c = record {
 
 pub returns-in_err-sum-3-clause-fault : goal.returns-in_err-sum-3-clause-fault
 returns-in_err-sum-3-clause-fault c =
-    fault_passed_on _ _ _ c.from_residual-in_err-sum-3.ensures.1
-    (c.in_err-sum-3.ensures.fault.0,
-      child_too_long _ _ _ _ c.loop-child-test.true _ _ c.loop-child.invariant.is_sum _ c.in_err-sum-3.ensures.fault.1)
+    fault_passed_on _ _ _ c.from_residual-in_err-sum-3.ensures.1 (
+      c.in_err-sum-3.ensures.fault.0,
+      child_too_long _ _ _ _ c.loop-child-test.true _ _ c.loop-child.invariant.is_sum _ c.in_err-sum-3.ensures.fault.1,
+    )
 
 pub loop-child-preserved : goal.loop-child-preserved
 loop-child-preserved c = record {

@@ -1,4 +1,4 @@
-use Rattle.std.proofs.Common.{◌≡◌, ◌<◌, List, ℕ, length, map, take, get_or, ap, subst, ◌∙◌}
+use Rattle.std.proofs.Common.{◌≡◌, ◌<◌, length, map, take, get_or, ap, subst, ◌∙◌}
 use Rattle.bi_coverage.specs.Paths.{with_new, with_all_new}
 use Rattle.bi_coverage.proofs.NamesOnce.{taken_new}
 use Rattle.bi_coverage.proofs.needed.add_part.Goals as goal

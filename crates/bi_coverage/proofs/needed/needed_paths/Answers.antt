@@ -2,7 +2,7 @@ use Rattle.std.proofs.Common.{[], ◌+◌, take, sym, ap, ◌∙◌}
 use Rattle.std.proofs.lemmas.List.Folds.{flat_map-map}
 use Rattle.bi_coverage.specs.Paths.{with_all_new}
 use Rattle.bi_coverage.specs.Signatures.{paths_of_part}
-use Rattle.bi_coverage.specs.Values.{part_value}
+use Rattle.bi_coverage.specs.NeededParts.{part_value}
 use Rattle.bi_coverage.proofs.NamesOnce.{taken_all_new}
 use Rattle.bi_coverage.proofs.needed.needed_paths.Goals as goal
 

@@ -1,7 +1,7 @@
 use Rattle.std.proofs.Common.{◌≡◌, map, take}
 use Rattle.bi_coverage.specs.Paths.{each_once}
 use Rattle.bi_coverage.specs.Signatures.{paths_of_parts}
-use Rattle.bi_coverage.specs.Values.{part_value}
+use Rattle.bi_coverage.specs.NeededParts.{part_value}
 use Rattle.bi_coverage.proofs.needed.needed_paths.Given as goal
 
 abbrev pub invariant-loop-part : goal.invariant-loop-part

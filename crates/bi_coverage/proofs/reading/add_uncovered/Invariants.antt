@@ -1,9 +1,10 @@
 use Rattle.std.proofs.Common.{◌≡◌, ◌++◌, map, take}
 use Rattle.bi_coverage.specs.Coverage.{uncovered_concerns}
-use Rattle.bi_coverage.specs.Values.{concern_value, part_value}
+use Rattle.bi_coverage.specs.Values.{signature_concern}
+use Rattle.bi_coverage.specs.NeededParts.{part_value}
 use Rattle.bi_coverage.proofs.reading.add_uncovered.Given as goal
 
 abbrev pub invariant-loop-part : goal.invariant-loop-part
 invariant-loop-part l =
-    map concern_value l.concerns.items
-    ≡ map concern_value l.initial.concerns.items ++ uncovered_concerns l.recorded (map part_value (take l.part-index l.parts))
+    map signature_concern l.concerns.items
+    ≡ map signature_concern l.initial.concerns.items ++ uncovered_concerns l.recorded (map part_value (take l.part-index l.parts))

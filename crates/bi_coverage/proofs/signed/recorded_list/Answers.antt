@@ -1,5 +1,4 @@
-use Rattle.std.proofs.Common.{sym, ap, ◌∙◌}
-use Rattle.std.specs.Option.{option_map}
+use Rattle.std.proofs.Common.{◌∙◌}
 use Rattle.bi_fdt.specs.Views.{node_of}
 use Rattle.bi_coverage.proofs.Meanings.{recorded_some, recorded_none}
 use Rattle.bi_coverage.proofs.signed.recorded_list.Goals as goal

@@ -13,7 +13,8 @@ counted_end-requires c =
 pub loop-property-preserved : goal.loop-property-preserved
 loop-property-preserved c = record {
   so_far = property_more c.args.file.now (file_property_of c.in-Some.property) c.next.new.self c.loop-property.end _ _
-      (ap (λ l. max c.loop-property.end (properties_end c.args.file.now l)) (sym c.in-Some.ensures.steps) ∙ c.loop-property.invariant.so_far)
+      (ap (λ l. max c.loop-property.end (properties_end c.args.file.now l)) (sym c.in-Some.ensures.steps)
+      ∙ c.loop-property.invariant.so_far)
       (omega (arith, c.counted_end.ensures, c.max-end.ensures));
   tokens = (subst (AllByRecursion (HasTokenIn c.args.file.now)) c.in-Some.ensures.steps c.loop-property.invariant.tokens).1;
 }

@@ -1,10 +1,10 @@
-use Rattle.std.proofs.Common.{◌≡◌, Bool, true, false, Some, None, [], ◌∷◌, bytes_eq, slice_get, sym, ap, subst, ◌∙◌, arith}
+use Rattle.std.proofs.Common.{◌≡◌, true, false, Some, None, [], ◌∷◌, bytes_eq, sym, ap, subst, ◌∙◌, arith}
 use Rattle.std.specs.Prelude.{option_copied}
 use Rattle.bi_fdt.specs.Content.{Blob, root_of}
 use Rattle.bi_coverage.specs.ChildNumbers.{child_number}
-use Rattle.bi_coverage.specs.NodeIndices.{end_at}
+use Rattle.bi_coverage.specs.NodeIndices.{path_end}
 use Rattle.bi_coverage.proofs.FoundNodes.{IsAtNode, at_root, at_child, at_no_child, at_no_path, within_children, within_ends, got_at}
-use Rattle.bi_coverage.proofs.FoundNodes.{no_path, some_path, lost_end, empty_end, root_end, found_end}
+use Rattle.bi_coverage.proofs.FoundNodes.{no_node_at_path, some_path, lost_end, empty_end, root_end, found_end}
 use Rattle.bi_coverage.proofs.node_index.NodeIndex.end_at.Goals as goal
 
 pub returns-then-eq : goal.returns-then-eq
@@ -13,13 +13,13 @@ returns-then-eq c =
     let same : bytes_eq path (47 ∷ []) ≡ true = ap (bytes_eq path) (sym c.as_slice.ensures) ∙ sym c.eq.ensures ∙ c.if-eq.true in
     root_end c.self.inside.blob.now.file (root_of c.self.inside.blob.now) c.self.inside.children.items c.self.inside.ends.items path
     c.self.invariant.is_index c.self.invariant.is_tree same c.index.result.now c.index.ensures
-    ∙ ap (λ (blob : Blob). end_at blob.file (root_of blob) path) c.self.view_is
+    ∙ ap (λ (blob : Blob). path_end blob.file (root_of blob) path) c.self.view_is
 
 pub returns-then-is_empty : goal.returns-then-is_empty
 returns-then-is_empty c =
     let path = c.args.path.now in
     let other : bytes_eq path (47 ∷ []) ≡ false = ap (bytes_eq path) (sym c.as_slice.ensures) ∙ sym c.eq.ensures ∙ c.if-eq.false in
-    empty_end _ _ path other (no_path path (sym c.is_empty.ensures ∙ c.if-is_empty.true))
+    empty_end _ _ path other (no_node_at_path path (sym c.is_empty.ensures ∙ c.if-is_empty.true))
 
 pub loop-name-init : goal.loop-name-init
 loop-name-init c =
@@ -63,7 +63,7 @@ returns-then-is_empty-2 c =
     let path = c.args.path.now in
     let other : bytes_eq path (47 ∷ []) ≡ false = ap (bytes_eq path) (sym c.as_slice.ensures) ∙ sym c.eq.ensures ∙ c.if-eq.false in
     found_end _ _ _ _ path _ c.loop-name.rest.now c.loop-name.invariant
-    (no_path c.loop-name.rest.now (sym c.is_empty-2.ensures ∙ c.if-is_empty-2.true)) other
+    (no_node_at_path c.loop-name.rest.now (sym c.is_empty-2.ensures ∙ c.if-is_empty-2.true)) other
     c.index-then-is_empty-2.result.now c.index-then-is_empty-2.ensures
 
 pub returns-else-is_empty-2 : goal.returns-else-is_empty-2

@@ -12,7 +12,8 @@ use Rattle.bi_coverage.proofs.node_index.NodeIndex.new.Goals as goal
 use Rattle.bi_coverage.proofs.node_index.NodeIndex.new.Goals.{After-index-node}
 
 -- The node that is read is the next one.
-is_read : (c : After-index-node) → c.index-node.result.now ≡ get_or c.next_node.nodes.items (length c.next_node.children.items) c.index-node.result.now
+is_read : (c : After-index-node) → c.index-node.result.now ≡
+    get_or c.next_node.nodes.items (length c.next_node.children.items) c.index-node.result.now
 is_read c =
     let count : c.len-in-next_node-2.result ≡ length c.next_node.children.items = omega arith in
     c.index-node.ensures ∙ ap (λ index. get_or c.next_node.nodes.items index c.index-node.result.now) count
@@ -46,7 +47,8 @@ next_node-preserved c =
     let has : HasNumbersFrom (length c.next_node.nodes.items)
     (drop (length c.next_node.nodes.items) (map node_of c.add_children.new.nodes.items)) c.in_ok-number_names.field-0 =
     subst (λ (n : ℕ). HasNumbersFrom n (drop n (map node_of c.add_children.new.nodes.items)) c.in_ok-number_names.field-0) begin
-    (subst (λ (items : List NodeRef). HasNumbersFrom c.len-begin.result (drop c.len-begin.result (map node_of items)) c.in_ok-number_names.field-0)
+    (subst (λ (items : List NodeRef). HasNumbersFrom c.len-begin.result (drop c.len-begin.result (map node_of items))
+    c.in_ok-number_names.field-0)
     c.deref.ensures.value c.in_ok-number_names.ensures) in
     grown_next blob.file (root_of blob) c.next_node.nodes.items c.next_node.children.items c.next_node.ends.items c.next_node.invariant
     (is_there at) c.index-node.result.now (is_read at) c.add_children.new.nodes.items c.in_ok-number_names.field-0

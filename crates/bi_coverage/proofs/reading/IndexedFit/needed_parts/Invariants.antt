@@ -2,7 +2,7 @@ use Rattle.std.proofs.Common.{◌≡◌, map, take}
 use Rattle.bi_base.specs.Slices.{bytes_of}
 use Rattle.bi_fit.specs.Content.{tree_of}
 use Rattle.bi_coverage.specs.Signatures.{parts_for}
-use Rattle.bi_coverage.specs.Values.{part_value}
+use Rattle.bi_coverage.specs.NeededParts.{part_value}
 use Rattle.bi_coverage.proofs.reading.IndexedFit.needed_parts.Given as goal
 
 abbrev pub invariant-loop-image : goal.invariant-loop-image

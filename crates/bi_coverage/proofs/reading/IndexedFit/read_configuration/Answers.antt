@@ -1,4 +1,4 @@
-use Rattle.std.proofs.Common.{◌≡◌, ◌+◌, ◌<◌, ◌*◌, ℕ, Bool, false, List, map, length, refl, sym, ap, subst, ◌∙◌, arith}
+use Rattle.std.proofs.Common.{◌≡◌, ◌<◌, ◌*◌, ℕ, map, length, refl, sym, ap, subst, ◌∙◌, arith}
 use Rattle.std.proofs.lemmas.Bool.{eqb-false}
 use Rattle.bi_base.specs.Reading.{too_large}
 use Rattle.bi_base.specs.Slices.{bytes_of}
@@ -6,9 +6,10 @@ use Rattle.bi_base.proofs.Refusals.{refused_by}
 use Rattle.bi_fit.specs.Content.{tree_of}
 use Rattle.bi_coverage.specs.Coverage.{signature_with}
 use Rattle.bi_coverage.specs.IndexedFits.{IndexedFit}
-use Rattle.bi_coverage.specs.Numbers.{total}
+use Rattle.bi_coverage.specs.Numbers.{sum_of}
 use Rattle.bi_coverage.specs.Signatures.{references, parts_for, paths_of_parts, needed_lengths, needed_paths, total_length}
-use Rattle.bi_coverage.specs.Values.{meaning_of_node, part_value, signature_value}
+use Rattle.bi_coverage.specs.Values.{meaning_of_node, signature_value}
+use Rattle.bi_coverage.specs.NeededParts.{part_value}
 use Rattle.bi_coverage.proofs.SignedConfigurations.{coverage_read, each_length, needed_once, needed_sum}
 use Rattle.bi_coverage.proofs.reading.IndexedFit.read_configuration.Goals as goal
 use Rattle.bi_coverage.proofs.reading.IndexedFit.read_configuration.Goals.{After-needed_length}
@@ -51,7 +52,7 @@ returns-in_err-sum-clause-failed c =
     c.in_ok-length.length (c.in_ok-length.ensures.length ∙ needed_is at) in
     let limit : c.self.inside.limit ≡ c.args.self.now.limit = ap (λ (indexed : IndexedFit). indexed.limit) c.self.view_is in
     let count : c.len.result ≡ length c.in_ok-signed.signed.items = omega arith in
-    let same : c.len.result * c.in_ok-length.length ≡ total (needed_lengths tree (meaning_of_node c.args.configuration)) =
+    let same : c.len.result * c.in_ok-length.length ≡ sum_of (needed_lengths tree (meaning_of_node c.args.configuration)) =
     ap (λ (n : ℕ). n * c.in_ok-length.length) count ∙ all in
     refused_by _ _ _ c.from_residual-in_err-sum.ensures.1
     (c.in_err-sum.ensures.fault.0 ∙ ap too_large limit, omega (arith, same, limit, c.in_err-sum.ensures.fault.1))
@@ -68,10 +69,11 @@ returns-clause-read c =
     (c.in_ok-signatures.ensures
     ∙ ap (λ names. map (signature_with content names (map part_value c.deref-2.result.now)) (map meaning_of_node c.deref.result.now))
     (c.names-3.ensures ∙ sym c.names.ensures)
-    ∙ ap (λ parts. map (signature_with content (bytes_of c.names.result.now) (map part_value parts)) (map meaning_of_node c.deref.result.now))
+    ∙ ap (λ parts. map (signature_with content (bytes_of c.names.result.now) (map part_value parts))
+    (map meaning_of_node c.deref.result.now))
     c.deref-2.ensures.value
     ∙ ap (λ nodes. map (signature_with content (bytes_of c.names.result.now) (map part_value c.in_ok-parts.parts.items))
-        (map meaning_of_node nodes)) c.deref.ensures.value)
+    (map meaning_of_node nodes)) c.deref.ensures.value)
 
 pub returns-clause-sum : goal.returns-clause-sum
 returns-clause-sum c =
@@ -80,6 +82,6 @@ returns-clause-sum c =
     let all = needed_sum tree (meaning_of_node c.args.configuration) c.in_ok-signed.signed.items c.in_ok-signed.ensures
     c.in_ok-length.length (c.in_ok-length.ensures.length ∙ needed_is at) in
     let count : c.len.result ≡ length c.in_ok-signed.signed.items = omega arith in
-    let same : c.len.result * c.in_ok-length.length ≡ total (needed_lengths tree (meaning_of_node c.args.configuration)) =
+    let same : c.len.result * c.in_ok-length.length ≡ sum_of (needed_lengths tree (meaning_of_node c.args.configuration)) =
     ap (λ (n : ℕ). n * c.in_ok-length.length) count ∙ all in
     omega (arith, same, c.in_ok-sum.ensures.sum)

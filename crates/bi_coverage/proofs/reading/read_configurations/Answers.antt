@@ -1,4 +1,4 @@
-use Rattle.std.proofs.Common.{◌≡◌, ◌+◌, ◌<◌, ◌++◌, ◌∷◌, [], Some, suc, map, length, ap, subst, ◌∙◌, arith}
+use Rattle.std.proofs.Common.{◌≡◌, ◌+◌, ◌<◌, ◌++◌, ◌∷◌, [], suc, map, length, ap, subst, ◌∙◌, arith}
 use Rattle.std.proofs.lemmas.List.{map-append}
 use Rattle.std.specs.Prelude.{IfSome}
 use Rattle.std.specs.Option.{option_map}
@@ -10,15 +10,15 @@ use Rattle.bi_fdt.specs.Views.{node_of, table_of_node}
 use Rattle.bi_fit.specs.Content.{tree_of}
 use Rattle.bi_coverage.specs.Coverage.{configuration_coverage}
 use Rattle.bi_coverage.specs.IndexedFits.{IndexedFit}
-use Rattle.bi_coverage.specs.Numbers.{total}
+use Rattle.bi_coverage.specs.Numbers.{sum_of}
 use Rattle.bi_coverage.specs.Signatures.{needed_lengths}
 use Rattle.bi_coverage.specs.Values.{configuration_value, meaning_of_node}
-use Rattle.bi_coverage.proofs.Configurations.{none_read, one_read, too_long}
-use Rattle.bi_coverage.proofs.reading.read_coverage.Goals as goal
+use Rattle.bi_coverage.proofs.Configurations.{no_configuration_read, one_read, too_long_at}
+use Rattle.bi_coverage.proofs.reading.read_configurations.Goals as goal
 
 pub loop-next-init : goal.loop-next-init
 loop-next-init c = record {
-  to = none_read c.args.fit.now (map configuration_value c.new-read.result.items) _ c.requires.held
+  to = no_configuration_read c.args.fit.now (map configuration_value c.new-read.result.items) _ c.requires.held
       (ap (map configuration_value) c.new-read.ensures.items) c.first_configuration-next.ensures.node;
   within = omega arith;
   same_table = c.first_configuration-next.ensures.same_table;
@@ -30,20 +30,23 @@ returns-in_err-coverage-clause-failed c =
     let configuration = c.in-Some.configuration in
     let limit_is : indexed.limit ≡ c.args.limits.file =
     ap (λ (indexed : IndexedFit). indexed.limit) c.in_ok-indexed.ensures ∙ c.file.ensures.value in
-    let sum_is : c.loop-next.total + total (needed_lengths (tree_of indexed.content) (meaning_of_node configuration))
-    ≡ c.loop-next.total + total (needed_lengths (tree_of c.args.fit.now) (meaning_of_node configuration)) =
-    ap (λ (indexed : IndexedFit). c.loop-next.total + total (needed_lengths (tree_of indexed.content) (meaning_of_node configuration)))
+    let sum_is : c.loop-next.total + sum_of (needed_lengths (tree_of indexed.content) (meaning_of_node configuration))
+    ≡ c.loop-next.total + sum_of (needed_lengths (tree_of c.args.fit.now) (meaning_of_node configuration)) =
+    ap (λ (indexed : IndexedFit). c.loop-next.total + sum_of (needed_lengths (tree_of indexed.content) (meaning_of_node configuration)))
     c.in_ok-indexed.ensures in
     refusal_passed_on _ _
     (λ fault. (fault ≡ too_large indexed.limit)
-        × (indexed.limit < c.loop-next.total + total (needed_lengths (tree_of indexed.content) (meaning_of_node configuration))))
+    × (indexed.limit < c.loop-next.total + sum_of (needed_lengths (tree_of indexed.content) (meaning_of_node configuration))))
     (λ fault. (fault ≡ too_large indexed.limit)
-        × (indexed.limit < c.loop-next.total + total (needed_lengths (tree_of indexed.content) (meaning_of_node configuration))))
+    × (indexed.limit < c.loop-next.total + sum_of (needed_lengths (tree_of indexed.content) (meaning_of_node configuration))))
     _ c.from_residual-in_err-coverage.ensures.1 c.in_err-coverage.ensures.failed c.in_err-coverage.ensures.failed
-    (λ fault one other. (one.0 ∙ ap too_large limit_is,
-      too_long c.args.fit.now (map configuration_value c.loop-next.read.items) c.loop-next.total _ (siblings (node_of configuration).later)
-      (node_of configuration) (ap (λ next. siblings_from (option_map node_of next)) c.in-Some.is) c.loop-next.invariant.to
-      c.args.limits.file (omega (arith, limit_is, sum_is, one.1))))
+    (λ fault one other. (
+      one.0 ∙ ap too_large limit_is,
+      too_long_at c.args.fit.now (map configuration_value c.loop-next.read.items) c.loop-next.total _
+          (siblings (node_of configuration).later)
+          (node_of configuration) (ap (λ next. siblings_from (option_map node_of next)) c.in-Some.is) c.loop-next.invariant.to
+          c.args.limits.file (omega (arith, limit_is, sum_is, one.1)),
+    ))
 
 pub loop-next-smaller : goal.loop-next-smaller
 loop-next-smaller c =
@@ -75,7 +78,7 @@ loop-next-preserved c =
           ∙ ap (λ (indexed : IndexedFit). configuration_coverage indexed.content (meaning_of_node configuration)) c.in_ok-indexed.ensures))
           (c.in_ok-coverage.ensures.sum
           ∙ ap (λ (indexed : IndexedFit). c.loop-next.total
-              + total (needed_lengths (tree_of indexed.content) (meaning_of_node configuration))) c.in_ok-indexed.ensures);
+          + sum_of (needed_lengths (tree_of indexed.content) (meaning_of_node configuration))) c.in_ok-indexed.ensures);
       within = let most = c.in_ok-coverage.ensures.within in omega (arith, limit_is, most);
       same_table = subst (λ table. IfSome c.next_sibling-next.result (λ node. table_of_node node ≡ table)) table
           c.next_sibling-next.ensures.same_table;

@@ -5,7 +5,7 @@ use Rattle.bi_coverage.specs.IndexedFits.{IndexedFit}
 use Rattle.bi_coverage.specs.Signatures.{covered_below}
 use Rattle.bi_coverage.proofs.Meanings.{covered_nothing}
 use Rattle.bi_coverage.proofs.SignedConfigurations.{covered_within, covered_list}
-use Rattle.bi_coverage.proofs.reading.IndexedFit.covered.Goals as goal
+use Rattle.bi_coverage.proofs.reading.IndexedFit.covered_names.Goals as goal
 
 pub index-requires : goal.index-requires
 index-requires c =

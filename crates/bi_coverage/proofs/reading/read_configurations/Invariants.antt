@@ -5,7 +5,7 @@ use Rattle.bi_blob.specs.Lookups.{siblings_from}
 use Rattle.bi_fdt.specs.Views.{node_of, table_of_node}
 use Rattle.bi_coverage.specs.Values.{configuration_value}
 use Rattle.bi_coverage.proofs.Configurations.{IsReadTo}
-use Rattle.bi_coverage.proofs.reading.read_coverage.Given as goal
+use Rattle.bi_coverage.proofs.reading.read_configurations.Given as goal
 
 abbrev pub invariant-loop-next : goal.invariant-loop-next
 invariant-loop-next l = record {
