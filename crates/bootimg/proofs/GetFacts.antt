@@ -14,7 +14,7 @@ use Rattle.bootimg.specs.CommandLine.{IsGetPlan, option_of, values_of}
 use Rattle.bootimg.specs.KnownRequests.{GetPlansAreKnown, IsPlanOf}
 use Rattle.bootimg.specs.Program.{program_app}
 use Rattle.bootimg.specs.ValueWords.{form_argument, texts_of_value}
-use Rattle.bootimg.specs.declared.command_line.get.GetPlan.{GetPlan}
+use Rattle.bootimg.specs.declared.command_line.values.GetPlan.{GetPlan}
 use Rattle.bootimg.proofs.OptionFacts.{found_values}
 use Rattle.bootimg.proofs.RequestFacts.{option_is}
 

@@ -4,8 +4,8 @@ use Rattle.bi_values.specs.ValueNames.{value_name_model, value_name_models, word
 use Rattle.bi_values.specs.declared.value_name.ValueName.{ValueName}
 use Rattle.bootimg.specs.CommandLine.{texts_of}
 use Rattle.bootimg.specs.ValueWords.{texts_of_value}
-use Rattle.bootimg.specs.declared.command_line.get.ValueWords.{ValueWords}
-use Rattle.bootimg.specs.declared.command_line.get.ValueWords.TheVariants.{Property, Field}
+use Rattle.bootimg.specs.declared.command_line.values.ValueWords.{ValueWords}
+use Rattle.bootimg.specs.declared.command_line.values.ValueWords.TheVariants.{Property, Field}
 
 -- The words of names of values, one name after the other.
 

@@ -24,8 +24,8 @@ use Rattle.bi_values.specs.declared.value_name.HeaderField.TheVariants as field
 use Rattle.bi_values.proofs.ValueFacts.{field_values_are_known, get_errors_are_known}
 use Rattle.bootimg.specs.Failures.{IsFailureOfGetting}
 use Rattle.bootimg.specs.KnownTasks.{GetFailuresAreKnown, TaskEndsAreKnown, without_notes}
-use Rattle.bootimg.specs.declared.command_line.get.GetPlan.{GetPlan}
-use Rattle.bootimg.specs.declared.command_line.get.ValueWords.{ValueWords}
+use Rattle.bootimg.specs.declared.command_line.values.GetPlan.{GetPlan}
+use Rattle.bootimg.specs.declared.command_line.values.ValueWords.{ValueWords}
 use Rattle.bootimg.specs.declared.failure.Failure.{Failure}
 use Rattle.bootimg.specs.declared.failure.Failure.TheVariants.{Call, NoProperty, NoText, NoNumber}
 use Rattle.bootimg.specs.Tasks.{EndedWith}

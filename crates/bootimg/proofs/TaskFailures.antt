@@ -15,7 +15,7 @@ use Rattle.bi_values.specs.declared.get_error.GetError.{GetError}
 use Rattle.bi_values.specs.declared.get_error.GetError.TheVariants as get
 use Rattle.bi_values.specs.declared.value_form.ValueForm.{ValueForm}
 use Rattle.bi_values.specs.declared.value_name.ValueName.{ValueName}
-use Rattle.bootimg.specs.declared.command_line.get.ValueWords.{ValueWords}
+use Rattle.bootimg.specs.declared.command_line.values.ValueWords.{ValueWords}
 use Rattle.bootimg.specs.declared.failure.Failure.{Failure}
 use Rattle.bootimg.specs.declared.failure.Failure.TheVariants.{Call}
 use Rattle.bootimg.specs.Failures.{IsFailureOfGetting, IsIndexOfValue, failure_of}

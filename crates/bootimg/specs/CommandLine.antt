@@ -58,7 +58,7 @@ use Rattle.bi_values.specs.NameWords.{AreWordsOf}
 use Rattle.bi_values.specs.ValueNames.{value_name_models, words_of_value}
 use Rattle.bi_values.specs.declared.value_form.ValueForm.TheVariants.{Raw}
 use Rattle.bootimg.specs.ValueWords.{form_argument, texts_of_value}
-use Rattle.bootimg.specs.declared.command_line.get.GetPlan.{GetPlan}
+use Rattle.bootimg.specs.declared.command_line.values.GetPlan.{GetPlan}
 use Rattle.bootimg.specs.declared.command_line.extract.AllRequest.{AllRequest}
 use Rattle.bootimg.specs.declared.command_line.extract.Selected.{Selected}
 use Rattle.bootimg.specs.declared.command_line.extract.Selected.TheVariants.{Part, Image, Config}

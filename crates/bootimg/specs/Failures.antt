@@ -13,7 +13,7 @@ use Rattle.bi_values.specs.declared.get_error.GetError.{GetError}
 use Rattle.bi_values.specs.declared.get_error.GetError.TheVariants as get
 use Rattle.bi_files.specs.declared.saving.SaveError.{SaveError}
 use Rattle.bi_files.specs.declared.saving.SaveError.TheVariants as save
-use Rattle.bootimg.specs.declared.command_line.get.ValueWords.{ValueWords}
+use Rattle.bootimg.specs.declared.command_line.values.ValueWords.{ValueWords}
 use Rattle.bootimg.specs.declared.command_line.source.ImageSource.{ImageSource}
 use Rattle.bootimg.specs.declared.command_line.source.ImageSource.TheVariants.{Standard, File}
 use Rattle.bootimg.specs.declared.failure.Failure.{Failure}

@@ -33,7 +33,7 @@ use Rattle.bootimg.specs.declared.command_line.build.BuildPlan.TheVariants as bu
 use Rattle.bootimg.specs.declared.command_line.extract.AllRequest.{AllRequest}
 use Rattle.bootimg.specs.declared.command_line.extract.Selected.{Selected}
 use Rattle.bootimg.specs.declared.command_line.extract.Selected.TheVariants as select
-use Rattle.bootimg.specs.declared.command_line.get.GetPlan.{GetPlan}
+use Rattle.bootimg.specs.declared.command_line.values.GetPlan.{GetPlan}
 use Rattle.bootimg.specs.declared.command_line.image.ImageWord.{ImageWord}
 use Rattle.bootimg.specs.declared.command_line.part.PartSource.{PartSource}
 use Rattle.bootimg.specs.declared.command_line.part.PartSource.TheVariants as part

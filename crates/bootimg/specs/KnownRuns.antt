@@ -17,7 +17,7 @@ use Rattle.bootimg.specs.Failures.{failure_of}
 use Rattle.bootimg.specs.Runs.{failure_line, note_line, alignment_line, positions_line, IsEnd}
 use Rattle.bootimg.specs.Runs.{IsMistake, IsRejection, IsTextRun, Run}
 use Rattle.bootimg.specs.Tasks.{status_of}
-use Rattle.bootimg.specs.declared.command_line.get.ValueWords.TheVariants.{Property, Field}
+use Rattle.bootimg.specs.declared.command_line.values.ValueWords.TheVariants.{Property, Field}
 use Rattle.bootimg.specs.declared.command_line.source.ComparePlan.{ComparePlan}
 use Rattle.bootimg.specs.declared.command_line.source.ImageSource.{ImageSource}
 use Rattle.bootimg.specs.declared.command_line.source.ImageSource.TheVariants.{Standard, File}

@@ -47,8 +47,8 @@ use Rattle.bootimg.specs.declared.command_line.build.BuildPlan.TheVariants.{Lega
 use Rattle.bootimg.specs.declared.command_line.build.FitPlan.{FitPlan}
 use Rattle.bootimg.specs.declared.command_line.build.LegacyPlan.{LegacyPlan}
 use Rattle.bootimg.specs.declared.command_line.extract.Selected.TheVariants as selected
-use Rattle.bootimg.specs.declared.command_line.get.GetPlan.{GetPlan}
-use Rattle.bootimg.specs.declared.command_line.get.ValueWords.{ValueWords}
+use Rattle.bootimg.specs.declared.command_line.values.GetPlan.{GetPlan}
+use Rattle.bootimg.specs.declared.command_line.values.ValueWords.{ValueWords}
 use Rattle.bootimg.specs.declared.command_line.source.ImageSource.TheVariants.{Standard, File}
 use Rattle.bootimg.specs.declared.failure.Failure.{Failure}
 use Rattle.bootimg.specs.declared.failure.Failure.TheVariants.{Call, CannotOpen, WrongKind}

@@ -30,7 +30,7 @@ use Rattle.bootimg.specs.declared.command_line.Task.{Task}
 use Rattle.bootimg.specs.declared.command_line.Task.TheVariants.{Normalise, List as ListImage}
 use Rattle.bootimg.specs.declared.command_line.Task.TheVariants.{Verify, Check, Describe, Extract}
 use Rattle.bootimg.specs.declared.command_line.Task.TheVariants.{Update, Convert, Scan, Show, Get}
-use Rattle.bootimg.specs.declared.command_line.get.ValueWords.{ValueWords}
+use Rattle.bootimg.specs.declared.command_line.values.ValueWords.{ValueWords}
 use Rattle.bootimg.specs.declared.failure.Failure.{Failure}
 use Rattle.bootimg.specs.declared.failure.Failure.TheVariants.{Call}
 use Rattle.bootimg.specs.declared.tasks.Done.{Done}

@@ -1,8 +1,8 @@
 use Rattle.std.specs.Prelude.{◌≡◌, ◌++◌, ℕ, List, [], ◌∷◌, Option, None, Some, codes}
 use Rattle.bi_values.specs.declared.value_form.ValueForm.{ValueForm}
 use Rattle.bi_values.specs.declared.value_form.ValueForm.TheVariants.{Shown, Text, Number, Raw}
-use Rattle.bootimg.specs.declared.command_line.get.ValueWords.{ValueWords}
-use Rattle.bootimg.specs.declared.command_line.get.ValueWords.TheVariants.{Property, Field}
+use Rattle.bootimg.specs.declared.command_line.values.ValueWords.{ValueWords}
+use Rattle.bootimg.specs.declared.command_line.values.ValueWords.TheVariants.{Property, Field}
 
 -- The words of the command `get` (profile of this project).
 

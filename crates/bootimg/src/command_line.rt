@@ -14,6 +14,7 @@ mod show;
 mod source;
 mod table;
 mod update;
+mod values;
 
 ghost use Rattle.std.specs.Prelude.{◌≡◌, ◌≢◌, false, true, IfOk, IfErr, IsFalse, IsTrue, codes};
 ghost use Rattle.bi_base.specs.declared.fault.Error.TheVariants.{OutOfMemory};
@@ -42,7 +43,6 @@ use explain::explained_cause;
 pub use extract::{AllRequest, Selected};
 use extract::{all_request, selection};
 use get::get_plan;
-pub use get::{GetPlan, ValueWords};
 use options::{flag, form, format, limits, number};
 pub use part::PartSource;
 use show::presenter;
@@ -51,6 +51,7 @@ use source::{compare_plan, source};
 use std::alloc::{AllocError, AllocFailed, Global};
 use table::program;
 use update::changes;
+pub use values::{GetPlan, ValueWords};
 
 /// A command on one image, with the options that change what it does.
 #[derive(Drop)]

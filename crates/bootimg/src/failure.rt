@@ -67,7 +67,7 @@ impl<'a> Failure<'a> {
     /// Returns whether the line of the failure begins with the name of the file that the image is
     /// read from, if it is read from a file, or of the output file.
     pub fn is_about_image(self) -> bool
-        ensures { result ≡ is_about_image_of self }
+        ensures { result ≡ is_about_image_of self.entry }
     {
         match self {
             Failure::Call(error) => matches!(error, Error::Refused(_) | Error::ReadFailed),
@@ -80,7 +80,7 @@ impl<'a> Failure<'a> {
     /// Appends the text of the failure, which the program prints after `bootimg: ` and the name of
     /// the file, if the failure is about an image in a file.
     pub fn put_text<T: TracedWrite>(self, line: &mut ErrorLine<'_, T>)
-        ensures { Extends (line_of T.trace line.old) (text_of self) (line_of T.trace line.new) }
+        ensures { Extends (line_of T.trace line.old) (text_of self.entry) (line_of T.trace line.new) }
     {
         match self {
             Failure::Call(Error::Refused(fault)) => put_fault(fault, line),

@@ -163,7 +163,7 @@ pub fn job_failed<'a>(
     source: ImageSource<'a>,
     failure: Failure<'a>,
 ) -> Result<Done, SourceFailure<'a>>
-    ensures { result ≡ Err (source_failure source.entry failure) }
+    ensures { result ≡ Err (source_failure source.entry failure.entry) }
 {
     Err(SourceFailure { source, failure })
 }

@@ -22,7 +22,7 @@ pub fn report_failure<E: TracedWrite>(
     failure: Failure<'_>,
     errors: &mut E,
 ) -> u8
-    ensures line { Reports source.entry failure (E.trace errors.old) (E.trace errors.new) }
+    ensures line { Reports source.entry failure.entry (E.trace errors.old) (E.trace errors.new) }
     ensures status { result ≡ 2 }
 {
     let mut line = ErrorLine::new(errors);
@@ -37,7 +37,7 @@ fn put_failure<E: TracedWrite>(
     failure: Failure<'_>,
     line: &mut ErrorLine<'_, E>,
 )
-    ensures { Extends (line_of E.trace line.old) (failure_line source.entry failure)
+    ensures { Extends (line_of E.trace line.old) (failure_line source.entry failure.entry)
         (line_of E.trace line.new) }
 {
     line.put(b"bootimg: ");
@@ -52,7 +52,7 @@ fn put_source<E: TracedWrite>(
     failure: Failure<'_>,
     line: &mut ErrorLine<'_, E>,
 )
-    ensures { Extends (line_of E.trace line.old) (name_text source.entry failure)
+    ensures { Extends (line_of E.trace line.old) (name_text source.entry failure.entry)
         (line_of E.trace line.new) }
 {
     match source {
