@@ -127,7 +127,8 @@ fn parse_configuration<'a>(
     bad: Failure<'static>,
 ) -> Result<ConfigurationWord<'a>, NoRequest>
     ensures configuration { IfOk result (IsConfigurationWord word.now) }
-    ensures failure { IfErr result (IsFailureOutcome (IsBad bad (IsConfigurationWord word.now))) }
+    ensures failure { IfErr result (IsFailureOutcome
+        (IsBad bad.entry (IsConfigurationWord word.now))) }
 {
     let (name, lists) = split_field(word).ok_or(bad)?;
     Ok(ConfigurationWord {
@@ -145,7 +146,7 @@ fn parse_lists<'a>(
 ) -> Result<Vec<KeyList<'a>>, NoRequest>
     ensures lists { IfOk result (λ lists. AreLists (parts_of text.now) lists.items) }
     ensures failure { IfErr result (IsFailureOutcome
-        (IsBad bad (λ lists. AreLists (parts_of text.now) lists))) }
+        (IsBad bad.entry (λ lists. AreLists (parts_of text.now) lists))) }
 {
     let mut lists = Vec::new(alloc);
     for part in text.split(':') {
@@ -174,7 +175,7 @@ fn parse_list<'a>(
     bad: Failure<'static>,
 ) -> Result<KeyList<'a>, NoRequest>
     ensures list { IfOk result (IsListText text.now) }
-    ensures failure { IfErr result (IsFailureOutcome (IsBad bad (IsListText text.now))) }
+    ensures failure { IfErr result (IsFailureOutcome (IsBad bad.entry (IsListText text.now))) }
 {
     let (key, names) = split_list(text).ok_or(bad)?;
     Ok(KeyList {
