@@ -1,5 +1,5 @@
-use Rattle.std.proofs.Common.{◌≡◌, ◌∙◌, ◌<◌, ◌+◌, ℕ, Bor, List, [], ◌∷◌, ◌++◌, arith, drop, flat_map, get_or, length, map, take, ap, ap₂, refl, sym}
-use Rattle.std.proofs.lemmas.List.{drop_more, length-map, map-append, take_more}
+use Rattle.std.proofs.Common.{◌≡◌, ◌∙◌, ◌<◌, ◌≤◌, ◌+◌, ℕ, Bor, List, [], ◌∷◌, ◌++◌, arith, drop, flat_map, get_or, length, map, take, ap, ap₂, refl, sym}
+use Rattle.std.proofs.lemmas.List.{drop-drop, drop-map, drop_at, drop_more, length-append, length-drop, length-map, map-append, take_more}
 use Rattle.bi_values.specs.ValueNames.{value_name_model, value_name_models, words_of_value}
 use Rattle.bi_values.specs.declared.value_name.ValueName.{ValueName}
 use Rattle.bootimg.specs.CommandLine.{texts_of}
@@ -31,26 +31,15 @@ words_push found first names index name within is so_far first_is =
     ∙ ap (map words_of_value) (map-append value_name_model (take index names) (name ∷ []))
     ∙ map-append words_of_value (value_name_models (take index names)) (value_name_model name ∷ []))
 
--- The first two words, or the first one, and those after them.
-pub two_words : (words : List (Bor (List ℕ))) (first second : Bor (List ℕ)) (a b : List ℕ) (later : List (List ℕ)) →
-    texts_of words ≡ a ∷ b ∷ later → first ≡ get_or words 0 first → second ≡ get_or words 1 second →
-    (texts_of_value (Property first second) ≡ a ∷ b ∷ [])
-    × (texts_of words ≡ texts_of_value (Property first second) ++ texts_of (drop 2 words))
-two_words [] first second a b later are one two = absurd cc
-two_words (w ∷ []) first second a b later are one two = absurd cc
-two_words (w ∷ v ∷ words) first second a b later are one two =
-    let w_is : w.now ≡ a = cc in
-    let v_is : v.now ≡ b = cc in
-    ((λ i. (one i).now ∷ (two i).now ∷ []) ∙ (λ i. w_is i ∷ v_is i ∷ []), λ i. (sym one i).now ∷ (sym two i).now ∷ texts_of words)
-
-pub one_word : (words : List (Bor (List ℕ))) (first : Bor (List ℕ)) (a : List ℕ) (later : List (List ℕ)) →
-    texts_of words ≡ a ∷ later → first ≡ get_or words 0 first →
-    (texts_of_value (Field first) ≡ a ∷ []) × (texts_of words ≡ texts_of_value (Field first) ++ texts_of (drop 1 words))
-one_word [] first a later are one = absurd cc
-one_word (w ∷ words) first a later are one =
-    let w_is : w.now ≡ a = cc in
-    ((λ i. (one i).now ∷ []) ∙ (λ i. w_is i ∷ []), λ i. (sym one i).now ∷ texts_of words)
-
--- There are so many words.
-pub word_count : (words : List (Bor (List ℕ))) (texts : List (List ℕ)) → texts_of words ≡ texts → length words ≡ length texts
-word_count words texts are = sym (length-map words (λ word. word.now)) ∙ ap length are
+-- The words after the first ones.
+pub later_words : (words : List (Bor (List ℕ))) (at count : ℕ) (first later : List (List ℕ)) → texts_of (drop at words) ≡ first ++ later →
+    count ≡ length first → at ≤ length words → (texts_of (drop (at + count) words) ≡ later) × (at + count ≤ length words)
+later_words words at count first later are counted within =
+    let text = λ (word : Bor (List ℕ)). word.now in
+    let some = length-drop at words in
+    let all = length-map (drop at words) text in
+    let both = ap length are ∙ length-append first later in (
+      sym (drop-map text (at + count) words) ∙ sym (drop-drop count at (map text words))
+          ∙ ap (drop count) (drop-map text at words ∙ are) ∙ drop_at first later count (sym counted),
+      omega (arith, some, all, both, counted, within),
+    )
