@@ -3,10 +3,9 @@ use Rattle.std.proofs.lemmas.List.{length-map}
 use Rattle.bi_base.proofs.EqualBytes.{other_bytes}
 use Rattle.bi_values.specs.KnownValues.{load_and_default}
 use Rattle.bi_values.specs.NameWords.{AreNoWords, AreWordsOf}
-use Rattle.bi_values.specs.ValueNames.{FieldAt, ValueNameModel, value_name_model, value_name_models, words_of_value}
+use Rattle.bi_values.specs.ValueNames.{ValueNameModel, value_name_model, value_name_models, words_of_value}
 use Rattle.bi_values.specs.declared.value_form.ValueForm.{ValueForm}
 use Rattle.bi_values.specs.declared.value_form.ValueForm.TheVariants as value_form
-use Rattle.bi_values.specs.declared.value_name.HeaderField.TheVariants as field
 use Rattle.bi_values.proofs.NameWordFacts.{name_words_are_known}
 use Rattle.clap.specs.declared.parser.matches.ArgMatches.{ArgMatches}
 use Rattle.clap.proofs.OnLiterals.{clap_on_literals}
@@ -15,6 +14,7 @@ use Rattle.bootimg.specs.KnownRequests.{GetPlansAreKnown, IsPlanOf}
 use Rattle.bootimg.specs.Program.{program_app}
 use Rattle.bootimg.specs.ValueWords.{form_argument, texts_of_value}
 use Rattle.bootimg.specs.declared.command_line.values.GetPlan.{GetPlan}
+use Rattle.bootimg.proofs.GetWords.{load_and_name}
 use Rattle.bootimg.proofs.OptionFacts.{found_values}
 use Rattle.bootimg.proofs.RequestFacts.{option_is}
 
@@ -29,7 +29,7 @@ shown_is value_form.Text is = absurd cc
 shown_is value_form.Number is = absurd cc
 shown_is value_form.Raw is = absurd cc
 
-word_in : Option (List ℕ) → List ℕ
+abbrev word_in : Option (List ℕ) → List ℕ
 word_in None = []
 word_in (Some word) = word
 
@@ -80,9 +80,6 @@ module _ (options : ArgMatches) (plan : GetPlan) (is : IsGetPlan options plan) w
     names_are = names_given words names given are;
     words_are = is.words ∙ ap (map words_of_value) (names_given words names given are);
   }
-
-load_and_name : List ValueNameModel
-load_and_name = FieldAt field.Load ∷ FieldAt field.Name ∷ []
 
 pub get_plans_are_known : GetPlansAreKnown
 unfolding program_app clap_on_literals

@@ -1,11 +1,12 @@
-use Rattle.std.proofs.Common.{◌≡◌, ◌∙◌, ◌<◌, ◌≤◌, ◌+◌, ℕ, Bor, List, [], ◌∷◌, ◌++◌, arith, drop, flat_map, get_or, length, map, take, ap, ap₂, refl, sym}
+use Rattle.std.proofs.Common.{◌≡◌, ◌∙◌, ◌<◌, ◌≤◌, ◌+◌, ℕ, Bor, List, [], ◌∷◌, ◌++◌, drop, flat_map, get_or, length, map, take}
+use Rattle.std.proofs.Common.{ap, ap₂, arith, sym}
 use Rattle.std.proofs.lemmas.List.{drop-drop, drop-map, drop_at, drop_more, length-append, length-drop, length-map, map-append, take_more}
-use Rattle.bi_values.specs.ValueNames.{value_name_model, value_name_models, words_of_value}
+use Rattle.bi_values.specs.ValueNames.{FieldAt, ValueNameModel, value_name_model, value_name_models, words_of_value}
+use Rattle.bi_values.specs.declared.value_name.HeaderField.TheVariants as field
 use Rattle.bi_values.specs.declared.value_name.ValueName.{ValueName}
 use Rattle.bootimg.specs.CommandLine.{texts_of}
 use Rattle.bootimg.specs.ValueWords.{texts_of_value}
 use Rattle.bootimg.specs.declared.command_line.values.ValueWords.{ValueWords}
-use Rattle.bootimg.specs.declared.command_line.values.ValueWords.TheVariants.{Property, Field}
 
 -- The words of names of values, one name after the other.
 
@@ -43,3 +44,7 @@ later_words words at count first later are counted within =
           ∙ ap (drop count) (drop-map text at words ∙ are) ∙ drop_at first later count (sym counted),
       omega (arith, some, all, both, counted, within),
     )
+
+-- Two names, for what is known.
+abbrev pub load_and_name : List ValueNameModel
+load_and_name = FieldAt field.Load ∷ FieldAt field.Name ∷ []

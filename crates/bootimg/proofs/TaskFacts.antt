@@ -15,13 +15,13 @@ use Rattle.bi_report.proofs.OutputFacts.{check_outputs_are_known, json_listings_
 use Rattle.bi_show.specs.KnownPages.{PagesAreKnown}
 use Rattle.bi_values.specs.Getting.{IsGetError, IsTextOfValues}
 use Rattle.bi_values.specs.KnownValues.{IsOnlyGetText}
-use Rattle.bi_values.specs.ValueNames.{FieldAt, ValueNameModel, value_name_models}
+use Rattle.bi_values.specs.ValueNames.{ValueNameModel, value_name_models}
 use Rattle.bi_values.specs.declared.get_error.GetError.{GetError}
 use Rattle.bi_values.specs.declared.get_error.GetError.TheVariants as get
 use Rattle.bi_values.specs.declared.value_form.ValueForm.{ValueForm}
 use Rattle.bi_values.specs.declared.value_form.ValueForm.TheVariants.{Shown, Number}
-use Rattle.bi_values.specs.declared.value_name.HeaderField.TheVariants as field
 use Rattle.bi_values.proofs.ValueFacts.{field_values_are_known, get_errors_are_known}
+use Rattle.bootimg.proofs.GetWords.{load_and_name}
 use Rattle.bootimg.specs.Failures.{IsFailureOfGetting}
 use Rattle.bootimg.specs.KnownTasks.{GetFailuresAreKnown, TaskEndsAreKnown, without_notes}
 use Rattle.bootimg.specs.declared.command_line.values.GetPlan.{GetPlan}
@@ -36,9 +36,6 @@ ends : (good : Bool) → EndedWith good (without_notes good)
 ends good = record { is_answer = refl; no_signatures = refl; says_nothing = record { alignment = refl; positions = refl } }
 
 -- ---- getting values
-
-load_and_name : List ValueNameModel
-load_and_name = FieldAt field.Load ∷ FieldAt field.Name ∷ []
 
 -- What is got by a plan with this form and these names, and only that.
 got_by : (form : ValueForm) (names : List ValueNameModel) (text : List ℕ) → IsOnlyGetText form names kernel_file text → (plan : GetPlan) →

@@ -24,7 +24,7 @@ use Rattle.bootimg.specs.declared.failure.Failure.TheVariants.{NoProperty, NoTex
 use Rattle.bootimg.specs.declared.failure.Failure.TheVariants.{NoChange, BadValue, BadImage}
 use Rattle.bootimg.specs.declared.failure.Failure.TheVariants.{BadConfiguration}
 use Rattle.bootimg.specs.declared.failure.Failure.TheVariants.{CannotOpen, NotWritten}
-use Rattle.bootimg.specs.ValueWords.{value_text}
+use Rattle.bootimg.specs.ValueWords.{value_words_text}
 
 -- The failures of the program, and the text of each (profile of this project).
 
@@ -86,9 +86,9 @@ failure_text BadList = codes "bad list"
 failure_text (Missing index) = codes "missing image " ++ decimal index
 failure_text NoIndex = codes "no such entry"
 failure_text NoPayload = codes "no payload"
-failure_text (NoProperty words) = codes "no such property " ++ value_text words
-failure_text (NoText words) = codes "no text " ++ value_text words
-failure_text (NoNumber words) = codes "no number " ++ value_text words
+failure_text (NoProperty words) = codes "no such property " ++ value_words_text words
+failure_text (NoText words) = codes "no text " ++ value_words_text words
+failure_text (NoNumber words) = codes "no number " ++ value_words_text words
 failure_text NoSelection = codes "usage: give one of --part, --image, --config"
 failure_text NoChange = codes "usage: give --time or --hashes"
 failure_text BadValue = codes "usage: bad value"

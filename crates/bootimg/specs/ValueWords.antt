@@ -19,9 +19,9 @@ texts_of_value (Property path name) = path.now ∷ name.now ∷ []
 texts_of_value (Field word) = word.now ∷ []
 
 -- The same words in a line, with a space between two.
-abbrev pub value_text : ValueWords → List ℕ
-value_text (Property path name) = path.now ++ (codes " " ++ name.now)
-value_text (Field word) = word.now
+abbrev pub value_words_text : ValueWords → List ℕ
+value_words_text (Property path name) = path.now ++ (codes " " ++ name.now)
+value_words_text (Field word) = word.now
 
 -- The words begin with these ones.
 abbrev pub BeginWithWords : (words first : List (List ℕ)) → Type 0

@@ -8,7 +8,7 @@ ghost use Rattle.bootimg.specs.ErrorLines.{Extends, line_of};
 ghost use Rattle.bootimg.specs.Failures.{error_text, failure_of, failure_text as text_of};
 ghost use Rattle.bootimg.specs.Failures.{failure_to_save};
 ghost use Rattle.bootimg.specs.Failures.{is_about_image as is_about_image_of};
-ghost use Rattle.bootimg.specs.ValueWords.{value_text};
+ghost use Rattle.bootimg.specs.ValueWords.{value_words_text};
 
 use crate::command_line::ValueWords;
 use crate::error_line::ErrorLine;
@@ -132,7 +132,7 @@ fn put_numbered<T: TracedWrite>(bytes: &[u8], number: usize, line: &mut ErrorLin
 
 /// Appends these bytes, and the words for a value, with a space between two.
 fn put_value<T: TracedWrite>(bytes: &[u8], words: ValueWords<'_>, line: &mut ErrorLine<'_, T>)
-    ensures { Extends (line_of T.trace line.old) (bytes.now ++ value_text words.entry)
+    ensures { Extends (line_of T.trace line.old) (bytes.now ++ value_words_text words.entry)
         (line_of T.trace line.new) }
 {
     line.put(bytes);
@@ -141,7 +141,7 @@ fn put_value<T: TracedWrite>(bytes: &[u8], words: ValueWords<'_>, line: &mut Err
 
 /// Appends the words for a value, with a space between two.
 fn put_words<T: TracedWrite>(words: ValueWords<'_>, line: &mut ErrorLine<'_, T>)
-    ensures { Extends (line_of T.trace line.old) (value_text words.entry)
+    ensures { Extends (line_of T.trace line.old) (value_words_text words.entry)
         (line_of T.trace line.new) }
 {
     match words {
