@@ -5,6 +5,7 @@ pub mod Parts
 pub mod KnownBounds
 pub mod KnownUpdates
 pub mod UpdatedFileLaws
+pub mod DescribedValues
 pub mod UpdatedFiles
 pub mod ExtractingAll
 pub mod Payloads
