@@ -91,7 +91,7 @@ pub record ComparedNode : Type 0 where
   pub payload : NodePayload
 
 -- What is compared of a legacy image: its fields, of which the time may be left out, and each part
--- with its index. The parts of `fields` are not used.
+-- with its index. `fields` has the time 0 and no parts.
 pub record ComparedLegacy : Type 0 where
   pub fields : LegacyImage
   pub time : Option ℕ
@@ -151,11 +151,25 @@ compared_parts index (part ∷ parts) (inside ∷ insides) =
     (index, compared_payload part inside) ∷ compared_parts (index + 1) parts insides
 compared_parts index parts insides = []
 
+-- A legacy image with these fields, but with the time 0 and without parts.
+abbrev pub fields_alone : LegacyImage → LegacyImage
+fields_alone image = record {
+  time = 0;
+  load = image.load;
+  entry = image.entry;
+  os = image.os;
+  arch = image.arch;
+  image_type = image.image_type;
+  compression = image.compression;
+  name = image.name;
+  parts = [];
+}
+
 -- All that is compared of a meaning, if nothing is left out.
 abbrev pub compared_meaning : Meaning → List (Option Devicetree) → ComparedMeaning
 compared_meaning (OfLegacy image) insides =
     LegacyCompared (record {
-      fields = image;
+      fields = fields_alone image;
       time = Some image.time;
       parts = compared_parts 0 image.parts insides;
     })

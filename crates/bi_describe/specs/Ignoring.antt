@@ -1,10 +1,8 @@
-use Rattle.std.specs.Prelude.{ℕ, ◌≡◌, ◌==◌, ◌&&◌, ◌||◌, not, ⊤, Bool, false, List, [], ◌∷◌, ◌++◌}
+use Rattle.std.specs.Prelude.{ℕ, ◌==◌, ◌&&◌, ◌||◌, Bool, true, false, List, [], ◌∷◌, ◌++◌}
 use Rattle.std.specs.Prelude.{codes, bytes_eq}
-use Rattle.std.specs.Cmp.{pointwise}
+use Rattle.core.specs.Cmp.Lexicographic.{pointwise}
 use Rattle.std.specs.Fmt.{decimal}
-use Rattle.std.specs.List.{AllByRecursion, list_any}
-use Rattle.bi_base.specs.Cells.{AreBytes}
-use Rattle.bi_blob.specs.Tree.{IsChildName, IsPropertyName}
+use Rattle.std.specs.List.{list_any}
 use Rattle.bi_fit.specs.Names.{images_name, configurations_name, is_signature_name}
 use Rattle.bi_common.specs.Shown.{path, shown_text}
 

@@ -22,3 +22,6 @@ pub mod EntryTokens
 pub mod DescriptionJson
 pub mod ComparisonJson
 pub mod JsonLaws
+pub mod Ignoring
+pub mod DeepMeanings
+pub mod ReducedMeanings

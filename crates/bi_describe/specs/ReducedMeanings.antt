@@ -1,12 +1,18 @@
-use Rattle.std.specs.Prelude.{◌≡◌, ◌&&◌, ℕ, not, Bool, true, false, List, [], ◌∷◌, ◌++◌}
+use Rattle.std.specs.Prelude.{◌≡◌, ◌&&◌, ◌||◌, ◌+◌, ℕ, map, not, Bool, true, false, List, [], ◌∷◌, ◌++◌}
 use Rattle.std.specs.Prelude.{Option, Some, None, flat_map, if◌then◌else◌}
 use Rattle.std.specs.FinMap.{retain_keys}
 use Rattle.std.specs.List.{list_any}
-use Rattle.bi_blob.specs.Tree.{Nodes, none, node, PropertyMap, Root}
+use Rattle.bi_blob.specs.Tree.{Nodes, none, node, names, PropertyMap, Root}
+use Rattle.bi_fit.specs.ImageTree.{image_nodes, nodes_or_none}
+use Rattle.bi_norm.specs.Meaning.{Meaning, OfLegacy, OfFit}
+use Rattle.bi_common.specs.Lines.{text_of_lines}
+use Rattle.bi_describe.specs.Comparing.{lines_or, reason}
 use Rattle.bi_describe.specs.DeepMeanings.{ComparedLegacy, ComparedMeaning, LegacyCompared}
 use Rattle.bi_describe.specs.DeepMeanings.{TreeCompared, ComparedNode, ComparedPayload}
 use Rattle.bi_describe.specs.DeepMeanings.{ComparedTree, InsideTree, NodePayload, NotAnImage}
-use Rattle.bi_describe.specs.DeepMeanings.{WithoutPayload, WithPayload, last_name}
+use Rattle.bi_describe.specs.DeepMeanings.{WithoutPayload, WithPayload, last_name, Devicetree}
+use Rattle.bi_describe.specs.DeepMeanings.{compared_lines, compared_meaning}
+use Rattle.bi_describe.specs.Differences.{ComparedLine, SignedLine, differences, line_to_compare}
 use Rattle.bi_describe.specs.Ignoring.{Ignored, NodePlace, TreePlace, Itself, Inside}
 use Rattle.bi_describe.specs.Ignoring.{PayloadPlace, OfImageNamed, OfPart, is_node_ignored}
 use Rattle.bi_describe.specs.Ignoring.{is_looked_inside, is_part_ignored, is_property_ignored}
@@ -106,3 +112,62 @@ kept_meaning words is_opened (TreeCompared tree) =
       reservations = tree.reservations;
       root = kept_root words (kept_own words is_opened) Itself tree.root;
     })
+
+-- ---- which payloads are opened
+
+-- Places of parts, the first of which has this index.
+abbrev pub part_places : (index : ℕ) → List (List ℕ) → List PayloadPlace
+part_places index [] = []
+part_places index (part ∷ later) = OfPart index ∷ part_places (index + 1) later
+
+-- The places of the payloads of a meaning, in their order.
+abbrev pub payload_places : Meaning → List PayloadPlace
+payload_places (OfLegacy image) = part_places 0 image.parts
+payload_places (OfFit tree) =
+    map OfImageNamed (names (nodes_or_none (image_nodes tree.root)))
+
+-- A devicetree is inside the payload at this place.
+abbrev pub has_inside_at : List PayloadPlace → List (Option Devicetree) → PayloadPlace → Bool
+has_inside_at (other ∷ places) (None ∷ insides) place = has_inside_at places insides place
+has_inside_at (other ∷ places) (Some tree ∷ insides) place =
+    is_same_payload other place || has_inside_at places insides place
+has_inside_at places insides place = false
+
+-- Two meanings, each with what is inside its payloads.
+pub record ComparedPair : Type 0 where
+  pub one : Meaning
+  pub insides : List (Option Devicetree)
+  pub other : Meaning
+  pub other_insides : List (Option Devicetree)
+
+-- The payload is compared by its trees: a word names something inside it, and it is a devicetree in
+-- both.
+abbrev pub is_opened : List Ignored → ComparedPair → PayloadPlace → Bool
+is_opened words pair place =
+    is_looked_inside words place
+    && (has_inside_at (payload_places pair.one) pair.insides place
+    && has_inside_at (payload_places pair.other) pair.other_insides place)
+
+-- What is compared of the first meaning, and of the second one.
+abbrev pub reduced_one : List Ignored → ComparedPair → ComparedMeaning
+reduced_one words pair =
+    kept_meaning words (is_opened words pair) (compared_meaning pair.one pair.insides)
+
+abbrev pub reduced_other : List Ignored → ComparedPair → ComparedMeaning
+reduced_other words pair =
+    kept_meaning words (is_opened words pair) (compared_meaning pair.other pair.other_insides)
+
+-- The meanings are the same once what the words leave out is taken out of both. Meanings of
+-- different kinds never are.
+abbrev pub AreSameWithout : List Ignored → ComparedPair → Type 0
+AreSameWithout words pair = reduced_one words pair ≡ reduced_other words pair
+
+-- The lines of what stays, as they are compared.
+abbrev pub lines_to_compare : ComparedMeaning → List ComparedLine
+lines_to_compare reduced = map line_to_compare (compared_lines reduced)
+
+-- What differs between what stays of two meanings of one kind that are not the same.
+abbrev pub reduced_differences : (one other : ComparedMeaning) → List SignedLine
+reduced_differences one other =
+    lines_or (differences (lines_to_compare one) (lines_to_compare other))
+    (reason (text_of_lines (compared_lines one)) (text_of_lines (compared_lines other)))
