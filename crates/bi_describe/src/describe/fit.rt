@@ -92,7 +92,7 @@ impl<'a, 'b> DescribedFit<'a, 'b> {
 }
 
 /// Puts the line of the kind, and that of the boot processor.
-fn put_head<L: LinePen>(boot_cpu: u32, pen: &mut L)
+pub(super) fn put_head<L: LinePen>(boot_cpu: u32, pen: &mut L)
     ensures { L.puts pen.old (tokens_of_lines (head_lines boot_cpu)) pen.new }
 {
     put_lines(

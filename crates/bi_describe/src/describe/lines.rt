@@ -76,7 +76,7 @@ fn put_entries<'a, L: LinePen>(entries: &[Entry<'a>], names: &mut [&'a [u8]], pe
 
 /// Returns how many nodes are open after an entry, if `count` are open before it. Their names are
 /// the first of `names`, before the call and after it. Requires: `names` has room for all of them.
-fn open_after<'a>(entry: Entry<'a>, names: &mut [&'a [u8]], count: usize) -> usize
+pub(super) fn open_after<'a>(entry: Entry<'a>, names: &mut [&'a [u8]], count: usize) -> usize
     requires fits { count ≤ length names.old }
     requires room { count_after_of count (as_entry entry) ≤ length names.old }
     ensures names { bytes_of_names (take result names.new)
@@ -95,7 +95,7 @@ fn open_after<'a>(entry: Entry<'a>, names: &mut [&'a [u8]], count: usize) -> usi
 }
 
 /// Puts the line of an entry, if it has one. These are the names of the open nodes.
-fn put_entry<'a, L: LinePen>(entry: Entry<'a>, names: &[&'a [u8]], pen: &mut L)
+pub(super) fn put_entry<'a, L: LinePen>(entry: Entry<'a>, names: &[&'a [u8]], pen: &mut L)
     ensures { L.puts pen.old (tokens_of_lines
         (lines_of_entry (bytes_of_names names.now) (as_entry entry.entry))) pen.new }
 {
@@ -108,7 +108,7 @@ fn put_entry<'a, L: LinePen>(entry: Entry<'a>, names: &[&'a [u8]], pen: &mut L)
 }
 
 /// Puts the line of a node.
-fn put_node<L: LinePen>(names: &[&[u8]], pen: &mut L)
+pub(super) fn put_node<L: LinePen>(names: &[&[u8]], pen: &mut L)
     ensures { L.puts pen.old (line_tokens (node_line (bytes_of_names names.now))) pen.new }
 {
     put_line(&[Field::Text(b"node"), Field::Path(names)], pen);
@@ -131,7 +131,7 @@ fn put_property<'a, L: LinePen>(names: &[&'a [u8]], name: &'a [u8], value: &'a [
 }
 
 /// Puts the line of a payload.
-fn put_payload<L: LinePen>(names: &[&[u8]], digest: Option<PayloadDigest>, pen: &mut L)
+pub(super) fn put_payload<L: LinePen>(names: &[&[u8]], digest: Option<PayloadDigest>, pen: &mut L)
     ensures { L.puts pen.old (tokens_of_lines
         (payload_lines (bytes_of_names names.now) (OfImage (option_map digest_made digest))))
         pen.new }
