@@ -24,8 +24,8 @@ use std::alloc::Global;
 pub(crate) struct DeepPayload<'a> {
     /// The name of its image. A part has none.
     pub(crate) name: &'a [u8],
-    /// Its index among the payloads.
-    pub(crate) index: usize,
+    /// Its index, if it is a part.
+    pub(crate) part: Option<usize>,
     /// Its path.
     pub(crate) path: Vec<u8>,
     /// Its bytes. An image may have no payload.
@@ -152,7 +152,7 @@ fn of_legacy<'a, 'b>(alloc: Global, image: &Legacy<'a>) -> Result<DeepImage<'a, 
         put_field(Field::Decimal(index as u64), &mut pen);
         payloads.push(DeepPayload {
             name: b"",
-            index,
+            part: Some(index),
             path: pen.into_vec()?,
             bytes: Some(part.bytes),
             digest: Some(digest_of(part.bytes)),
@@ -187,7 +187,7 @@ fn of_fit<'a, 'b>(
         };
         payloads.push(DeepPayload {
             name: image.name,
-            index,
+            part: None,
             path: pen.into_vec()?,
             bytes: image.payload,
             digest,
@@ -243,11 +243,11 @@ fn put_inside<L: LinePen>(payload: &DeepPayload, pen: &mut L) {
 
 /// Puts the lines of a part, and of what is inside it.
 fn put_part<L: LinePen>(payload: &DeepPayload, pen: &mut L) {
-    if let Some(digest) = payload.digest {
+    if let (Some(digest), Some(index)) = (payload.digest, payload.part) {
         if !payload.is_opened {
             let words = [
                 Field::Text(b"part"),
-                Field::Decimal(payload.index as u64),
+                Field::Decimal(index as u64),
                 Field::Text(b"size"),
                 Field::Decimal(digest.size as u64),
                 Field::Text(b"sha256"),
