@@ -7,3 +7,5 @@ pub mod ignored;
 pub mod known_refusals;
 pub mod known_texts;
 pub mod laws;
+#[cfg(test)]
+mod deep_tests;

@@ -3,8 +3,8 @@
 /// A payload, or a part of a legacy image, by its size and its SHA-256.
 #[derive(Clone, Copy)]
 pub(crate) struct PayloadDigest {
-    pub(super) size: usize,
-    pub(super) sha256: [u8; 32],
+    pub(crate) size: usize,
+    pub(crate) sha256: [u8; 32],
 }
 
 /// What the tree has, in the order of the lines. The root neither begins nor ends.
