@@ -25,3 +25,4 @@ pub mod JsonLaws
 pub mod Ignoring
 pub mod DeepMeanings
 pub mod ReducedMeanings
+pub mod KnownReductions
