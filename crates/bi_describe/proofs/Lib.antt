@@ -8,6 +8,7 @@ pub mod PrintedDescriptions
 pub mod JsonReading
 pub mod JsonDescriptions
 pub mod DescriptionFacts
+pub mod ReductionFacts
 pub mod DifferenceFacts
 pub mod DescribedFileFacts
 pub mod RefusalFacts

@@ -1,4 +1,4 @@
-use Rattle.std.specs.Prelude.{◌≡◌, ℕ, ◌+◌, ⊤, ⊥, List, [], ◌∷◌, ◌++◌, Option, Some, None, map, codes}
+use Rattle.std.specs.Prelude.{◌≡◌, ℕ, ◌+◌, List, [], ◌∷◌, ◌++◌, Option, Some, None, map, codes}
 use Rattle.std.specs.Prelude.{flat_map, bytes_eq, drop, take, if◌then◌else◌}
 use Rattle.std.specs.FinMap.{entries}
 use Rattle.std.specs.List.{AllZip}
@@ -14,7 +14,7 @@ use Rattle.bi_common.specs.CommonLines.{header_lines, reservation_line}
 use Rattle.bi_common.specs.Lines.{Line, Text, Name, Decimal, Value, text_of_lines}
 use Rattle.bi_describe.specs.Descriptions.{digest_of_payload, digest_words, head_lines}
 use Rattle.bi_describe.specs.Ignoring.{PayloadPlace, OfImageNamed, OfPart, TreePlace, Itself}
-use Rattle.bi_describe.specs.Ignoring.{Inside, NodePlace, place_path, payload_path}
+use Rattle.bi_describe.specs.Ignoring.{Inside, NodePlace, node_at, place_path, payload_path}
 
 -- What an image means, with the devicetrees that are inside its payloads, and how both are
 -- described (profile of this project). A deep description has lines for what is inside; without
@@ -201,7 +201,7 @@ abbrev pub lines_of_nodes : {Own : Type 0} → (tree : TreePlace)
     → (own_lines : NodePlace → Own → List Line) → (above : List (List ℕ)) → Nodes Own → List Line
 lines_of_nodes tree own_lines above none = []
 lines_of_nodes tree own_lines above (node name own children later) =
-    let place = record { tree = tree; names = above ++ name ∷ [] } in
+    let place : NodePlace = node_at tree (above ++ name ∷ []) in
     place_words (codes "node") place
     ∷ (own_lines place own ++ (lines_of_nodes tree own_lines (above ++ name ∷ []) children
     ++ lines_of_nodes tree own_lines above later))
@@ -211,7 +211,7 @@ abbrev pub lines_of_tree : {Own : Type 0} → (tree : TreePlace)
     → (own_lines : NodePlace → Own → List Line) → Option (Root Own) → List Line
 lines_of_tree tree own_lines None = []
 lines_of_tree tree own_lines (Some root) =
-    let place = record { tree = tree; names = [] } in
+    let place : NodePlace = node_at tree [] in
     place_words (codes "node") place
     ∷ (own_lines place root.own ++ lines_of_nodes tree own_lines [] root.children)
 
@@ -228,12 +228,15 @@ inside_lines payload (Some tree) =
     tree.reservations
     ++ lines_of_tree (Inside payload) property_lines tree.root)
 
--- The line of a payload that begins with these words, unless its bytes are left out, and the lines
--- of what is inside it.
+-- The line of a payload that begins with these words, unless its bytes are left out.
+abbrev pub bytes_lines : (words : Line) → Option (List ℕ) → List Line
+bytes_lines words None = []
+bytes_lines words (Some bytes) = (words ++ digest_words (digest_of_payload bytes)) ∷ []
+
+-- That line, and the lines of what is inside the payload.
 abbrev pub payload_lines : PayloadPlace → (words : Line) → ComparedPayload → List Line
-payload_lines place words (record { bytes = None; inside = inside }) = inside_lines place inside
-payload_lines place words (record { bytes = Some bytes; inside = inside }) =
-    (words ++ digest_words (digest_of_payload bytes)) ∷ inside_lines place inside
+payload_lines place words payload =
+    bytes_lines words payload.bytes ++ inside_lines place payload.inside
 
 -- The lines of the payload of an image node with this name.
 abbrev pub payload_lines_of_image : NodePlace → (name : List ℕ) → NodePayload → List Line

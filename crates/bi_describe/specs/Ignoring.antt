@@ -1,6 +1,6 @@
 use Rattle.std.specs.Prelude.{ℕ, ◌==◌, ◌&&◌, ◌||◌, Bool, true, false, List, [], ◌∷◌, ◌++◌}
 use Rattle.std.specs.Prelude.{codes, bytes_eq}
-use Rattle.core.specs.Cmp.Lexicographic.{pointwise}
+use Rattle.std.specs.Cmp.Lexicographic.{pointwise}
 use Rattle.std.specs.Fmt.{decimal}
 use Rattle.std.specs.List.{list_any}
 use Rattle.bi_fit.specs.Names.{images_name, configurations_name, is_signature_name}
@@ -23,6 +23,9 @@ pub data TreePlace : Type 0 where
 pub record NodePlace : Type 0 where
   pub tree : TreePlace
   pub names : List (List ℕ)
+
+abbrev pub node_at : TreePlace → (names : List (List ℕ)) → NodePlace
+node_at tree names = record { tree = tree; names = names }
 
 -- What a word leaves out: the time, the signatures, a node and all that is below it, a property of
 -- a node, or a part of a legacy image and all that is inside it.
@@ -56,12 +59,15 @@ abbrev pub is_same_node : (one other : NodePlace) → Bool
 is_same_node one other =
     is_same_tree one.tree other.tree && are_names_equal one.names other.names
 
--- The node is a child of an image or of a configuration, and its name begins with `signature`. Only
--- nodes of the tree of the image itself are meant.
-abbrev pub is_signature : NodePlace → Bool
-is_signature (record { tree = Itself; names = top ∷ parent ∷ name ∷ [] }) =
+-- The node with these names is a child of an image or of a configuration, and its name begins with
+-- `signature`. Only nodes of the tree of the image itself are meant.
+abbrev pub is_signature_in : TreePlace → (names : List (List ℕ)) → Bool
+is_signature_in Itself (top ∷ parent ∷ name ∷ []) =
     (bytes_eq top images_name || bytes_eq top configurations_name) && is_signature_name name
-is_signature place = false
+is_signature_in tree names = false
+
+abbrev pub is_signature : NodePlace → Bool
+is_signature place = is_signature_in place.tree place.names
 
 -- The word leaves out this node, and not only because it leaves out one above it.
 abbrev pub names_node : NodePlace → Ignored → Bool
@@ -125,12 +131,14 @@ abbrev pub payload_path : PayloadPlace → List ℕ
 payload_path (OfImageNamed name) = path (images_name ∷ name ∷ [])
 payload_path (OfPart index) = codes "part-" ++ decimal index
 
--- The path of a node. Inside a payload it is the path of the payload, a slash, and the path of the
--- node in its tree.
+-- The path of a node with these names. Inside a payload it is the path of the payload, a slash, and
+-- the path of the node in its tree.
+abbrev pub path_in : TreePlace → (names : List (List ℕ)) → List ℕ
+path_in Itself names = path names
+path_in (Inside payload) names = payload_path payload ++ codes "/" ++ path names
+
 abbrev pub place_path : NodePlace → List ℕ
-place_path (record { tree = Itself; names = names }) = path names
-place_path (record { tree = Inside payload; names = names }) =
-    payload_path payload ++ codes "/" ++ path names
+place_path place = path_in place.tree place.names
 
 -- The text of a word.
 abbrev pub ignored_text : Ignored → List ℕ

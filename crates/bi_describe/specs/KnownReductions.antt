@@ -20,13 +20,17 @@ use Rattle.bi_describe.specs.ReducedMeanings.{ComparedPair, reduced_one}
 abbrev pub only_model : List Property
 only_model = (codes "model", codes "m" ++ 0 ∷ []) ∷ []
 
+-- Those of the root of the tree.
+abbrev pub only_time : List Property
+only_time = (codes "timestamp", 0 ∷ 0 ∷ 0 ∷ 1 ∷ []) ∷ []
+
 -- A tree with the image `a`, whose payload is `abc`, and with a signature node below it.
 abbrev pub signed_tree : ImageTree
 signed_tree = record {
   cpu = 0;
   reservations = [];
   root = record {
-    own = from_sorted ((codes "timestamp", 0 ∷ 0 ∷ 0 ∷ 1 ∷ []) ∷ []);
+    own = from_sorted only_time;
     children = node images_name empty
         (node (codes "a") empty (node (codes "signature-1") empty none none) none) none;
   };

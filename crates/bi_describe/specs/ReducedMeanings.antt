@@ -14,7 +14,7 @@ use Rattle.bi_describe.specs.DeepMeanings.{WithoutPayload, WithPayload, last_nam
 use Rattle.bi_describe.specs.DeepMeanings.{compared_lines, compared_meaning}
 use Rattle.bi_describe.specs.Differences.{ComparedLine, SignedLine, differences, line_to_compare}
 use Rattle.bi_describe.specs.Ignoring.{Ignored, NodePlace, TreePlace, Itself, Inside}
-use Rattle.bi_describe.specs.Ignoring.{PayloadPlace, OfImageNamed, OfPart, is_node_ignored}
+use Rattle.bi_describe.specs.Ignoring.{PayloadPlace, OfImageNamed, OfPart, is_node_ignored, node_at}
 use Rattle.bi_describe.specs.Ignoring.{is_looked_inside, is_part_ignored, is_property_ignored}
 use Rattle.bi_describe.specs.Ignoring.{is_same_payload, is_time_ignored}
 
@@ -33,7 +33,7 @@ abbrev pub kept_nodes : {Own : Type 0} → List Ignored → (keep : NodePlace �
     → (above : List (List ℕ)) → Nodes Own → Nodes Own
 kept_nodes words keep tree above none = none
 kept_nodes words keep tree above (node name own children later) =
-    let place = record { tree = tree; names = above ++ name ∷ [] } in
+    let place : NodePlace = node_at tree (above ++ name ∷ []) in
     if is_node_ignored words place then kept_nodes words keep tree above later
     else node name (keep place own) (kept_nodes words keep tree (above ++ name ∷ []) children)
     (kept_nodes words keep tree above later)
@@ -43,7 +43,7 @@ abbrev pub kept_root : {Own : Type 0} → List Ignored → (keep : NodePlace →
     → Option (Root Own) → Option (Root Own)
 kept_root words keep tree None = None
 kept_root words keep tree (Some root) =
-    let place = record { tree = tree; names = [] } in
+    let place : NodePlace = node_at tree [] in
     if is_node_ignored words place then None
     else Some (record {
       own = keep place root.own;
