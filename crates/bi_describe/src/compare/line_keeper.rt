@@ -6,7 +6,8 @@ ghost use Rattle.bi_base.specs.MemoryPens.{MemoryPuts, memory_puts_nothing, memo
 ghost use Rattle.bi_common.specs.LineTokens.{NextField, is_nothing, line_token_text, space};
 ghost use Rattle.bi_common.specs.MadeFields.{field_of};
 ghost use Rattle.bi_describe.specs.Differences.{words_of_key as words_of, words_of_key_named};
-ghost use Rattle.bi_describe.specs.Differences.{is_reservation as is_reservation_word, missing_words};
+ghost use Rattle.bi_describe.specs.Differences.{is_reservation as is_reservation_word};
+ghost use Rattle.bi_describe.specs.Differences.{missing_words};
 ghost use Rattle.bi_describe.specs.LineKeeping.{Keeping, Keeps, KeeperPuts, line_after_word};
 ghost use Rattle.bi_describe.specs.LineKeeping.{end_mark};
 ghost use Rattle.bi_describe.specs.LineKeeping.{keeper_puts_nothing, keeper_puts_in_turn};
