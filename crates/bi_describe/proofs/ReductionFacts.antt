@@ -48,8 +48,8 @@ pub reductions_are_known : ReductionsAreKnown
 unfolding digits cell cell8
 reductions_are_known = record {
   deep = rw (sorted_entries only_time tt, sorted_entries only_model tt, no_entries) refl;
-  opened = rw (entries_kept, entries_kept, entries_kept, entries_kept, entries_kept, sorted_entries only_time tt, sorted_entries only_model tt, no_entries) refl;
-  no_root = rw (entries_kept, entries_kept, entries_kept, entries_kept, sorted_entries only_time tt, no_entries) refl;
+  opened = rw (entries_kept, entries_kept, entries_kept, sorted_entries only_time tt, sorted_entries only_model tt, no_entries) refl;
+  no_root = rw (entries_kept, entries_kept, sorted_entries only_time tt, no_entries) refl;
   nothing = refl;
   text = refl;
   part = refl;
