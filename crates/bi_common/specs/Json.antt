@@ -53,7 +53,8 @@ string_or_null (Some bytes) = json_string bytes
 
 -- ---- texts
 
--- Whether a byte stands for itself in a string: it is printable, and neither `"` nor a backslash.
+-- Whether a string can hold a byte without an escape: it is printable, and neither `"` nor a
+-- backslash.
 abbrev pub is_plain_byte : ℕ → Bool
 is_plain_byte byte = is_printable byte && not (needs_backslash byte)
 

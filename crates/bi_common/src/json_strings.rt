@@ -57,15 +57,15 @@ impl<'a, P: Pen> Pen for StringPen<'a, P> {
     ghost puts_in_turn = { string_puts_in_turn P.puts P.puts_in_turn };
 }
 
-/// Returns whether each of these bytes stands for itself in a string.
+/// Returns whether a string can hold each of these bytes without an escape.
 fn are_plain(bytes: &[u8]) -> bool
     ensures { result ≡ list_all is_plain_byte bytes.now }
 {
     bytes.iter().all(|byte| is_plain(*byte))
 }
 
-/// Returns whether a byte stands for itself in a string: it is printable, and neither `"` nor a
-/// backslash.
+/// Returns whether a string can hold a byte without an escape: it is printable, and neither `"` nor
+/// a backslash.
 fn is_plain(byte: u8) -> bool
     ensures { result ≡ is_plain_byte byte }
 {

@@ -111,7 +111,7 @@ impl<'a> Fit<'a> {
     }
 
     /// Returns the position of the node `/images` among the children of the root, counted from 0.
-    pub fn images_position(&self) -> usize
+    pub(crate) fn images_position(&self) -> usize
         ensures { IsImagesPosition self.now.blob result }
     {
         self.images_position
