@@ -6,15 +6,18 @@ use Rattle.bi_base.specs.Limits.{Limits}
 use Rattle.bi_blob.specs.Blob.{IsBlob, IsWithin, Reservation}
 use Rattle.bi_blob.specs.Tree.{Nodes, none, node, FileNode, PropertyMap, Root, with_each}
 use Rattle.bi_blob.specs.Tree.{tree_without_places, tree_without_order}
-use Rattle.bi_fit.specs.ImageTree.{ImageTree, image_nodes}
+use Rattle.bi_blob.specs.Lookups.{node_named}
+use Rattle.bi_fit.specs.ImageTree.{ImageTree}
 use Rattle.bi_fit.specs.Names.{images_name}
 use Rattle.bi_legacy.specs.Meaning.{LegacyImage}
 use Rattle.bi_norm.specs.Meaning.{Meaning, OfLegacy, OfFit}
 use Rattle.bi_common.specs.CommonLines.{header_lines, reservation_line}
-use Rattle.bi_common.specs.Lines.{Line, Text, Name, Decimal, Value, text_of_lines}
+use Rattle.bi_common.specs.Lines.{Field, Line, Text, Decimal, Path, text_of_lines}
 use Rattle.bi_describe.specs.Descriptions.{digest_of_payload, digest_words, head_lines}
-use Rattle.bi_describe.specs.Ignoring.{PayloadPlace, OfImageNamed, OfPart, TreePlace, Itself}
-use Rattle.bi_describe.specs.Ignoring.{Inside, NodePlace, node_at, place_path, payload_path}
+use Rattle.bi_describe.specs.Descriptions.{lines_with, node_line, own_lines_at, plain_node}
+use Rattle.bi_describe.specs.Descriptions.{property_line}
+use Rattle.bi_describe.specs.Ignoring.{PayloadPlace, OfImageNamed, OfPart, path_inside}
+use Rattle.bi_describe.specs.Ignoring.{payload_path}
 
 -- What an image means, with the devicetrees that are inside its payloads, and how both are
 -- described (profile of this project). A deep description has lines for what is inside; without
@@ -35,7 +38,7 @@ pub record IsDevicetree (limits : Limits) (payload : List ℕ) (tree : Devicetre
   pub root : Root FileNode
   pub blob : IsBlob payload tree.cpu tree.reservations root
   pub within : IsWithin limits payload root
-  pub no_images : image_nodes root ≡ None
+  pub no_images : node_named root.children images_name ≡ None
   pub is_root : tree.root ≡ tree_without_order (tree_without_places root)
 
 -- What is inside a payload: a devicetree, or nothing if it is none.
@@ -185,48 +188,38 @@ compared_meaning (OfFit tree) insides =
 
 -- ---- the description
 
--- The words of a line about a node: what the line is, and the path of the node.
-abbrev pub place_words : (kind : List ℕ) → NodePlace → Line
-place_words kind place = Text kind ∷ Text (place_path place) ∷ []
+-- The path of a node inside the payload with this path, by the names of the nodes on the way to it.
+abbrev pub inside_path : (payload : List ℕ) → (names : List (List ℕ)) → Field
+inside_path payload names = Text (path_inside payload names)
 
--- The lines of properties, in byte order of their names.
-abbrev pub property_lines : NodePlace → PropertyMap → List Line
-property_lines place properties =
-    map (λ property. place_words (codes "property") place
-    ++ Name property.0 ∷ Value property.1 ∷ []) (entries properties)
+-- The lines of a tree inside the payload with this path, the root first: those of its nodes and
+-- properties, as of the nodes of a flattened image tree that are no image nodes. There are none if
+-- the root is left out.
+abbrev pub lines_of_inside : (payload : List ℕ) → Option (Root PropertyMap) → List Line
+lines_of_inside payload None = []
+lines_of_inside payload (Some root) =
+    own_lines_at (inside_path payload []) (plain_node root.own)
+    ++ lines_with (λ names own. own_lines_at (inside_path payload names) own) []
+    (with_each plain_node root.children)
 
--- The lines of nodes, each before those of its children. After the line of a node come those of
--- what it has itself.
-abbrev pub lines_of_nodes : {Own : Type 0} → (tree : TreePlace)
-    → (own_lines : NodePlace → Own → List Line) → (above : List (List ℕ)) → Nodes Own → List Line
-lines_of_nodes tree own_lines above none = []
-lines_of_nodes tree own_lines above (node name own children later) =
-    let place : NodePlace = node_at tree (above ++ name ∷ []) in
-    place_words (codes "node") place
-    ∷ (own_lines place own ++ (lines_of_nodes tree own_lines (above ++ name ∷ []) children
-    ++ lines_of_nodes tree own_lines above later))
+-- The line of the boot processor.
+abbrev pub inside_cpu_line : (payload : List ℕ) → (cpu : ℕ) → Line
+inside_cpu_line payload cpu =
+    Text (codes "inside") ∷ Text payload ∷ Text (codes "boot-cpu") ∷ Decimal cpu ∷ []
 
--- The lines of a tree, the root first. There are none if the root is left out.
-abbrev pub lines_of_tree : {Own : Type 0} → (tree : TreePlace)
-    → (own_lines : NodePlace → Own → List Line) → Option (Root Own) → List Line
-lines_of_tree tree own_lines None = []
-lines_of_tree tree own_lines (Some root) =
-    let place : NodePlace = node_at tree [] in
-    place_words (codes "node") place
-    ∷ (own_lines place root.own ++ lines_of_nodes tree own_lines [] root.children)
+-- The line of a memory reservation: as that of a reservation of the image itself, but for the two
+-- words before it.
+abbrev pub inside_reservation_line : (payload : List ℕ) → Reservation → Line
+inside_reservation_line payload reservation =
+    Text (codes "inside") ∷ Text payload ∷ reservation_line reservation
 
--- The words with which a line about what is inside a payload begins.
-abbrev pub inside_words : PayloadPlace → Line
-inside_words payload = Text (codes "inside") ∷ Text (payload_path payload) ∷ []
-
--- The lines of what is inside a payload.
-abbrev pub inside_lines : PayloadPlace → Option InsideTree → List Line
+-- The lines of what is inside the payload with this path.
+abbrev pub inside_lines : (payload : List ℕ) → Option InsideTree → List Line
 inside_lines payload None = []
 inside_lines payload (Some tree) =
-    (inside_words payload ++ Text (codes "boot-cpu") ∷ Decimal tree.cpu ∷ [])
-    ∷ (map (λ reservation. inside_words payload ++ reservation_line reservation)
-    tree.reservations
-    ++ lines_of_tree (Inside payload) property_lines tree.root)
+    inside_cpu_line payload tree.cpu
+    ∷ (map (inside_reservation_line payload) tree.reservations
+    ++ lines_of_inside payload tree.root)
 
 -- The line of a payload that begins with these words, unless its bytes are left out.
 abbrev pub bytes_lines : (words : Line) → Option (List ℕ) → List Line
@@ -236,15 +229,7 @@ bytes_lines words (Some bytes) = (words ++ digest_words (digest_of_payload bytes
 -- That line, and the lines of what is inside the payload.
 abbrev pub payload_lines : PayloadPlace → (words : Line) → ComparedPayload → List Line
 payload_lines place words payload =
-    bytes_lines words payload.bytes ++ inside_lines place payload.inside
-
--- The lines of the payload of an image node with this name.
-abbrev pub payload_lines_of_image : NodePlace → (name : List ℕ) → NodePayload → List Line
-payload_lines_of_image place name NotAnImage = []
-payload_lines_of_image place name WithoutPayload =
-    (place_words (codes "payload") place ++ Text (codes "none") ∷ []) ∷ []
-payload_lines_of_image place name (WithPayload payload) =
-    payload_lines (OfImageNamed name) (place_words (codes "payload") place) payload
+    bytes_lines words payload.bytes ++ inside_lines (payload_path place) payload.inside
 
 -- The last of these names. The root has none.
 abbrev pub last_name : List (List ℕ) → List ℕ
@@ -252,11 +237,26 @@ last_name [] = []
 last_name (name ∷ []) = name
 last_name (name ∷ next ∷ later) = last_name (next ∷ later)
 
--- The lines of what a node of the image itself has.
-abbrev pub node_own_lines : NodePlace → ComparedNode → List Line
-node_own_lines place own =
-    payload_lines_of_image place (last_name place.names) own.payload
-    ++ property_lines place own.properties
+-- The lines of the payload of an image node.
+abbrev pub payload_lines_of_image : (names : List (List ℕ)) → NodePayload → List Line
+payload_lines_of_image names NotAnImage = []
+payload_lines_of_image names WithoutPayload =
+    (Text (codes "payload") ∷ Path names ∷ Text (codes "none") ∷ []) ∷ []
+payload_lines_of_image names (WithPayload payload) =
+    payload_lines (OfImageNamed (last_name names)) (Text (codes "payload") ∷ Path names ∷ []) payload
+
+-- The lines of a node of the image itself without those of its children.
+abbrev pub compared_own_lines : (names : List (List ℕ)) → ComparedNode → List Line
+compared_own_lines names own =
+    node_line names
+    ∷ (payload_lines_of_image names own.payload
+    ++ map (property_line names) (entries own.properties))
+
+-- The lines of a tree, the root first. There are none if the root is left out.
+abbrev pub lines_of_root : Option (Root ComparedNode) → List Line
+lines_of_root None = []
+lines_of_root (Some root) =
+    compared_own_lines [] root.own ++ lines_with compared_own_lines [] root.children
 
 -- The lines of parts.
 abbrev pub lines_of_parts : List (ℕ × ComparedPayload) → List Line
@@ -281,7 +281,7 @@ compared_lines (LegacyCompared image) =
 compared_lines (TreeCompared tree) =
     head_lines tree.cpu
     ++ (map reservation_line tree.reservations
-    ++ lines_of_tree Itself node_own_lines tree.root)
+    ++ lines_of_root tree.root)
 
 -- The lines of the deep description of a meaning, inside whose payloads is this.
 abbrev pub deep_lines : Meaning → List (Option Devicetree) → List Line

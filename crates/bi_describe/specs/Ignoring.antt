@@ -131,11 +131,15 @@ abbrev pub payload_path : PayloadPlace → List ℕ
 payload_path (OfImageNamed name) = path (images_name ∷ name ∷ [])
 payload_path (OfPart index) = codes "part-" ++ decimal index
 
--- The path of a node with these names. Inside a payload it is the path of the payload, a slash, and
--- the path of the node in its tree.
+-- The path of a node inside the payload with this path: the path of the payload, a slash, and the
+-- path of the node in its tree.
+abbrev pub path_inside : (payload : List ℕ) → (names : List (List ℕ)) → List ℕ
+path_inside payload names = payload ++ (codes "/" ++ path names)
+
+-- The path of a node with these names.
 abbrev pub path_in : TreePlace → (names : List (List ℕ)) → List ℕ
 path_in Itself names = path names
-path_in (Inside payload) names = payload_path payload ++ codes "/" ++ path names
+path_in (Inside payload) names = path_inside (payload_path payload) names
 
 abbrev pub place_path : NodePlace → List ℕ
 place_path place = path_in place.tree place.names

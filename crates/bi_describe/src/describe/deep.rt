@@ -174,7 +174,7 @@ fn of_fit<'a, 'b>(
 ) -> Result<DeepImage<'a, 'b>, Error> {
     let bounded = BoundedFit::new(fit, limits)?;
     let order = fit.name_order(alloc, limits.file())?;
-    let entries = entries_of(alloc, bounded, &order)?;
+    let entries = entries_of(alloc, bounded, &order.properties)?;
     let digests = payloads_of(alloc, bounded)?;
     let mut payloads = Vec::new(alloc);
     for image in fit.images() {
@@ -214,7 +214,7 @@ fn put_tree<'a, L: LinePen>(
     payloads: &[DeepPayload],
     pen: &mut L,
 ) {
-    put_node(&[], pen);
+    put_node(Field::Path(&[]), pen);
     let mut open = 0;
     let mut at = 0;
     for entry in entries {
@@ -223,13 +223,13 @@ fn put_tree<'a, L: LinePen>(
             Entry::Payload(_) => {
                 if let Some(payload) = payloads.get(at) {
                     if !payload.is_opened {
-                        put_entry(*entry, &names[..open], pen);
+                        put_entry(*entry, Field::Path(&names[..open]), pen);
                     }
                     put_inside(payload, pen);
                 }
                 at += 1;
             }
-            _ => put_entry(*entry, &names[..open], pen),
+            _ => put_entry(*entry, Field::Path(&names[..open]), pen),
         }
     }
 }

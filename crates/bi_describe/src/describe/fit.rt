@@ -61,7 +61,7 @@ impl<'a, 'b> DescribedFit<'a, 'b> {
     {
         let bounded = BoundedFit::new(fit, limits)?;
         let order = fit.name_order(alloc, limits.file())?;
-        let entries = entries_of(alloc, bounded, &order)?;
+        let entries = entries_of(alloc, bounded, &order.properties)?;
         let names = vec![in alloc; b"".as_slice(); most_open(&entries)]?;
         Ok(DescribedFit {
             blob: fit.blob(),

@@ -1,13 +1,26 @@
 //! The devicetree inside a payload.
 
+mod blobs;
+mod lines;
+mod paths;
+
+ghost use Rattle.std.specs.Prelude.{◌≡◌, IfOk, IfErr, OnOk, map};
+ghost use Rattle.bi_common.specs.LineTokens.{tokens_of_lines};
+ghost use Rattle.bi_describe.specs.DeepMeanings.{InsideTree as Tree, inside_lines};
+ghost use Rattle.bi_describe.specs.InsideTrees.{HasPaths, IsInside, IsInsideError, IsInsideOf};
+ghost use Rattle.bi_describe.specs.InsideTrees.{IsPathsError};
+ghost use Rattle.std.specs.Prelude.{Some};
+
 use super::entries::Entry;
 use super::json::{put_processor, put_reservations_member, put_root};
-use bi_base::{Cause, Error, Limits, MemoryPen, Pen, refuse};
-use bi_common::fields::{Field, put_field};
+use bi_base::{Error, Limits};
 use bi_common::json_writer::JsonPen;
-use bi_common::lines::{LinePen, put_line};
-use bi_fdt::{Blob, NodeRef, PropertyOrder, keys_at, rank_names};
-use std::alloc::{AllocError, Global};
+use bi_common::lines::LinePen;
+use bi_fdt::Blob;
+use blobs::{check_names, entries_of_blob, read_blob};
+use lines::put_inside_lines;
+use paths::paths_of;
+use std::alloc::Global;
 
 /// A devicetree inside a payload.
 #[derive(Drop)]
@@ -17,8 +30,8 @@ pub(crate) struct InsideTree<'a> {
     pub(crate) has_root: bool,
     /// The properties of the root, and the nodes below it.
     pub(crate) entries: Vec<Entry<'a>>,
-    /// The paths of the nodes, the root first.
-    paths: Vec<Vec<u8>>,
+    /// The paths of the nodes, the root first, once they are computed.
+    pub(crate) paths: Vec<Vec<u8>>,
 }
 
 impl<'a> InsideTree<'a> {
@@ -29,17 +42,15 @@ impl<'a> InsideTree<'a> {
         alloc: Global,
         payload: &'a [u8],
         limits: Limits,
-    ) -> Result<Option<InsideTree<'a>>, Error> {
-        let blob = match Blob::read(alloc, payload, limits) {
-            Ok(blob) => blob,
-            Err(Error::Refused(_)) => return Ok(None),
-            Err(_) => return Err(Error::OutOfMemory),
-        };
-        if blob.root().child(b"images").is_some() {
+    ) -> Result<Option<InsideTree<'a>>, Error>
+        ensures inside { IfOk result (IsInsideOf limits payload.entry.now) }
+        ensures failed { IfErr result (IsInsideError limits payload.entry.now) }
+    {
+        let Some(blob) = read_blob(alloc, payload, limits)? else {
             return Ok(None);
-        }
+        };
         check_names(blob.names(), limits.file())?;
-        let entries = entries_inside(alloc, &blob)?;
+        let entries = entries_of_blob(alloc, &blob)?;
         Ok(Some(InsideTree {
             blob,
             has_root: true,
@@ -50,27 +61,31 @@ impl<'a> InsideTree<'a> {
 
     /// Computes the paths of the nodes, by the path of the payload.
     ///
-    /// Errors: TooLarge, if they are together longer than the limit; OutOfMemory.
+    /// Errors: TooLarge at the limit, if they are together longer than that; OutOfMemory.
     pub(crate) fn find_paths(
         &mut self,
         alloc: Global,
         payload: &[u8],
         limits: Limits,
-    ) -> Result<(), Error> {
+    ) -> Result<(), Error>
+        ensures found { OnOk result (HasPaths payload.now self.new) }
+        ensures same { (tree : Tree) → IsInside tree self.old → IsInside tree self.new }
+        ensures failed { IfErr result (IsPathsError limits payload.now self.old) }
+    {
         self.paths = paths_of(alloc, payload, &self.entries, limits.file())?;
         Ok(())
     }
 
-    /// Puts the lines. The payload has this path.
-    pub(crate) fn put_lines<L: LinePen>(&self, payload: &[u8], pen: &mut L) {
-        put_boot_cpu(payload, self.blob.boot_cpu(), pen);
-        for index in 0..self.blob.reservation_count() {
-            if let Some(reservation) = self.blob.reservation(index) {
-                put_reservation(payload, reservation, pen);
-            }
-        }
+    /// Puts the lines. Requires: the payload has this path, by which those of the nodes are
+    /// computed.
+    pub(crate) fn put_lines<L: LinePen>(&self, payload: &[u8], pen: &mut L)
+        requires paths { HasPaths payload.now self.now }
+        ensures { (tree : Tree) → IsInside tree self.now
+            → L.puts pen.old (tokens_of_lines (inside_lines payload.now (Some tree))) pen.new }
+    {
+        put_inside_lines(payload, &self.blob, pen);
         if self.has_root {
-            put_entries(&self.entries, &self.paths, pen);
+            lines::put_tree(&self.entries, &self.paths, pen);
         }
     }
 
@@ -80,179 +95,4 @@ impl<'a> InsideTree<'a> {
         put_reservations_member(&self.blob, json);
         put_root(&self.entries, json);
     }
-}
-
-/// Checks that the names of 64 bytes and more are together no longer than a limit.
-fn check_names(names: &[&[u8]], limit: u32) -> Result<(), Error> {
-    let mut room = limit as usize;
-    for name in names {
-        if name.len() >= 64 {
-            if name.len() > room {
-                return Ok(refuse(Cause::TooLarge, limit)?);
-            }
-            room -= name.len();
-        }
-    }
-    Ok(())
-}
-
-/// Returns the entries of the tree of a blob: those of the properties of the root, and those of all
-/// nodes below it. Fails if memory runs out.
-fn entries_inside<'a>(alloc: Global, blob: &Blob<'a>) -> Result<Vec<Entry<'a>>, AllocError> {
-    let ranked = rank_names(alloc, blob.names())?;
-    let keys = keys_at(alloc, &ranked.ranks, &blob.name_numbers(alloc)?)?;
-    let order = PropertyOrder::new(alloc, blob, &keys)?;
-    let mut entries = Vec::new(alloc);
-    add_own(&mut entries, blob.root(), &order)?;
-    add_children(&mut entries, blob.root(), &order)?;
-    Ok(entries)
-}
-
-/// Appends the entries of the properties of a node, in byte order of their names.
-fn add_own<'a>(
-    entries: &mut Vec<Entry<'a>>,
-    node: NodeRef<'a, '_>,
-    order: &PropertyOrder,
-) -> Result<(), AllocError> {
-    entries.push(Entry::Properties)?;
-    for (_, property) in node.properties_in(order) {
-        entries.push(Entry::Property {
-            name: property.name,
-            value: property.value,
-        })?;
-    }
-    entries.push(Entry::Children)?;
-    Ok(())
-}
-
-/// Appends the entries of the children of a node, and of all nodes below them.
-fn add_children<'a>(
-    entries: &mut Vec<Entry<'a>>,
-    node: NodeRef<'a, '_>,
-    order: &PropertyOrder,
-) -> Result<(), AllocError> {
-    let mut next = node.first_child();
-    while let Some(child) = next {
-        entries.push(Entry::Begin(child.name()))?;
-        add_own(entries, child, order)?;
-        add_children(entries, child, order)?;
-        entries.push(Entry::End)?;
-        next = child.next_sibling();
-    }
-    Ok(())
-}
-
-/// Returns the paths of the nodes in a tree with these entries, the root first.
-///
-/// Errors: TooLarge at the limit, if they are together longer than that; OutOfMemory.
-fn paths_of(
-    alloc: Global,
-    payload: &[u8],
-    entries: &[Entry],
-    limit: u32,
-) -> Result<Vec<Vec<u8>>, Error> {
-    let mut paths = Vec::new(alloc);
-    let mut names = Vec::new(alloc);
-    let mut room = limit as usize;
-    push_path(alloc, &mut paths, payload, &names, &mut room, limit)?;
-    for entry in entries {
-        match entry {
-            Entry::Begin(name) => {
-                names.push(*name)?;
-                push_path(alloc, &mut paths, payload, &names, &mut room, limit)?;
-            }
-            Entry::End => {
-                let _ = names.pop();
-            }
-            _ => {}
-        }
-    }
-    Ok(paths)
-}
-
-/// Appends the path of the node with these names inside a payload, for which there must be room.
-fn push_path(
-    alloc: Global,
-    paths: &mut Vec<Vec<u8>>,
-    payload: &[u8],
-    names: &[&[u8]],
-    room: &mut usize,
-    limit: u32,
-) -> Result<(), Error> {
-    let mut pen = MemoryPen::new(alloc);
-    pen.put(payload);
-    pen.put(b"/");
-    put_field(Field::Path(names), &mut pen);
-    let path = pen.into_vec()?;
-    match room.checked_sub(path.len()) {
-        Some(later) => *room = later,
-        None => return Ok(refuse(Cause::TooLarge, limit)?),
-    }
-    paths.push(path)?;
-    Ok(())
-}
-
-/// Puts the line of the boot processor.
-fn put_boot_cpu<L: LinePen>(payload: &[u8], boot_cpu: u32, pen: &mut L) {
-    let words = [
-        Field::Text(b"inside"),
-        Field::Text(payload),
-        Field::Text(b"boot-cpu"),
-        Field::Decimal(u64::from(boot_cpu)),
-    ];
-    put_line(&words, pen);
-}
-
-/// Puts the line of a memory reservation.
-fn put_reservation<L: LinePen>(payload: &[u8], reservation: (u64, u64), pen: &mut L) {
-    let words = [
-        Field::Text(b"inside"),
-        Field::Text(payload),
-        Field::Text(b"reservation"),
-        Field::Hexadecimal64(reservation.0),
-        Field::Hexadecimal64(reservation.1),
-    ];
-    put_line(&words, pen);
-}
-
-/// Puts the lines of the nodes, which have these paths.
-fn put_entries<L: LinePen>(entries: &[Entry], paths: &[Vec<u8>], pen: &mut L) {
-    let mut at = 0;
-    put_node(path_at(paths, at), pen);
-    for entry in entries {
-        match entry {
-            Entry::Begin(_) => {
-                at += 1;
-                put_node(path_at(paths, at), pen);
-            }
-            Entry::Property { name, value } => {
-                put_property(path_at(paths, at), name, value, pen);
-            }
-            _ => {}
-        }
-    }
-}
-
-/// Returns the path of a node, by its number.
-fn path_at(paths: &[Vec<u8>], index: usize) -> &[u8] {
-    match paths.get(index) {
-        Some(path) => path.as_slice(),
-        None => b"",
-    }
-}
-
-/// Puts the line of a node.
-fn put_node<L: LinePen>(path: &[u8], pen: &mut L) {
-    put_line(&[Field::Text(b"node"), Field::Text(path)], pen);
-}
-
-/// Puts the line of a property.
-fn put_property<L: LinePen>(path: &[u8], name: &[u8], value: &[u8], pen: &mut L) {
-    let words = [
-        Field::Text(b"property"),
-        Field::Text(path),
-        Field::Shown(name),
-        Field::Value(value),
-    ];
-    put_line(&words, pen);
 }
