@@ -1,4 +1,4 @@
-use Rattle.std.proofs.Common.{◌≡◌, ◌+◌, ◌≤◌, ℕ, List, [], ◌∷◌, ◌++◌, length, map, flat_map, refl, sym, ap, ◌∙◌, append_assoc, append-nil}
+use Rattle.std.proofs.Common.{◌≡◌, ◌+◌, ◌≤◌, ℕ, List, [], ◌∷◌, ◌++◌, Option, Some, None, length, map, flat_map, refl, sym, ap, ◌∙◌, append_assoc, append-nil}
 use Rattle.std.proofs.Common.{arith, length-append, rules, drop, take}
 use Rattle.std.specs.FinMap.{entries}
 use Rattle.std.proofs.lemmas.Grind.{flat_map-append}
@@ -6,9 +6,13 @@ use Rattle.bi_blob.specs.Tree.{Nodes, none, node, Property, PropertyMap, Root, w
 use Rattle.bi_common.specs.Lines.{Line, Text}
 use Rattle.bi_describe.specs.Descriptions.{DescribedNode, NodePayload, NotAnImage, OfImage, lines_with, node_line_at, own_lines_at}
 use Rattle.bi_describe.specs.Descriptions.{payload_lines_at, plain_node, property_line_at}
-use Rattle.bi_describe.specs.DeepMeanings.{inside_path}
+use Rattle.bi_describe.specs.DeepMeanings.{InsideTree, inside_cpu_line, inside_lines, inside_path, inside_reservation_line}
+use Rattle.bi_describe.specs.DeepMeanings.{lines_of_inside}
 use Rattle.bi_describe.specs.Ignoring.{path_inside}
-use Rattle.bi_describe.specs.InsideTrees.{begun_paths, lines_by_paths}
+use Rattle.bi_describe.specs.declared.describe.inside.InsideTree as made
+use Rattle.bi_describe.specs.InsideTrees.{HasEntries, HasPaths, IsInside, begun_paths, lines_by_paths, made_inside_lines, made_tree_lines}
+use Rattle.bi_describe.specs.InsideTrees.{path_texts}
+use Rattle.bi_describe.specs.TreeEntries.{as_entry}
 use Rattle.bi_describe.specs.TreeEntries.{EntryModel, NodeEnds, PropertyEntry, ChildrenBegin, node_entries, own_entries, payload_entries}
 use Rattle.bi_describe.specs.TreeEntries.{plain_tree_entries, property_entries}
 use Rattle.bi_describe.proofs.TreeLines.{closed}
@@ -81,3 +85,14 @@ tree_by_paths payload root =
     ∙ ap (λ (lines : List Line). own ++ lines) (ap (lines_from payload [] path) (sym (append-nil (node_entries nodes)))
     ∙ nodes_before payload [] nodes [] [] (λ path. refl) path
     ∙ append-nil (inside_nodes payload [] nodes)))
+
+-- What the code puts for a tree is the lines of the tree, if the paths of its nodes are computed.
+pub inside_lines_are : (payload : List ℕ) (tree : InsideTree) (inside : made.InsideTree) → HasPaths payload inside → IsInside tree inside →
+    made_inside_lines payload inside ≡ inside_lines payload (Some tree)
+inside_lines_are payload tree inside paths is =
+    (λ i. inside_cpu_line payload (is.cpu i) ∷ (map (inside_reservation_line payload) (is.reservations i) ++ by tree.root is.entries i))
+  where
+    by : (root : Option (Root PropertyMap)) → HasEntries inside.has_root (map as_entry inside.entries.items) root →
+        made_tree_lines inside.has_root (path_texts inside.paths.items) (map as_entry inside.entries.items) ≡ lines_of_inside payload root
+    by None is_none = rw is_none refl
+    by (Some root) (has, are) = rw (has, paths, are) (tree_by_paths payload root)

@@ -23,3 +23,6 @@ pub mod NextNodes
 pub mod EntriesOfNodes
 pub mod DescribedFiles
 pub mod JsonComparisons
+pub mod InsidePaths
+pub mod DeepDescriptions
+pub mod FurtherWords

@@ -19,7 +19,7 @@ sorted_entries : (properties : List Property) → T (is_sorted (slice_cmp nat_cm
 sorted_entries properties sorted = entries-from_sorted (slice_cmp nat_cmp) properties sorted
 
 -- Names that no order tells apart are both kept or both not.
-same_kept : (p : List ℕ → Bool) (name other : List ℕ) → slice_cmp nat_cmp name other ≡ Equal → p other ≡ p name
+pub same_kept : (p : List ℕ → Bool) (name other : List ℕ) → slice_cmp nat_cmp name other ≡ Equal → p other ≡ p name
 same_kept p name other tied = ap p (sym (order_tells name other tied))
 
 -- The properties that are kept by their names are those, in the same order.

@@ -2,6 +2,7 @@ use Rattle.std.specs.Prelude.{◌≡◌, ℕ, ◌+◌, List, [], ◌∷◌, ◌+
 use Rattle.std.specs.Prelude.{flat_map, bytes_eq, drop, take, if◌then◌else◌}
 use Rattle.std.specs.FinMap.{entries}
 use Rattle.std.specs.List.{AllZip}
+use Rattle.std.specs.Option.{unwrap_or}
 use Rattle.bi_base.specs.Limits.{Limits}
 use Rattle.bi_blob.specs.Blob.{IsBlob, IsWithin, Reservation}
 use Rattle.bi_blob.specs.Tree.{Nodes, none, node, FileNode, PropertyMap, Root, with_each}
@@ -167,6 +168,10 @@ fields_alone image = record {
   name = image.name;
   parts = [];
 }
+
+-- The fields with this time: 0 if it is left out.
+abbrev pub with_time : LegacyImage → Option ℕ → LegacyImage
+with_time image time = record image { time = unwrap_or time 0 }
 
 -- All that is compared of a meaning, if nothing is left out.
 abbrev pub compared_meaning : Meaning → List (Option Devicetree) → ComparedMeaning

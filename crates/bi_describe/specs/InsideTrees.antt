@@ -1,5 +1,5 @@
 use Rattle.std.specs.Prelude.{◌≡◌, ◌<◌, ℕ, Bool, true, false, List, [], ◌∷◌, ◌++◌, Option, Some, None}
-use Rattle.std.specs.Prelude.{Vec, drop, flat_map, length, map}
+use Rattle.std.specs.Prelude.{Vec, drop, flat_map, length, map, if◌then◌else◌}
 use Rattle.std.specs.declared.alloc.Global.{Global}
 use Rattle.bi_base.specs.declared.fault.Error.{Error}
 use Rattle.bi_base.specs.Errors.{IsFaultOrNoMemory}
@@ -14,7 +14,8 @@ use Rattle.bi_fdt.specs.Content.{Blob, root_of}
 use Rattle.bi_common.specs.Lines.{Line, Text}
 use Rattle.bi_describe.specs.declared.describe.inside.InsideTree as made
 use Rattle.bi_describe.specs.DeepMeanings.{Devicetree, HasInside, InsideTree, IsDevicetree}
-use Rattle.bi_describe.specs.DeepMeanings.{inside_tree}
+use Rattle.bi_describe.specs.DeepMeanings.{inside_cpu_line, inside_reservation_line, inside_tree}
+use Rattle.bi_describe.specs.Descriptions.{node_line_at}
 use Rattle.bi_describe.specs.Ignoring.{path_inside}
 use Rattle.bi_describe.specs.TreeEntries.{EntryModel, NodeBegins, as_entry, lines_of_entry_at}
 use Rattle.bi_describe.specs.TreeEntries.{open_after, plain_tree_entries}
@@ -114,6 +115,21 @@ lines_by_paths path paths [] = []
 lines_by_paths path paths (entry ∷ later) =
     lines_of_entry_at (Text (path_after path paths entry)) entry
     ++ lines_by_paths (path_after path paths entry) (paths_after paths entry) later
+
+-- The lines of a tree with these entries and these paths of its nodes. The root may be left out.
+abbrev pub made_tree_lines : (has_root : Bool) → (paths : List (List ℕ)) → List EntryModel
+    → List Line
+made_tree_lines has_root paths entries =
+    if has_root then node_line_at (Text (first_path paths))
+    ∷ lines_by_paths (first_path paths) (drop 1 paths) entries else []
+
+-- The lines of what is inside the payload with this path.
+abbrev pub made_inside_lines : (payload : List ℕ) → made.InsideTree → List Line
+made_inside_lines payload inside =
+    (inside_cpu_line payload inside.blob.cpu
+    ∷ map (inside_reservation_line payload) inside.blob.reservations)
+    ++ made_tree_lines inside.has_root (path_texts inside.paths.items)
+    (map as_entry inside.entries.items)
 
 -- ---- what is computed
 

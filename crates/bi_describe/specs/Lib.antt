@@ -1,6 +1,10 @@
 pub mod BoundedPens
 pub mod Comparing
+pub mod ComparingWith
 pub mod ComparisonJson
+pub mod DeepDescribing
+pub mod DeepJson
+pub mod DeepLaws
 pub mod DeepMeanings
 pub mod DescribedImages
 pub mod Describing

@@ -356,6 +356,9 @@ pub(crate) fn describe_image_deep<'a, 'b>(
     deep: bool,
 ) -> Result<deep::DeepImage<'a, 'b>, Error> {
     let mut described = deep::DeepImage::new(alloc, image, limits, deep)?;
+    if format == Format::Lines {
+        described.find_paths(alloc, limits)?;
+    }
     let mut room = BoundedPen::new(limits.file());
     put_deep(&mut described, format, &mut room);
     room.check(limits.file())?;

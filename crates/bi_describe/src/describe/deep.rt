@@ -80,12 +80,15 @@ impl<'a, 'b> DeepImage<'a, 'b> {
                     payload.inside = InsideTree::read(alloc, bytes, limits)?;
                 }
             }
-            image.find_paths(alloc, limits)?;
         }
         Ok(image)
     }
 
-    /// Computes the paths of the nodes inside the payloads.
+    /// Computes the paths of the nodes inside the payloads, which the lines have, and the object has
+    /// not.
+    ///
+    /// Errors: TooLarge at the limit, if those of a payload are together longer than that;
+    /// OutOfMemory.
     pub(crate) fn find_paths(&mut self, alloc: Global, limits: Limits) -> Result<(), Error> {
         for payload in &mut self.payloads {
             if let Some(inside) = &mut payload.inside {

@@ -4,12 +4,11 @@ mod blobs;
 mod lines;
 mod paths;
 
-ghost use Rattle.std.specs.Prelude.{◌≡◌, IfOk, IfErr, OnOk, map};
+ghost use Rattle.std.specs.Prelude.{IfOk, IfErr, OnOk};
 ghost use Rattle.bi_common.specs.LineTokens.{tokens_of_lines};
-ghost use Rattle.bi_describe.specs.DeepMeanings.{InsideTree as Tree, inside_lines};
+ghost use Rattle.bi_describe.specs.DeepMeanings.{InsideTree as Tree};
 ghost use Rattle.bi_describe.specs.InsideTrees.{HasPaths, IsInside, IsInsideError, IsInsideOf};
-ghost use Rattle.bi_describe.specs.InsideTrees.{IsPathsError};
-ghost use Rattle.std.specs.Prelude.{Some};
+ghost use Rattle.bi_describe.specs.InsideTrees.{IsPathsError, made_inside_lines};
 
 use super::entries::Entry;
 use super::json::{put_processor, put_reservations_member, put_root};
@@ -18,7 +17,7 @@ use bi_common::json_writer::JsonPen;
 use bi_common::lines::LinePen;
 use bi_fdt::Blob;
 use blobs::{check_names, entries_of_blob, read_blob};
-use lines::put_inside_lines;
+use lines::{put_inside_lines, put_tree};
 use paths::paths_of;
 use std::alloc::Global;
 
@@ -76,16 +75,14 @@ impl<'a> InsideTree<'a> {
         Ok(())
     }
 
-    /// Puts the lines. Requires: the payload has this path, by which those of the nodes are
-    /// computed.
+    /// Puts the lines. The payload has this path.
     pub(crate) fn put_lines<L: LinePen>(&self, payload: &[u8], pen: &mut L)
-        requires paths { HasPaths payload.now self.now }
-        ensures { (tree : Tree) → IsInside tree self.now
-            → L.puts pen.old (tokens_of_lines (inside_lines payload.now (Some tree))) pen.new }
+        ensures { L.puts pen.old (tokens_of_lines (made_inside_lines payload.now self.now))
+            pen.new }
     {
         put_inside_lines(payload, &self.blob, pen);
         if self.has_root {
-            lines::put_tree(&self.entries, &self.paths, pen);
+            put_tree(&self.entries, &self.paths, pen);
         }
     }
 
