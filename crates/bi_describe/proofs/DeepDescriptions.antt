@@ -11,7 +11,7 @@ use Rattle.bi_describe.specs.DeepLaws.{WithNothingInsideIsDescription}
 use Rattle.bi_describe.specs.DeepMeanings.{Devicetree, compared_children, compared_images, compared_nodes, compared_own_lines}
 use Rattle.bi_describe.specs.DeepMeanings.{compared_parts, lines_of_parts, plain_compared}
 use Rattle.bi_describe.specs.Descriptions.{described_children, described_images, described_nodes, digest_of_payload, head_lines}
-use Rattle.bi_describe.specs.Descriptions.{lines_with, own_lines, part_lines, plain_node}
+use Rattle.bi_describe.specs.Descriptions.{OfImage, lines_with, own_lines, part_line, part_lines, plain_node}
 
 -- A deep description with nothing inside is the description.
 
@@ -35,10 +35,13 @@ image_lines above none [] = refl
 image_lines above none (payload ∷ payloads) = refl
 image_lines above (node name own children later) [] = refl
 image_lines above (node name own children later) (None ∷ payloads) =
-    ap₂ (λ (below after : List Line). _ ++ (below ++ after))
+    ap₂ (λ (below after : List Line).
+    own_lines (above ++ name ∷ []) (record { properties = own; payload = OfImage None }) ++ (below ++ after))
     (plain_lines (above ++ name ∷ []) children) (image_lines above later payloads)
 image_lines above (node name own children later) (Some payload ∷ payloads) =
-    ap₂ (λ (below after : List Line). _ ++ (below ++ after))
+    ap₂ (λ (below after : List Line).
+    own_lines (above ++ name ∷ []) (record { properties = own; payload = OfImage (Some (digest_of_payload payload)) })
+    ++ (below ++ after))
     (plain_lines (above ++ name ∷ []) children) (image_lines above later payloads)
 
 -- of the children of a child of the root,
@@ -66,7 +69,7 @@ root_lines above (node name own children later) payloads =
 lines_of_all_parts : (index : ℕ) (parts : List (List ℕ)) →
     lines_of_parts (compared_parts index parts (map (λ payload. None) (map Some parts))) ≡ part_lines index (map digest_of_payload parts)
 lines_of_all_parts index [] = refl
-lines_of_all_parts index (part ∷ later) = ap (λ (lines : List Line). _ ∷ lines) (lines_of_all_parts (index + 1) later)
+lines_of_all_parts index (part ∷ later) = ap (λ (lines : List Line). part_line index (digest_of_payload part) ∷ lines) (lines_of_all_parts (index + 1) later)
 
 pub with_nothing_inside : WithNothingInsideIsDescription
 with_nothing_inside (OfLegacy image) = ap (λ (lines : List Line). header_lines image ++ lines) (lines_of_all_parts 0 image.parts)

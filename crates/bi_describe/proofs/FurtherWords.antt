@@ -72,11 +72,8 @@ nodes_kept : {Own : Type 0} (words more : List Ignored) (first second both : Nod
     kept_nodes more second tree above (kept_nodes words first tree above nodes) ≡ kept_nodes (words ++ more) both tree above nodes
 nodes_kept words more first second both keeps tree above none = refl
 nodes_kept {Own} words more first second both keeps tree above (node name own children later) =
-    by (is_node_ignored words place) (is_node_ignored more place) refl refl
+    by (is_node_ignored words (node_at tree (above ++ name ∷ []))) (is_node_ignored more (node_at tree (above ++ name ∷ []))) refl refl
   where
-    place : NodePlace
-    place = node_at tree (above ++ name ∷ [])
-
     rest : kept_nodes more second tree above (kept_nodes words first tree above later) ≡ kept_nodes (words ++ more) both tree above later
     rest = nodes_kept words more first second both keeps tree above later
 
@@ -84,13 +81,13 @@ nodes_kept {Own} words more first second both keeps tree above (node name own ch
         ≡ kept_nodes (words ++ more) both tree (above ++ name ∷ []) children
     below = nodes_kept words more first second both keeps tree (above ++ name ∷ []) children
 
-    by : (one other : Bool) → is_node_ignored words place ≡ one → is_node_ignored more place ≡ other →
+    by : (one other : Bool) → is_node_ignored words (node_at tree (above ++ name ∷ [])) ≡ one → is_node_ignored more (node_at tree (above ++ name ∷ [])) ≡ other →
         kept_nodes more second tree above (kept_nodes words first tree above (node name own children later))
         ≡ kept_nodes (words ++ more) both tree above (node name own children later)
-    by true other is also = rw (is, all_ignored words more place true other is also) rest
-    by false true is also = rw (is, also, all_ignored words more place false true is also) rest
+    by true other is also = rw (is, all_ignored words more (node_at tree (above ++ name ∷ [])) true other is also) rest
+    by false true is also = rw (is, also, all_ignored words more (node_at tree (above ++ name ∷ [])) false true is also) rest
     by false false is also =
-        rw (is, also, all_ignored words more place false false is also) (λ i. node name (keeps place own i) (below i) (rest i))
+        rw (is, also, all_ignored words more (node_at tree (above ++ name ∷ [])) false false is also) (λ i. node name (keeps (node_at tree (above ++ name ∷ [])) own i) (below i) (rest i))
 
 -- and the root.
 root_kept : {Own : Type 0} (words more : List Ignored) (first second both : NodePlace → Own → Own) → KeepsInTurn first second both →
@@ -98,19 +95,16 @@ root_kept : {Own : Type 0} (words more : List Ignored) (first second both : Node
     kept_root more second tree (kept_root words first tree root) ≡ kept_root (words ++ more) both tree root
 root_kept words more first second both keeps tree None = refl
 root_kept {Own} words more first second both keeps tree (Some root) =
-    by (is_node_ignored words place) (is_node_ignored more place) refl refl
+    by (is_node_ignored words (node_at tree [])) (is_node_ignored more (node_at tree [])) refl refl
   where
-    place : NodePlace
-    place = node_at tree []
-
-    by : (one other : Bool) → is_node_ignored words place ≡ one → is_node_ignored more place ≡ other →
+    by : (one other : Bool) → is_node_ignored words (node_at tree []) ≡ one → is_node_ignored more (node_at tree []) ≡ other →
         kept_root more second tree (kept_root words first tree (Some root)) ≡ kept_root (words ++ more) both tree (Some root)
-    by true other is also = rw (is, all_ignored words more place true other is also) refl
-    by false true is also = rw (is, also, all_ignored words more place false true is also) refl
+    by true other is also = rw (is, all_ignored words more (node_at tree []) true other is also) refl
+    by false true is also = rw (is, also, all_ignored words more (node_at tree []) false true is also) refl
     by false false is also =
-        rw (is, also, all_ignored words more place false false is also)
+        rw (is, also, all_ignored words more (node_at tree []) false false is also)
         (λ i. Some (record {
-          own = keeps place root.own i;
+          own = keeps (node_at tree []) root.own i;
           children = nodes_kept words more first second both keeps tree [] root.children i;
         }))
 

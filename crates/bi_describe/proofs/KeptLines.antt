@@ -1,7 +1,7 @@
 use Rattle.std.proofs.Common.{◌≡◌, ℕ, zero, suc, ◌+◌, ◌-◌, ◌<◌, ◌≤◌, Bool, true, false, get_or, List, [], ◌∷◌, ◌++◌, append-nil}
 use Rattle.std.proofs.Common.{append_assoc, arith, length}
 use Rattle.std.proofs.Common.{length-append, map, take, drop, flat_map, refl, sym, ap, ◌∙◌, Some, None, Option, ◌⊎◌, inl, inr}
-use Rattle.std.proofs.Common.{codes}
+use Rattle.std.proofs.Common.{codes, if◌then◌else◌, ◌==◌}
 use Rattle.std.specs.Option.{option_map}
 use Rattle.std.proofs.lemmas.Bool.{and_parts, le-leb, leb-true, lt-ltb, ltb-true, ne_eqb}
 use Rattle.std.proofs.lemmas.Grind.{flat_map-append}

@@ -441,8 +441,8 @@ fn keep_described<'a, 'b>(
 /// Returns the words for the kinds of two images, if they differ.
 fn different_kinds(one: &DeepImage, other: &DeepImage) -> Option<(&'static str, &'static str)> {
     match (&one.head, &other.head) {
-        (DeepHead::Legacy(_), DeepHead::Fit { .. }) => Some(("kind legacy", "kind fit")),
-        (DeepHead::Fit { .. }, DeepHead::Legacy(_)) => Some(("kind fit", "kind legacy")),
+        (DeepHead::Legacy(_), DeepHead::Fit(_)) => Some(("kind legacy", "kind fit")),
+        (DeepHead::Fit(_), DeepHead::Legacy(_)) => Some(("kind fit", "kind legacy")),
         _ => None,
     }
 }

@@ -1,6 +1,6 @@
 //! Leaving out of two images what is not compared.
 
-use crate::describe::deep::{DeepHead, DeepImage, DeepPayload};
+use crate::describe::deep::{DeepFit, DeepHead, DeepImage, DeepPayload};
 use crate::describe::entries::{Entry, PayloadDigest};
 use crate::describe::inside::InsideTree;
 use crate::ignored::{Ignored, NodePlace, TreePlace};
@@ -169,12 +169,12 @@ pub(super) fn leave_out<'a, 'b>(
                 payloads: kept,
             })
         }
-        DeepHead::Fit {
+        DeepHead::Fit(DeepFit {
             blob,
             has_root,
             entries,
             names,
-        } => {
+        }) => {
             let kept = kept_entries(alloc, &entries, Tree::Itself, words)?;
             let mut kept_payloads = Vec::new(alloc);
             let mut at = 0;
@@ -185,12 +185,12 @@ pub(super) fn leave_out<'a, 'b>(
                 at += 1;
             }
             Ok(DeepImage {
-                head: DeepHead::Fit {
+                head: DeepHead::Fit(DeepFit {
                     blob,
                     has_root: has_root && kept.has_root,
                     entries: kept.entries,
                     names,
-                },
+                }),
                 payloads: kept_payloads,
             })
         }
@@ -284,23 +284,10 @@ fn kept_entries<'a>(
 pub(super) fn are_same(one: &DeepImage, other: &DeepImage) -> bool {
     let same_heads = match (&one.head, &other.head) {
         (DeepHead::Legacy(fields), DeepHead::Legacy(others)) => are_same_fields(*fields, *others),
-        (
-            DeepHead::Fit {
-                blob,
-                has_root,
-                entries,
-                ..
-            },
-            DeepHead::Fit {
-                blob: other_blob,
-                has_root: other_has_root,
-                entries: other_entries,
-                ..
-            },
-        ) => {
-            *has_root == *other_has_root
-                && are_same_heads(blob, other_blob)
-                && are_same_entries(entries, other_entries)
+        (DeepHead::Fit(fit), DeepHead::Fit(other)) => {
+            fit.has_root == other.has_root
+                && are_same_heads(fit.blob, other.blob)
+                && are_same_entries(&fit.entries, &other.entries)
         }
         _ => false,
     };

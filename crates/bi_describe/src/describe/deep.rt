@@ -41,13 +41,30 @@ pub(crate) struct DeepPayload<'a> {
 pub(crate) enum DeepHead<'a, 'b> {
     /// Of a legacy image.
     Legacy(Fields<'a>),
-    /// Of a flattened image tree: its blob, whether the root is there, and the entries.
-    Fit {
-        blob: &'b Blob<'a>,
-        has_root: bool,
-        entries: Vec<Entry<'a>>,
-        names: Vec<&'a [u8]>,
-    },
+    /// Of a flattened image tree.
+    Fit(DeepFit<'a, 'b>),
+}
+
+/// What a deep description of a flattened image tree is made from.
+#[derive(Drop)]
+pub(crate) struct DeepFit<'a, 'b> {
+    pub(crate) blob: &'b Blob<'a>,
+    /// Whether the root is there.
+    pub(crate) has_root: bool,
+    pub(crate) entries: Vec<Entry<'a>>,
+    /// Room for the names of all nodes that are open at once.
+    pub(crate) names: Vec<&'a [u8]>,
+}
+
+impl<'a, 'b> DeepFit<'a, 'b> {
+    /// Puts the lines.
+    fn put_lines<L: LinePen>(&mut self, payloads: &[DeepPayload], pen: &mut L) {
+        put_head(self.blob.boot_cpu(), pen);
+        put_reservation_lines(self.blob, pen);
+        if self.has_root {
+            put_tree(&self.entries, &mut self.names, payloads, pen);
+        }
+    }
 }
 
 /// What a deep description is made from.
@@ -107,18 +124,7 @@ impl<'a, 'b> DeepImage<'a, 'b> {
                     put_part(payload, pen);
                 }
             }
-            DeepHead::Fit {
-                blob,
-                has_root,
-                entries,
-                names,
-            } => {
-                put_head(blob.boot_cpu(), pen);
-                put_reservation_lines(blob, pen);
-                if *has_root {
-                    put_tree(entries, names, &self.payloads, pen);
-                }
-            }
+            DeepHead::Fit(fit) => fit.put_lines(&self.payloads, pen),
         }
     }
 
@@ -135,10 +141,10 @@ impl<'a, 'b> DeepImage<'a, 'b> {
                 }
                 json.put(JsonToken::EndArray);
             }
-            DeepHead::Fit { blob, entries, .. } => {
-                object::put_processor_members(blob, json);
-                object::put_reservations_member(blob, json);
-                put_root(entries, &self.payloads, json);
+            DeepHead::Fit(fit) => {
+                object::put_processor_members(fit.blob, json);
+                object::put_reservations_member(fit.blob, json);
+                put_root(&fit.entries, &self.payloads, json);
             }
         }
         json.put(JsonToken::EndObject);
@@ -200,12 +206,12 @@ fn of_fit<'a, 'b>(
     }
     let names = vec![in alloc; b"".as_slice(); most_open(&entries)]?;
     Ok(DeepImage {
-        head: DeepHead::Fit {
+        head: DeepHead::Fit(DeepFit {
             blob: fit.blob(),
             has_root: true,
             entries,
             names,
-        },
+        }),
         payloads,
     })
 }

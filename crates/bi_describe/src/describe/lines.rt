@@ -97,7 +97,7 @@ pub(super) fn open_after<'a>(entry: Entry<'a>, names: &mut [&'a [u8]], count: us
 }
 
 /// Puts the line of an entry, if it has one. The innermost node that is open after it has this path.
-pub(super) fn put_entry<L: LinePen>(entry: Entry, path: Field, pen: &mut L)
+pub(super) fn put_entry<'a, 'b, L: LinePen>(entry: Entry<'a>, path: Field<'a, 'b>, pen: &mut L)
     ensures { L.puts pen.old (tokens_of_lines
         (lines_of_entry_at (field_of path.entry) (as_entry entry.entry))) pen.new }
 {
@@ -117,7 +117,12 @@ pub(super) fn put_node<L: LinePen>(path: Field, pen: &mut L)
 }
 
 /// Puts the line of a property.
-fn put_property<L: LinePen>(path: Field, name: &[u8], value: &[u8], pen: &mut L)
+fn put_property<'a, 'b, L: LinePen>(
+    path: Field<'a, 'b>,
+    name: &'a [u8],
+    value: &'a [u8],
+    pen: &mut L,
+)
     ensures { L.puts pen.old (line_tokens (property_line_at (field_of path.entry)
         (name.entry.now, value.entry.now))) pen.new }
 {

@@ -101,5 +101,6 @@ fn order_by_name(alloc: Global, blob: &Blob<'_>) -> Result<PropertyOrder, AllocE
 {
     let ranked = rank_names(alloc, blob.names())?;
     let keys = keys_at(alloc, &ranked.ranks, &blob.name_numbers(alloc)?)?;
-    PropertyOrder::new(alloc, blob, &keys)
+    let order = PropertyOrder::new(alloc, blob, &keys)?;
+    Ok(order)
 }
