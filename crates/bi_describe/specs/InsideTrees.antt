@@ -33,7 +33,7 @@ devicetree_of blob = record {
 -- The blob is a devicetree inside a payload.
 pub record IsBlobInside (limits : Limits) (payload : List ℕ) (blob : Blob) : Type 0 where
   pub is_file : blob.file ≡ payload
-  pub blob : IsBlob payload blob.cpu blob.reservations (root_of blob)
+  pub is_blob : IsBlob payload blob.cpu blob.reservations (root_of blob)
   pub within : IsWithin limits payload (root_of blob)
   pub no_images : node_named (root_of blob).children images_name ≡ None
 

@@ -1,6 +1,7 @@
 //! The paths of the nodes inside a payload.
 
-ghost use Rattle.std.specs.Prelude.{◌≡◌, ◌<◌, ◌++◌, ◌∷◌, ◌-◌, [], IfOk, IfErr, OnOk, length, flat_map, map};
+ghost use Rattle.std.specs.Prelude.{◌≡◌, ◌<◌, ◌++◌, ◌∷◌, ◌+◌, [], IfOk, IfErr};
+ghost use Rattle.std.specs.Prelude.{OnOk, length, map};
 ghost use Rattle.bi_base.specs.Errors.{IsFaultOrNoMemory};
 ghost use Rattle.bi_base.specs.Reading.{too_large};
 ghost use Rattle.bi_common.specs.MadeFields.{bytes_of_names};
