@@ -26,3 +26,4 @@ pub mod JsonComparisons
 pub mod InsidePaths
 pub mod DeepDescriptions
 pub mod FurtherWords
+pub mod InsideBlobs
