@@ -1,10 +1,15 @@
-use Rattle.std.proofs.Common.{◌≡◌, ℕ, true, false, List, Option, Some, None, option_map, is_some, sym, ◌∙◌, true≢false, refl, ap}
+use Rattle.std.proofs.Common.{◌≡◌, ◌<◌, length, flat_map, ℕ, true, false, List, Option, Some, None, option_map, is_some, sym, ◌∙◌, true≢false, refl, ap}
+use Rattle.bi_base.specs.Limits.{Limits}
 use Rattle.bi_blob.specs.Blob.{IsBlob, Reservation}
-use Rattle.bi_blob.specs.Tree.{Nodes, none, node, AreNodes, AreProperties, EachOwn, FileNode, Root, properties_of, with_each}
+use Rattle.bi_blob.specs.Tree.{Nodes, none, node, AreDistinct, AreNodes, AreProperties, EachOwn, FileNode, Root, properties_of, with_each}
 use Rattle.bi_blob.proofs.Texts.TextContent.{blob_has_content}
 use Rattle.bi_fdt.specs.declared.node.NodeRef.{NodeRef}
+use Rattle.bi_fdt.specs.Content.{Blob, root_of}
+use Rattle.bi_fdt.specs.TreeNames.{AreNamesIn}
 use Rattle.bi_fdt.specs.Views.{node_of}
+use Rattle.bi_fit.specs.LongNames.{name_if_long}
 use Rattle.bi_fit.specs.NormalNodes.{HasDistinctNames}
+use Rattle.bi_describe.specs.InsideTrees.{HasLongerNamesInside, IsBlobInside, devicetree_of}
 
 -- Blobs inside payloads.
 
@@ -20,9 +25,19 @@ children_distinct file cpu reservations root is = nodes_distinct root.children (
 
 -- A node is found or not.
 pub no_node : (found : Option NodeRef) → option_map node_of found ≡ None → is_some found ≡ true → ⊥
-no_node None none some = true≢false (sym some)
-no_node (Some found) none some = absurd cc
+no_node None is some = true≢false (sym some)
+no_node (Some found) is some = absurd cc
 
 pub none_found : (found : Option NodeRef) → is_some found ≡ false → option_map node_of found ≡ None
-none_found None none = refl
-none_found (Some found) none = absurd (true≢false none)
+none_found None is = refl
+none_found (Some found) is = absurd (true≢false is)
+
+-- A blob inside a payload that has long names.
+pub names_refused : (limits : Limits) (payload : List ℕ) (blob : Blob) (names : List (List ℕ)) → IsBlobInside limits payload blob →
+    AreDistinct names → AreNamesIn names (root_of blob) → limits.file < length (flat_map name_if_long names) →
+    HasLongerNamesInside limits payload
+names_refused limits payload blob names is distinct are longer = (
+  devicetree_of blob,
+  record { root = root_of blob; blob = is.is_blob; within = is.within; no_images = is.no_images; is_root = refl },
+  (names, distinct, are, longer),
+)
