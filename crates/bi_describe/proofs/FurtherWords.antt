@@ -73,21 +73,21 @@ nodes_kept : {Own : Type 0} (words more : List Ignored) (first second both : Nod
 nodes_kept words more first second both keeps tree above none = refl
 nodes_kept {Own} words more first second both keeps tree above (node name own children later) =
     by (is_node_ignored words (node_at tree (above ++ name ∷ []))) (is_node_ignored more (node_at tree (above ++ name ∷ []))) refl refl
+    (nodes_kept words more first second both keeps tree (above ++ name ∷ []) children)
+    (nodes_kept words more first second both keeps tree above later)
   where
-    rest : kept_nodes more second tree above (kept_nodes words first tree above later) ≡ kept_nodes (words ++ more) both tree above later
-    rest = nodes_kept words more first second both keeps tree above later
-
-    below : kept_nodes more second tree (above ++ name ∷ []) (kept_nodes words first tree (above ++ name ∷ []) children)
-        ≡ kept_nodes (words ++ more) both tree (above ++ name ∷ []) children
-    below = nodes_kept words more first second both keeps tree (above ++ name ∷ []) children
-
-    by : (one other : Bool) → is_node_ignored words (node_at tree (above ++ name ∷ [])) ≡ one → is_node_ignored more (node_at tree (above ++ name ∷ [])) ≡ other →
+    by : (one other : Bool) → is_node_ignored words (node_at tree (above ++ name ∷ [])) ≡ one →
+        is_node_ignored more (node_at tree (above ++ name ∷ [])) ≡ other →
+        kept_nodes more second tree (above ++ name ∷ []) (kept_nodes words first tree (above ++ name ∷ []) children)
+        ≡ kept_nodes (words ++ more) both tree (above ++ name ∷ []) children →
+        kept_nodes more second tree above (kept_nodes words first tree above later) ≡ kept_nodes (words ++ more) both tree above later →
         kept_nodes more second tree above (kept_nodes words first tree above (node name own children later))
         ≡ kept_nodes (words ++ more) both tree above (node name own children later)
-    by true other is also = rw (is, all_ignored words more (node_at tree (above ++ name ∷ [])) true other is also) rest
-    by false true is also = rw (is, also, all_ignored words more (node_at tree (above ++ name ∷ [])) false true is also) rest
-    by false false is also =
-        rw (is, also, all_ignored words more (node_at tree (above ++ name ∷ [])) false false is also) (λ i. node name (keeps (node_at tree (above ++ name ∷ [])) own i) (below i) (rest i))
+    by true other is also below rest = rw (is, all_ignored words more (node_at tree (above ++ name ∷ [])) true other is also) rest
+    by false true is also below rest = rw (is, also, all_ignored words more (node_at tree (above ++ name ∷ [])) false true is also) rest
+    by false false is also below rest =
+        rw (is, also, all_ignored words more (node_at tree (above ++ name ∷ [])) false false is also)
+        (λ i. node name (keeps (node_at tree (above ++ name ∷ [])) own i) (below i) (rest i))
 
 -- and the root.
 root_kept : {Own : Type 0} (words more : List Ignored) (first second both : NodePlace → Own → Own) → KeepsInTurn first second both →
@@ -160,20 +160,22 @@ module _ (words more : List Ignored) (opened more_opened : PayloadPlace → Bool
       flat_map (kept_part more more_opened) (flat_map (kept_part words opened) parts)
       ≡ flat_map (kept_part (words ++ more) more_opened) parts
   parts_kept [] = refl
-  parts_kept (part ∷ later) = by (is_part_ignored words part.0) (is_part_ignored more part.0) refl refl
+  parts_kept (part ∷ later) = by (is_part_ignored words part.0) (is_part_ignored more part.0) refl refl (parts_kept later)
     where
       all : (one other : Bool) → is_part_ignored words part.0 ≡ one → is_part_ignored more part.0 ≡ other →
           is_part_ignored (words ++ more) part.0 ≡ (one || other)
       all one other is also = part_ignored part.0 ∙ ap₂ (λ (a b : Bool). a || b) is also
 
       by : (one other : Bool) → is_part_ignored words part.0 ≡ one → is_part_ignored more part.0 ≡ other →
+          flat_map (kept_part more more_opened) (flat_map (kept_part words opened) later)
+          ≡ flat_map (kept_part (words ++ more) more_opened) later →
           flat_map (kept_part more more_opened) (flat_map (kept_part words opened) (part ∷ later))
           ≡ flat_map (kept_part (words ++ more) more_opened) (part ∷ later)
-      by true other is also = rw (is, all true other is also) (parts_kept later)
-      by false true is also = rw (is, also, all false true is also) (parts_kept later)
-      by false false is also =
+      by true other is also rest = rw (is, all true other is also) rest
+      by false true is also rest = rw (is, also, all false true is also) rest
+      by false false is also rest =
           rw (is, also, all false false is also)
-          (λ i. (part.0, payload_kept (OfPart part.0) part.1 i) ∷ parts_kept later i)
+          (λ i. (part.0, payload_kept (OfPart part.0) part.1 i) ∷ rest i)
 
   -- The time.
   time_kept : (time : Option ℕ) → kept_time more (kept_time words time) ≡ kept_time (words ++ more) time
