@@ -1,15 +1,18 @@
 //! Nodes of trees that can be changed.
 
-ghost use Rattle.std.specs.Prelude.{◌≡◌, ◌<◌, ◌≤◌, [], OnOk, IfOk, length, option_map};
+ghost use Rattle.std.specs.Prelude.{◌≡◌, ◌<◌, ◌≤◌, ℕ, [], length, take, option_map};
+ghost use Rattle.std.specs.Prelude.{OnOk, OnErr, IfOk};
 ghost use Rattle.std.specs.Cow.{cow_slice_items};
 ghost use Rattle.bi_blob.specs.Tree.{none};
 ghost use Rattle.bi_tree.specs.Changes.{child_named, node_by_path, with_change_at, with_new_node};
+ghost use Rattle.bi_tree.specs.Changes.{with_node_at};
 ghost use Rattle.bi_tree.specs.Changes.{without_node, without_node_at};
 ghost use Rattle.bi_tree.specs.Properties.{with_value_at, without_own_property};
 ghost use Rattle.bi_tree.specs.TreeNodes.{below, index_named, names_of_path, names_of_models};
 ghost use Rattle.bi_tree.specs.TreeNodes.{nodes_of_models};
+ghost use Rattle.bi_tree.specs.Trees.{value_in};
 
-use crate::properties::{TreeProperty, remove_value, set_value};
+use crate::properties::{TreeProperty, remove_value, set_value, value_of};
 use std::alloc::{AllocError, Global};
 use std::borrow::CowSlice;
 use std::marker::Model;
@@ -17,9 +20,12 @@ use std::marker::Model;
 /// A node with all nodes below it. Names are borrowed, not copied.
 #[derive(Drop)]
 pub struct TreeNode<'a> {
-    name: &'a [u8],
-    properties: Vec<TreeProperty<'a>>,
-    children: Vec<TreeNode<'a>>,
+    /// The name.
+    pub name: &'a [u8],
+    /// The properties.
+    pub properties: Vec<TreeProperty<'a>>,
+    /// The children.
+    pub children: Vec<TreeNode<'a>>,
 }
 
 impl<'a> Model for TreeNode<'a> {
@@ -75,10 +81,19 @@ impl<'a> TreeNode<'a> {
         self.children.get(index)
     }
 
+    /// Returns the value of the first property with this name. Returns None if there is none.
+    pub fn value(&self, name: &[u8]) -> Option<&[u8]>
+        ensures { option_map (λ value. value.now) result
+            ≡ value_in self.now.own name.now }
+    {
+        value_of(&self.properties, name)
+    }
+
     /// Sets the value of a property of the node at a path below this one, or adds the property.
     /// Nodes of the path that are not there are added, each as the last child of its parent.
     ///
-    /// Fails if memory runs out. What the tree then has is not specified.
+    /// Fails if memory runs out. Some of those nodes may then have been added, and nothing else is
+    /// changed.
     pub fn set_property(
         &mut self,
         alloc: Global,
@@ -89,10 +104,13 @@ impl<'a> TreeNode<'a> {
         ensures set { OnOk result (below self.new
             ≡ with_value_at (names_of_path path.entry.now) name.entry.now
             (cow_slice_items value.entry) (below self.old)) }
-        ensures name { OnOk result (self.new.name ≡ self.old.name) }
+        ensures failed { OnErr result ((count : ℕ) × (below self.new
+            ≡ with_node_at [] (take count (names_of_path path.entry.now)) (below self.old))) }
+        ensures name { self.new.name ≡ self.old.name }
     {
         let [first, later @ ..] = path else {
-            return set_value(&mut self.properties, name, value);
+            set_value(&mut self.properties, name, value)?;
+            return Ok(());
         };
         let index = child_or_new(alloc, &mut self.children, first)?;
         self.children[index].set_property(alloc, later, name, value)?;
@@ -158,6 +176,7 @@ fn child_or_new<'a>(
     ensures index { IfOk result (λ index.
         index ≡ index_named name.entry.now (names_of_models children.new.items)) }
     ensures within { IfOk result (λ index. index < length children.new.items) }
+    ensures failed { OnErr result (children.new.items ≡ children.old.items) }
 {
     let index = find_child(children, name);
     if index == children.len() {
