@@ -3,7 +3,7 @@
 ghost use Rattle.std.specs.Prelude.{◌≡◌, ◌↔◌, IfSome, IfNone, IsTrue};
 ghost use Rattle.bi_edit.specs.Places.{IsNodePath, IsPlace, IsPropertyNameOfBytes, IsRemovable};
 ghost use Rattle.bi_edit.specs.Places.{AreChildNames, IsChildNameOfBytes};
-ghost use Rattle.bi_tree.specs.TreeNodes.{names_of_path};
+ghost use Rattle.bi_edit.specs.Places.{names_of_path};
 ghost use Rattle.bi_edit.specs.Places.{is_image_path as is_image};
 
 use bi_base::are_bytes;
@@ -24,7 +24,7 @@ pub struct NodePath {
 impl Model for NodePath {
     ghost use Rattle.std.specs.Prelude.{ℕ, List};
     ghost use Rattle.bi_edit.specs.Places.{IsNodePath};
-    ghost use Rattle.bi_tree.specs.TreeNodes.{names_of_path};
+    ghost use Rattle.bi_edit.specs.Places.{names_of_path};
 
     ghost Value = { List (List ℕ) };
 

@@ -2,9 +2,10 @@
 
 ghost use Rattle.std.specs.Prelude.{◌≡◌, OnOk, option_map, is_some};
 ghost use Rattle.std.specs.Cow.{cow_slice_items};
+ghost use Rattle.bi_base.specs.Slices.{bytes_of};
 ghost use Rattle.bi_blob.specs.Tree.{tree_without_order};
 ghost use Rattle.bi_tree.specs.Changes.{node_by_path, without_node_at};
-ghost use Rattle.bi_tree.specs.TreeNodes.{below, names_of_path};
+ghost use Rattle.bi_tree.specs.TreeNodes.{below};
 ghost use Rattle.bi_tree.specs.Trees.{HasDistinctProperties, value_by_path, with_value};
 ghost use Rattle.bi_tree.specs.Trees.{without_value};
 
@@ -46,16 +47,16 @@ impl<'a> Tree<'a> {
     }
 
     /// Returns whether there is a node at a path.
-    pub fn has_node(&self, path: &[Vec<u8>]) -> bool
-        ensures { result ≡ is_some (node_by_path self.now (names_of_path path.now)) }
+    pub fn has_node(&self, path: &[&[u8]]) -> bool
+        ensures { result ≡ is_some (node_by_path self.now (bytes_of path.now)) }
     {
         self.root.node(path).is_some()
     }
 
     /// Returns the value of a property of the node at a path. Returns None if there is none.
-    pub fn value(&self, path: &[Vec<u8>], name: &[u8]) -> Option<&[u8]>
+    pub fn value(&self, path: &[&[u8]], name: &[u8]) -> Option<&[u8]>
         ensures { option_map (λ value. value.now) result
-            ≡ value_by_path self.now (names_of_path path.now) name.now }
+            ≡ value_by_path self.now (bytes_of path.now) name.now }
     {
         match self.root.node(path) {
             Some(node) => node.value(name),
@@ -65,15 +66,15 @@ impl<'a> Tree<'a> {
 
     /// Removes the node at a path, with all nodes below it. Without such a node, and for the path
     /// of the root, nothing changes.
-    pub fn remove_node(&mut self, path: &[Vec<u8>])
-        ensures { self.new ≡ without_node_at (names_of_path path.now) self.old }
+    pub fn remove_node(&mut self, path: &[&[u8]])
+        ensures { self.new ≡ without_node_at (bytes_of path.now) self.old }
     {
         self.root.remove_node(path);
     }
 
     /// Removes a property of the node at a path. Without such a node or property nothing changes.
-    pub fn remove_property(&mut self, path: &[Vec<u8>], name: &[u8])
-        ensures { self.new ≡ without_value (names_of_path path.now) name.now self.old }
+    pub fn remove_property(&mut self, path: &[&[u8]], name: &[u8])
+        ensures { self.new ≡ without_value (bytes_of path.now) name.now self.old }
     {
         self.root.remove_property(path, name);
     }
@@ -86,11 +87,11 @@ impl<'a> Tree<'a> {
     pub fn set_property(
         &mut self,
         alloc: Global,
-        path: &'a [Vec<u8>],
+        path: &[&'a [u8]],
         name: &'a [u8],
         value: CowSlice<'a, u8, Global>,
     ) -> Result<(), AllocError>
-        ensures { OnOk result (self.new ≡ with_value (names_of_path path.entry.now)
+        ensures { OnOk result (self.new ≡ with_value (bytes_of path.entry.now)
             name.entry.now (cow_slice_items value.entry) self.old) }
     {
         self.root.set_property(alloc, path, name, value)?;

@@ -1,13 +1,14 @@
 use Rattle.std.proofs.Common.{Some, None, sym, ap, ◌∙◌}
 use Rattle.std.specs.Option.{option_and_then}
-use Rattle.bi_tree.specs.TreeNodes.{below, names_of_path}
+use Rattle.bi_tree.specs.TreeNodes.{below}
+use Rattle.bi_base.specs.Slices.{bytes_of}
 use Rattle.bi_tree.specs.Trees.{value_by_path, value_in}
 use Rattle.bi_tree.proofs.Trees.{value_found}
 use Rattle.bi_tree.proofs.tree.Tree.value.Goals as goal
 
 pub returns-in-Some : goal.returns-in-Some
 returns-in-Some c =
-    let path = names_of_path c.args.path.now in
+    let path = bytes_of c.args.path.now in
     let name = c.args.name.now in
     c.value.ensures
     ∙ ap (λ found. option_and_then (λ node. value_in node.own name) found) c.in-Some.ensures
@@ -16,7 +17,7 @@ returns-in-Some c =
 
 pub returns-in-None : goal.returns-in-None
 returns-in-None c =
-    let path = names_of_path c.args.path.now in
+    let path = bytes_of c.args.path.now in
     let name = c.args.name.now in
     ap (λ found. option_and_then (λ node. value_in node.own name) found) c.in-None.ensures
     ∙ value_found (below c.self.inside.root) path name
