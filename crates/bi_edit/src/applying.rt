@@ -102,11 +102,7 @@ fn apply_at<'a>(
 
 /// Makes an edit. Returns false if it finds nothing to remove, or no image to change. Fails if
 /// memory runs out.
-fn apply_one<'a>(
-    alloc: Global,
-    tree: &mut Tree<'a>,
-    edit: &'a Edit<'a>,
-) -> Result<bool, AllocError>
+fn apply_one<'a>(alloc: Global, tree: &mut Tree<'a>, edit: &'a Edit<'a>) -> Result<bool, AllocError>
     ensures { IfOk result (IsDone tree.old edit.entry.now tree.new) }
 {
     match edit {
@@ -130,11 +126,7 @@ fn apply_one<'a>(
 }
 
 /// Removes a node. Returns false if it is not there. Fails if memory runs out.
-fn remove_node(
-    alloc: Global,
-    tree: &mut Tree<'_>,
-    place: &NodePlace,
-) -> Result<bool, AllocError>
+fn remove_node(alloc: Global, tree: &mut Tree<'_>, place: &NodePlace) -> Result<bool, AllocError>
     ensures { IfOk result (IsDone tree.old (RemoveNode place.entry.now) tree.new) }
 {
     let path = place.path().to_slices(alloc)?;
