@@ -35,17 +35,17 @@ refused_more root (edit ∷ first) second refused (inr later) =
     inr (later.0, refused_more (edited_root root edit) first second refused later.1)
 
 -- To make the edits that are left of a tree is to make all edits of the first one.
-pub record Continues (tree : Root PropertyMap) (left : List Edit) (first : Root PropertyMap) (all : List Edit) : Type 0 where
+pub record HasSameEnd (tree : Root PropertyMap) (left : List Edit) (first : Root PropertyMap) (all : List Edit) : Type 0 where
   pub root : root_after tree left ≡ root_after first all
   pub find : AllFind tree left → AllFind first all
   pub refused : (edit : Edit) → IsFirstRefused tree left edit → IsFirstRefused first all edit
 
-pub continues_first : (tree : Root PropertyMap) (all : List Edit) → Continues tree all tree all
+pub continues_first : (tree : Root PropertyMap) (all : List Edit) → HasSameEnd tree all tree all
 continues_first tree all = record { root = refl; find = λ is. is; refused = λ edit is. is }
 
 -- Some of those that are left were made.
-pub continues_after : (tree first : Root PropertyMap) (now left all : List Edit) → Continues tree (now ++ left) first all → AllFind tree now →
-    Continues (root_after tree now) left first all
+pub continues_after : (tree first : Root PropertyMap) (now left all : List Edit) → HasSameEnd tree (now ++ left) first all →
+    AllFind tree now → HasSameEnd (root_after tree now) left first all
 continues_after tree first now left all continues found = record {
   root = sym (root_after-append tree now left) ∙ continues.root;
   find = λ more. continues.find (all_find-append tree now left found more);
@@ -53,7 +53,7 @@ continues_after tree first now left all continues found = record {
 }
 
 -- One of the next that are left is refused.
-pub refused_of : (tree first : Root PropertyMap) (now left all edits : List Edit) (error : ApplyError) → Continues tree (now ++ left) first all →
+pub refused_of : (tree first : Root PropertyMap) (now left all edits : List Edit) (error : ApplyError) → HasSameEnd tree (now ++ left) first all →
     IsApplyError (IsFirstRefused tree now) edits error → IsApplyError (IsFirstRefused first all) edits error
 refused_of tree first now left all edits (error.FindsNothing index) continues is =
     (is.0, is.1, continues.refused is.0 (refused_more tree now left is.0 is.2))
@@ -68,13 +68,13 @@ refused_next tree edit edits index (error.FindsNothing at) there is =
 refused_next tree edit edits index error.OutOfMemory there is = tt
 
 -- An error that is passed on.
-pub passed_on : {T : Type 0} (Is : ApplyError → Type 0) (result : Result T ApplyError) (error : ApplyError) →
+pub error_of_edit : {T : Type 0} (Is : ApplyError → Type 0) (result : Result T ApplyError) (error : ApplyError) →
     IsErrAnd result (λ given. given ≡ error) → Is error → IfErr result Is
-passed_on Is (Ok value) error same is = absurd same
-passed_on Is (Err given) error same is = subst Is (sym same) is
+error_of_edit Is (Ok value) error same is = absurd same
+error_of_edit Is (Err given) error same is = subst Is (sym same) is
 
 -- All are made.
-pub continues_to_end : (tree first : Root PropertyMap) (all : List Edit) → Continues tree [] first all →
+pub continues_to_end : (tree first : Root PropertyMap) (all : List Edit) → HasSameEnd tree [] first all →
     (tree ≡ root_after first all) × AllFind first all
 continues_to_end tree first all continues = (continues.root, continues.find tt)
 
@@ -93,9 +93,9 @@ pub next_at : (edits : List Edit) (index : ℕ) (edit : Edit) → index < length
 next_at edits index edit within is =
     drop_more edits index edit within ∙ ap (λ first. first ∷ drop (index + 1) edits) (sym is)
 
-pub read_at : (edits : List Edit) (index : ℕ) (edit : Edit) → index < length edits → edit ≡ get_or edits index edit →
+pub edit_read_at : (edits : List Edit) (index : ℕ) (edit : Edit) → index < length edits → edit ≡ get_or edits index edit →
     slice_get edits index ≡ Some edit
-read_at edits index edit within is = slice_get_read edits (length edits) index edit refl within is
+edit_read_at edits index edit within is = slice_get_read edits (length edits) index edit refl within is
 
 pub same_turn : (one other : ℕ) → one ≡ other → (one == other) ≡ true
 same_turn one other is = subst (λ n. (one == n) ≡ true) is (grind arith)

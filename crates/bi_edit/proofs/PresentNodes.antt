@@ -47,6 +47,6 @@ pub not_found : {A : Type 0} (found : Option A) → is_some found ≡ false → 
 not_found None is = refl
 not_found (Some x) is = absurd (true≢false is)
 
-pub is_found : {A : Type 0} (found : Option A) → is_some found ≡ true → found ≡ None → ⊥
-is_found None is absent = true≢false (sym is)
-is_found (Some x) is absent = true≢false (ap is_some absent)
+pub not_none : {A : Type 0} (found : Option A) → is_some found ≡ true → found ≡ None → ⊥
+not_none None is absent = true≢false (sym is)
+not_none (Some x) is absent = true≢false (ap is_some absent)

@@ -3,7 +3,7 @@
 ghost use Rattle.std.specs.Prelude.{◌≡◌, IfOk, IfErr, OnOk};
 ghost use Rattle.bi_base.specs.Cells.{cell};
 ghost use Rattle.bi_fit.specs.Names.{timestamp_name};
-ghost use Rattle.bi_tree.specs.Trees.{with_own_value, with_value};
+ghost use Rattle.bi_tree.specs.Trees.{with_own_value, with_value_by_path};
 ghost use Rattle.bi_edit.specs.Applying.{IsApplyError, IsDone, IsErrorAt};
 ghost use Rattle.bi_edit.specs.Edits.{AllFind, FindsNothing, IsFirstRefused, edited_root};
 ghost use Rattle.bi_edit.specs.Edits.{edits_of_turn, in_edit_order, root_after};
@@ -161,7 +161,7 @@ fn set_property<'a>(
     value: &'a [u8],
 ) -> Result<(), AllocError>
     ensures { OnOk result (tree.new
-        ≡ with_value place.entry.now.path place.entry.now.name value.entry.now tree.old) }
+        ≡ with_value_by_path place.entry.now.path place.entry.now.name value.entry.now tree.old) }
 {
     let path = place.path().to_slices(alloc)?;
     tree.set_property(alloc, &path, place.name(), CowSlice::Borrowed(value))?;

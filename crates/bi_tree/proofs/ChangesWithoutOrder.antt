@@ -5,7 +5,7 @@ use Rattle.bi_blob.specs.Tree.{Root, Property, PropertyMap, AreDistinct, as_node
 use Rattle.bi_tree.specs.Changes.{with_change_at, with_node_at}
 use Rattle.bi_tree.specs.Properties.{with_own_property, without_own_property, with_value_at}
 use Rattle.bi_tree.specs.Laws.{ChangesWithoutOrder}
-use Rattle.bi_tree.specs.Trees.{HasDistinctProperties, with_own_value, without_own_value, with_value, without_value}
+use Rattle.bi_tree.specs.Trees.{HasDistinctProperties, with_own_value, without_own_value, with_value_by_path, without_value_by_path}
 use Rattle.bi_tree.proofs.MappedChanges.{node_found, node_removed, nodes_added, changed_at, each_is}
 use Rattle.bi_tree.proofs.PropertyMaps.{set_without_order, removed_without_order}
 
@@ -17,7 +17,7 @@ map_of properties = from_entries properties
 
 value_is : (root : Root (List Property)) (path : List (List ℕ)) (name value : List ℕ) →
     tree_without_order (with_value_at path name value root)
-    ≡ with_value path name value (tree_without_order root)
+    ≡ with_value_by_path path name value (tree_without_order root)
 value_is root path name value =
     changed_at map_of (λ _. ⊤) (with_own_property name value) (with_own_value name value)
     (λ old _. ap (λ own. record { own = own; children = with_each map_of old.children }) (set_without_order name value old.own))
@@ -26,7 +26,7 @@ value_is root path name value =
 
 property_is : (root : Root (List Property)) (path : List (List ℕ)) (name : List ℕ) → HasDistinctProperties root →
     tree_without_order (with_change_at path (without_own_property name) root)
-    ≡ without_value path name (tree_without_order root)
+    ≡ without_value_by_path path name (tree_without_order root)
 property_is root path name distinct =
     changed_at map_of (λ own. AreDistinct (map (λ property. property.0) own)) (without_own_property name) (without_own_value name)
     (λ old all. ap (λ own. record { own = own; children = with_each map_of old.children })

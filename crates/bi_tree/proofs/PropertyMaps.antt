@@ -9,7 +9,7 @@ use Rattle.bi_base.proofs.EqualBytes.{same_bytes, other_bytes}
 use Rattle.bi_blob.specs.Tree.{Property, AreDistinct, IsNew}
 use Rattle.bi_blob.proofs.Texts.PropertyOrder.{order_tells}
 use Rattle.bi_tree.specs.Properties.{with_property_in, without_property_in}
-use Rattle.bi_tree.specs.Trees.{value_in}
+use Rattle.bi_tree.specs.Trees.{first_value}
 
 -- What setting and removing a property makes of the properties without their order.
 
@@ -46,18 +46,18 @@ new_first name other differs true same = absurd (differs (sym (names_same name o
 new_first name other differs false same = same
 
 -- A value is found in the first property with its name.
-pub none_found : (name : List ℕ) → value_in [] name ≡ None
-none_found name = get-from_entries nat_list_cmp_total [] name
+pub no_value_found : (name : List ℕ) → first_value [] name ≡ None
+no_value_found name = get-from_entries nat_list_cmp_total [] name
 
 pub first_value_found : (name : List ℕ) (first : Property) (later : List Property) → first.0 ≡ name →
-    value_in (first ∷ later) name ≡ Some first.1
+    first_value (first ∷ later) name ≡ Some first.1
 first_value_found name first later is =
     get-from_entries nat_list_cmp_total (first ∷ later) name
     ∙ subst (λ other. cond (is_same name other) (Some first.1) (found name later) ≡ Some first.1) (sym is)
     (rw (is_eq-slice_cmp name name ∙ (bytes_eq-Decides name name).1 refl) refl)
 
 pub other_value_found : (name : List ℕ) (first : Property) (later : List Property) → first.0 ≢ name →
-    value_in (first ∷ later) name ≡ value_in later name
+    first_value (first ∷ later) name ≡ first_value later name
 other_value_found name first later other =
     get-from_entries nat_list_cmp_total (first ∷ later) name
     ∙ ap (λ b. cond b (Some first.1) (found name later)) (new_first name first.0 other (is_same name first.0) refl)

@@ -14,8 +14,8 @@ HasDistinctProperties root =
     EachOwn (λ own. AreDistinct (map (λ property. property.0) own)) (as_nodes root)
 
 -- The value of the first of these properties with a name, if one has it.
-abbrev pub value_in : List Property → (name : List ℕ) → Option (List ℕ)
-value_in properties name = get {R = slice_cmp nat_cmp} (from_entries properties) name
+abbrev pub first_value : List Property → (name : List ℕ) → Option (List ℕ)
+first_value properties name = get {R = slice_cmp nat_cmp} (from_entries properties) name
 
 -- The value of a property of the node at a path, if there is one.
 abbrev pub value_by_path : Root PropertyMap → (path : List (List ℕ)) → (name : List ℕ)
@@ -32,12 +32,12 @@ without_own_value name root = record root { own = remove root.own name }
 
 -- A tree with this value of a property of the node at a path. The nodes of the path are added if
 -- they are not there.
-abbrev pub with_value : (path : List (List ℕ)) → (name value : List ℕ) → Root PropertyMap
+abbrev pub with_value_by_path : (path : List (List ℕ)) → (name value : List ℕ) → Root PropertyMap
     → Root PropertyMap
-with_value path name value root =
+with_value_by_path path name value root =
     with_change_at path (with_own_value name value) (with_node_at empty path root)
 
 -- A tree without a property of the node at a path.
-abbrev pub without_value : (path : List (List ℕ)) → (name : List ℕ) → Root PropertyMap
+abbrev pub without_value_by_path : (path : List (List ℕ)) → (name : List ℕ) → Root PropertyMap
     → Root PropertyMap
-without_value path name root = with_change_at path (without_own_value name) root
+without_value_by_path path name root = with_change_at path (without_own_value name) root

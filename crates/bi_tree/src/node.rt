@@ -11,7 +11,7 @@ ghost use Rattle.bi_tree.specs.Changes.{without_node, without_node_at};
 ghost use Rattle.bi_tree.specs.Properties.{with_value_at, without_own_property};
 ghost use Rattle.bi_tree.specs.TreeNodes.{below, index_named, names_of_models};
 ghost use Rattle.bi_tree.specs.TreeNodes.{nodes_of_models};
-ghost use Rattle.bi_tree.specs.Trees.{value_in};
+ghost use Rattle.bi_tree.specs.Trees.{first_value};
 
 use crate::properties::{TreeProperty, remove_value, set_value, value_of};
 use std::alloc::{AllocError, Global};
@@ -85,7 +85,7 @@ impl<'a> TreeNode<'a> {
     /// Returns the value of the first property with this name. Returns None if there is none.
     pub fn value(&self, name: &[u8]) -> Option<&[u8]>
         ensures { option_map (λ value. value.now) result
-            ≡ value_in self.now.own name.now }
+            ≡ first_value self.now.own name.now }
     {
         value_of(&self.properties, name)
     }

@@ -5,7 +5,7 @@ ghost use Rattle.std.specs.Prelude.{OnOk, OnErr};
 ghost use Rattle.std.specs.Cow.{cow_slice_items};
 ghost use Rattle.bi_tree.specs.Properties.{tree_properties, with_property_in, without_property_in};
 ghost use Rattle.bi_tree.specs.TreeNodes.{index_named};
-ghost use Rattle.bi_tree.specs.Trees.{value_in};
+ghost use Rattle.bi_tree.specs.Trees.{first_value};
 
 use std::alloc::{AllocError, Global};
 use std::borrow::CowSlice;
@@ -22,7 +22,7 @@ pub struct TreeProperty<'a> {
 /// Returns the value of the first of these properties with this name. Returns None if there is none.
 pub(crate) fn value_of<'b>(properties: &'b [TreeProperty<'_>], name: &[u8]) -> Option<&'b [u8]>
     ensures { option_map (λ value. value.now) result
-        ≡ value_in (tree_properties properties.now) name.now }
+        ≡ first_value (tree_properties properties.now) name.now }
 {
     let index = find_property(properties, name);
     match properties.get(index) {

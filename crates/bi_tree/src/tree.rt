@@ -6,8 +6,8 @@ ghost use Rattle.bi_base.specs.Slices.{bytes_of};
 ghost use Rattle.bi_blob.specs.Tree.{tree_without_order};
 ghost use Rattle.bi_tree.specs.Changes.{node_by_path, without_node_at};
 ghost use Rattle.bi_tree.specs.TreeNodes.{below};
-ghost use Rattle.bi_tree.specs.Trees.{HasDistinctProperties, value_by_path, with_value};
-ghost use Rattle.bi_tree.specs.Trees.{without_value};
+ghost use Rattle.bi_tree.specs.Trees.{HasDistinctProperties, value_by_path, with_value_by_path};
+ghost use Rattle.bi_tree.specs.Trees.{without_value_by_path};
 
 use crate::node::TreeNode;
 use std::alloc::{AllocError, Global};
@@ -74,7 +74,7 @@ impl<'a> Tree<'a> {
 
     /// Removes a property of the node at a path. Without such a node or property nothing changes.
     pub fn remove_property(&mut self, path: &[&[u8]], name: &[u8])
-        ensures { self.new ≡ without_value (bytes_of path.now) name.now self.old }
+        ensures { self.new ≡ without_value_by_path (bytes_of path.now) name.now self.old }
     {
         self.root.remove_property(path, name);
     }
@@ -91,7 +91,7 @@ impl<'a> Tree<'a> {
         name: &'a [u8],
         value: CowSlice<'a, u8, Global>,
     ) -> Result<(), AllocError>
-        ensures { OnOk result (self.new ≡ with_value (bytes_of path.entry.now)
+        ensures { OnOk result (self.new ≡ with_value_by_path (bytes_of path.entry.now)
             name.entry.now (cow_slice_items value.entry) self.old) }
     {
         self.root.set_property(alloc, path, name, value)?;

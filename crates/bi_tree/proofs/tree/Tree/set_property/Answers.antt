@@ -3,7 +3,7 @@ use Rattle.std.specs.Cow.{cow_slice_items}
 use Rattle.bi_blob.specs.Tree.{tree_without_order}
 use Rattle.bi_tree.specs.TreeNodes.{below}
 use Rattle.bi_base.specs.Slices.{bytes_of}
-use Rattle.bi_tree.specs.Trees.{HasDistinctProperties, with_value}
+use Rattle.bi_tree.specs.Trees.{HasDistinctProperties, with_value_by_path}
 use Rattle.bi_tree.proofs.ChangesWithoutOrder.{changes_without_order}
 use Rattle.bi_tree.proofs.DistinctNames.{distinct_with_nodes, property_names_stay_distinct}
 use Rattle.bi_tree.proofs.tree.Tree.set_property.Goals as goal
@@ -26,4 +26,4 @@ returns c =
     let value = cow_slice_items c.args.value in
     ap tree_without_order c.in_ok-set_property.ensures.set
     ∙ changes_without_order.value (below c.self.inside.root) path c.args.name.now value
-    ∙ ap (with_value path c.args.name.now value) c.self.view_is
+    ∙ ap (with_value_by_path path c.args.name.now value) c.self.view_is
