@@ -1,6 +1,9 @@
-use Rattle.std.specs.Prelude.{◌≡◌, ◌++◌, ℕ, Bool, false, true, List}
+use Rattle.std.specs.Prelude.{◌≡◌, ◌++◌, ℕ, Bool, false, true, List, refl}
 use Rattle.std.specs.Borrow.{GName}
+use Rattle.std.proofs.Common.{◌∙◌, append-nil, subst, sym}
+use Rattle.std.proofs.lemmas.List.{append_assoc}
 use Rattle.bi_base.specs.declared.fault.Error.{Error}
+use Rattle.bi_base.specs.Sinks.{AppendsNothing, AppendsInTurn}
 use Rattle.bi_base.specs.Traces.{WriteTrace}
 use Rattle.bi_base.specs.Writing.{WroteAll, WriteStopped}
 use Rattle.bootimg.specs.declared.error_line.ErrorLine.{ErrorLine}
@@ -48,3 +51,22 @@ pub record Extends (old : LineState) (bytes : List ℕ) (new : LineState) : Type
   pub extends : (begin : WriteTrace) (before : List ℕ) → LineHas begin before old
       → LineHas begin (before ++ bytes) new
   pub same_borrow : new.borrow ≡ old.borrow
+
+-- A call of a line whose writer has this trace, as a pen.
+abbrev pub ErrorPuts : {T : Type 0} → (T → WriteTrace) → ErrorLine T → List ℕ → ErrorLine T → Type 0
+ErrorPuts trace old bytes new = Extends (line_of trace old) bytes (line_of trace new)
+
+pub error_puts_nothing : {T : Type 0} (trace : T → WriteTrace) → AppendsNothing (ErrorPuts trace)
+error_puts_nothing trace a = record {
+  extends = λ begin before has. subst (λ bytes. LineHas begin bytes (line_of trace a))
+      (sym (append-nil before)) has;
+  same_borrow = refl;
+}
+
+pub error_puts_in_turn : {T : Type 0} (trace : T → WriteTrace) → AppendsInTurn (ErrorPuts trace)
+error_puts_in_turn trace a b c xs ys first second = record {
+  extends = λ begin before has. subst (λ bytes. LineHas begin bytes (line_of trace c))
+      (append_assoc before xs ys)
+      (second.extends begin (before ++ xs) (first.extends begin before has));
+  same_borrow = second.same_borrow ∙ first.same_borrow;
+}

@@ -4,14 +4,13 @@ ghost use Rattle.std.specs.Prelude.{◌≡◌, ◌++◌};
 ghost use Rattle.std.specs.Fmt.{decimal};
 ghost use Rattle.bi_base.specs.declared.fault.Error.TheVariants.{OutOfMemory, Refused};
 ghost use Rattle.bootimg.specs.declared.failure.Failure.TheVariants.{Call};
-ghost use Rattle.bootimg.specs.ErrorLines.{Extends, line_of};
 ghost use Rattle.bootimg.specs.Failures.{error_text, failure_of, failure_text as text_of};
 ghost use Rattle.bootimg.specs.Failures.{failure_to_save};
 ghost use Rattle.bootimg.specs.Failures.{is_about_image as is_about_image_of};
 
-use crate::error_line::ErrorLine;
-use bi_base::{Error, Fault, TracedWrite};
+use bi_base::{Error, Fault, Pen};
 use bi_commands::extract::ExtractError;
+use bi_common::fields::{Field, put_field};
 use bi_files::SaveError;
 use bi_fit::ConfigError;
 use std::alloc::AllocError;
@@ -69,10 +68,10 @@ impl Failure {
         }
     }
 
-    /// Appends the text of the failure, which the program prints after `bootimg: ` and the name of
-    /// the file, if the failure is about an image in a file.
-    pub fn put_text<T: TracedWrite>(self, line: &mut ErrorLine<'_, T>)
-        ensures { Extends (line_of T.trace line.old) (text_of self) (line_of T.trace line.new) }
+    /// Puts the text of the failure, which the program prints after `bootimg: ` and the name of the
+    /// file, if the failure is about an image in a file.
+    pub fn put_text<P: Pen>(self, line: &mut P)
+        ensures { P.puts line.old (text_of self) line.new }
     {
         match self {
             Failure::Call(Error::Refused(fault)) => put_fault(fault, line),
@@ -101,22 +100,20 @@ impl Failure {
     }
 }
 
-/// Appends a cause and an offset.
-fn put_fault<T: TracedWrite>(fault: Fault, line: &mut ErrorLine<'_, T>)
-    ensures { Extends (line_of T.trace line.old) (error_text (Refused fault))
-        (line_of T.trace line.new) }
+/// Puts a cause and an offset.
+fn put_fault<P: Pen>(fault: Fault, line: &mut P)
+    ensures { P.puts line.old (error_text (Refused fault)) line.new }
 {
     line.put(fault.cause.name().as_bytes());
     put_numbered(b" at ", fault.offset as usize, line);
 }
 
-/// Appends these bytes, and a number in decimal digits.
-fn put_numbered<T: TracedWrite>(bytes: &[u8], number: usize, line: &mut ErrorLine<'_, T>)
-    ensures { Extends (line_of T.trace line.old) (bytes.now ++ decimal number)
-        (line_of T.trace line.new) }
+/// Puts these bytes, and a number in decimal digits.
+fn put_numbered<P: Pen>(bytes: &[u8], number: usize, line: &mut P)
+    ensures { P.puts line.old (bytes.now ++ decimal number) line.new }
 {
     line.put(bytes);
-    line.put_number(number);
+    put_field(Field::Decimal(number as u64), line);
 }
 
 impl From<Error> for Failure {

@@ -4,6 +4,7 @@
 mod builds;
 mod codes;
 mod command_line;
+mod diagnostics;
 mod error_line;
 mod explanations;
 mod extractions;
@@ -14,7 +15,6 @@ mod known_runs;
 mod known_works;
 mod no_input;
 mod numbers;
-mod reports;
 mod requests;
 mod run;
 mod tasks;

@@ -6,9 +6,9 @@ ghost use Rattle.bootimg.specs.Runs.{failure_in_memory, IsEnd, IsHeldFailure, Is
 ghost use Rattle.bootimg.specs.Runs.{IsSavedWork};
 
 use crate::command_line::{ImageSource, Job};
+use crate::diagnostics::{put_notes, report_failure};
 use crate::failure::Failure;
 use crate::jobs::{SourceFailure, do_job};
-use crate::reports::{put_notes, report_failure};
 use crate::tasks::Done;
 use bi_base::{Error, Limits, TracedRead, TracedWrite, TracedWriter};
 use bi_files::{FileSystem, save};

@@ -10,10 +10,10 @@ ghost use Rattle.bootimg.specs.Runs.{IsPlainRun, IsRun, IsTextRun, IsMistake};
 ghost use Rattle.clap.specs.declared.error.kind.ErrorKind.{ErrorKind};
 
 use crate::command_line::{ImageSource, NoRequest, Order, parse_arguments};
+use crate::diagnostics::{FAILED, report_failure};
 use crate::extractions::extract_to_directory;
 use crate::failure::Failure;
 use crate::jobs::do_job;
-use crate::reports::{FAILED, report_failure};
 use crate::requests::{conclude, do_job_to_file};
 use crate::tasks::SUCCESS;
 use bi_base::{

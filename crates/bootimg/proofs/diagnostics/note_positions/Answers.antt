@@ -2,7 +2,7 @@ use Rattle.std.proofs.Common.{◌∙◌, arith, rules}
 use Rattle.bootimg.specs.ErrorLines.{line_of}
 use Rattle.bootimg.specs.Runs.{HasSome, positions_line}
 use Rattle.bootimg.proofs.ErrorLines.{line_is_written}
-use Rattle.bootimg.proofs.reports.note_positions.Goals as goal
+use Rattle.bootimg.proofs.diagnostics.note_positions.Goals as goal
 
 pub returns-then-positions-gt0 : goal.returns-then-positions-gt0
 returns-then-positions-gt0 g c =

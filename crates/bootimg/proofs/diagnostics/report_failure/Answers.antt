@@ -2,7 +2,7 @@ use Rattle.std.proofs.Common.{◌∙◌, rules}
 use Rattle.bootimg.specs.ErrorLines.{line_of}
 use Rattle.bootimg.specs.Runs.{failure_line}
 use Rattle.bootimg.proofs.ErrorLines.{line_is_written}
-use Rattle.bootimg.proofs.reports.report_failure.Goals as goal
+use Rattle.bootimg.proofs.diagnostics.report_failure.Goals as goal
 
 pub returns-clause-line : goal.returns-clause-line
 returns-clause-line g c =

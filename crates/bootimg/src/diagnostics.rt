@@ -1,7 +1,6 @@
 //! The lines that the program writes to standard error.
 
 ghost use Rattle.std.specs.Prelude.{◌≡◌};
-ghost use Rattle.bootimg.specs.ErrorLines.{Extends, line_of};
 ghost use Rattle.bootimg.specs.Failures.{name_text};
 ghost use Rattle.bootimg.specs.Runs.{Notes, NotesAlignment, NotesCount, Reports};
 ghost use Rattle.bootimg.specs.Runs.{alignment_line, failure_line, note_line, positions_line};
@@ -9,7 +8,8 @@ ghost use Rattle.bootimg.specs.Runs.{alignment_line, failure_line, note_line, po
 use crate::command_line::ImageSource;
 use crate::error_line::ErrorLine;
 use crate::failure::Failure;
-use bi_base::TracedWrite;
+use bi_base::{Pen, TracedWrite};
+use bi_common::fields::{Field, put_field};
 use bi_norm::Kept;
 
 /// The exit status after any failure.
@@ -31,14 +31,9 @@ pub fn report_failure<E: TracedWrite>(
     FAILED
 }
 
-/// Appends the line of a failure.
-fn put_failure<E: TracedWrite>(
-    source: ImageSource<'_>,
-    failure: Failure,
-    line: &mut ErrorLine<'_, E>,
-)
-    ensures { Extends (line_of E.trace line.old) (failure_line source.entry failure)
-        (line_of E.trace line.new) }
+/// Puts the line of a failure.
+fn put_failure<P: Pen>(source: ImageSource<'_>, failure: Failure, line: &mut P)
+    ensures { P.puts line.old (failure_line source.entry failure) line.new }
 {
     line.put(b"bootimg: ");
     put_source(source, failure, line);
@@ -46,18 +41,13 @@ fn put_failure<E: TracedWrite>(
     line.put(b"\n");
 }
 
-/// Appends the name of the file, if the failure is about an image in a file.
-fn put_source<E: TracedWrite>(
-    source: ImageSource<'_>,
-    failure: Failure,
-    line: &mut ErrorLine<'_, E>,
-)
-    ensures { Extends (line_of E.trace line.old) (name_text source.entry failure)
-        (line_of E.trace line.new) }
+/// Puts the name of the file, if the failure is about an image in a file.
+fn put_source<P: Pen>(source: ImageSource<'_>, failure: Failure, line: &mut P)
+    ensures { P.puts line.old (name_text source.entry failure) line.new }
 {
     match source {
         ImageSource::File(name) if failure.is_about_image() => {
-            line.put_name(name.as_bytes());
+            put_field(Field::Shown(name.as_bytes()), line);
             line.put(b": ");
         }
         _ => {}
@@ -109,31 +99,29 @@ fn note_positions<E: TracedWrite>(positions: usize, errors: &mut E)
     }
 }
 
-/// Appends the line on the signature nodes of a text.
-fn put_signatures<E: TracedWrite>(signatures: usize, line: &mut ErrorLine<'_, E>)
-    ensures { Extends (line_of E.trace line.old) (note_line signatures) (line_of E.trace line.new) }
+/// Puts the line on the signature nodes of a text.
+fn put_signatures<P: Pen>(signatures: usize, line: &mut P)
+    ensures { P.puts line.old (note_line signatures) line.new }
 {
     line.put(b"bootimg: note: ");
-    line.put_number(signatures);
+    put_field(Field::Decimal(signatures as u64), line);
     line.put(b" signature nodes carried, not checked\n");
 }
 
-/// Appends the line on an alignment in bytes that payloads lose.
-fn put_alignment<E: TracedWrite>(bytes: u32, line: &mut ErrorLine<'_, E>)
-    ensures { Extends (line_of E.trace line.old) (alignment_line bytes)
-        (line_of E.trace line.new) }
+/// Puts the line on an alignment in bytes that payloads lose.
+fn put_alignment<P: Pen>(bytes: u32, line: &mut P)
+    ensures { P.puts line.old (alignment_line bytes) line.new }
 {
     line.put(b"bootimg: note: payloads are no longer aligned to ");
-    line.put_number(bytes as usize);
+    put_field(Field::Decimal(u64::from(bytes)), line);
     line.put(b" bytes, see --align\n");
 }
 
-/// Appends the line on payloads with fixed positions.
-fn put_positions<E: TracedWrite>(positions: usize, line: &mut ErrorLine<'_, E>)
-    ensures { Extends (line_of E.trace line.old) (positions_line positions)
-        (line_of E.trace line.new) }
+/// Puts the line on payloads with fixed positions.
+fn put_positions<P: Pen>(positions: usize, line: &mut P)
+    ensures { P.puts line.old (positions_line positions) line.new }
 {
     line.put(b"bootimg: note: ");
-    line.put_number(positions);
+    put_field(Field::Decimal(positions as u64), line);
     line.put(b" fixed positions of payloads were not kept\n");
 }

@@ -2,7 +2,7 @@ use Rattle.std.proofs.Common.{◌∙◌, rules}
 use Rattle.bootimg.specs.ErrorLines.{line_of}
 use Rattle.bootimg.specs.Runs.{alignment_line}
 use Rattle.bootimg.proofs.ErrorLines.{line_is_written}
-use Rattle.bootimg.proofs.reports.note_alignment.Goals as goal
+use Rattle.bootimg.proofs.diagnostics.note_alignment.Goals as goal
 
 pub returns-in-Some : goal.returns-in-Some
 returns-in-Some g c =
