@@ -7,7 +7,7 @@ use Rattle.bi_blob.proofs.Blobs.OpenNodes.{AreDistinct-push}
 use Rattle.bi_blob.proofs.NameSets.{new_by_test, held_by_test}
 use Rattle.bi_hash.specs.Algos.{algorithm_name}
 use Rattle.bi_hash.specs.declared.algo.Algo.{Algo}
-use Rattle.bootimg.specs.CommandLine.{IsBadValue, IsFailureOutcome, NoneIs}
+use Rattle.bootimg.specs.Options.{IsBadValue, IsFailureOutcome, NoneIs}
 use Rattle.bootimg.specs.ConfigurationWords.{AreAlgorithms, AreHashesOf}
 use Rattle.bootimg.specs.Words.{listed_words}
 use Rattle.bootimg.specs.declared.command_line.NoRequest.{NoRequest}

@@ -12,7 +12,8 @@ use Rattle.bi_files.specs.declared.saving.SaveError.{SaveError}
 use Rattle.bi_files.specs.Directories.{IsDirectoryNotSaved, IsDirectorySaved, IsWithoutSlashes}
 use Rattle.bi_files.specs.Files.{FileStep, KnownFiles}
 use Rattle.bootimg.specs.Failures.{failure_to_save}
-use Rattle.bootimg.specs.Runs.{Inputs, IsAllWork, IsImageRead, NotExtracted, PayloadsNotSaved, PayloadsSaved, source_failure}
+use Rattle.bootimg.specs.Works.{Inputs, IsImageRead, source_failure}
+use Rattle.bootimg.specs.SavedWorks.{IsAllWork, NotExtracted, PayloadsNotSaved, PayloadsSaved}
 use Rattle.bootimg.specs.Tasks.{EndedWith}
 
 -- Extracting all payloads of an image that was read. Reading it did not change what is known of the files. `shown` is the image as it was

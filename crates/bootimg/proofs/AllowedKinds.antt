@@ -6,7 +6,8 @@ use Rattle.bi_report.specs.Checking.{kind_word, allows}
 use Rattle.bi_report.specs.declared.check.Allowed.{Allowed}
 use Rattle.bi_report.specs.declared.check.ConcernKind.{ConcernKind}
 use Rattle.bi_report.specs.declared.check.ConcernKind.TheVariants as kind
-use Rattle.bootimg.specs.CommandLine.{IsAllowed, IsKindWord, NoneIs}
+use Rattle.bootimg.specs.TaskOptions.{IsAllowed, IsKindWord}
+use Rattle.bootimg.specs.Options.{NoneIs}
 
 -- Words allow the kinds that they are the words for. No words allow no kind, and a word for no kind allows nothing.
 

@@ -10,7 +10,7 @@ use Rattle.std.proofs.lemmas.Bool.Decides.{Decides-and, Decides-ltb}
 use Rattle.std.proofs.lemmas.Slice.Eq.{bytes_eq-Decides}
 use Rattle.bi_show.specs.AllCodes.{code_of_name}
 use Rattle.bootimg.specs.CodeWords.{given_names_of, IsCode, Named, Numbered}
-use Rattle.bootimg.specs.CommandLine.{NoneIs}
+use Rattle.bootimg.specs.Options.{NoneIs}
 use Rattle.bootimg.specs.KnownArguments.{CodesAreKnown, IsOnlyCode, IsOnlyLimit, IsOnlyNumber, LimitsAreKnown, NumbersAreKnown}
 use Rattle.bootimg.specs.Numbers.{IsNumber}
 use Rattle.bootimg.specs.declared.codes.CodeField.{CodeField}

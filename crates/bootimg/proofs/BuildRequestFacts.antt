@@ -25,8 +25,8 @@ use Rattle.clap.specs.Simple.{subcommand_of}
 use Rattle.clap.specs.Walk.{first_of}
 use Rattle.clap.proofs.OnLiterals.{clap_on_literals}
 use Rattle.bootimg.specs.CodeWords.{four_texts, text_of_code}
-use Rattle.bootimg.specs.CommandLine.{IsImageText, NoneIs, list_of, option_of}
-use Rattle.bootimg.specs.CommandLine.{values_of}
+use Rattle.bootimg.specs.ImageWords.{IsImageText, list_of}
+use Rattle.bootimg.specs.Options.{NoneIs, option_of, values_of}
 use Rattle.bootimg.specs.ConfigurationWords.{AreAlgorithms, AreConfigurations, AreHashes, AreHashesOf, IsConfigurationWord, IsDefault}
 use Rattle.bootimg.specs.ConfigurationWords.{IsFirstBadConfiguration, IsListText, configuration_model, configuration_models, names_under}
 use Rattle.bootimg.specs.KnownArguments.{IsOnlyCode}

@@ -13,11 +13,13 @@ use Rattle.bi_base.specs.declared.fault.Error.{Error}
 use Rattle.bi_commands.specs.KnownChoices.{lent}
 use Rattle.bi_commands.specs.declared.parts.Part.{Part}
 use Rattle.bi_commands.specs.declared.parts.Part.TheVariants.{Bytes, Length}
-use Rattle.bootimg.specs.CommandLine.{is_input, reads_input, sources_of}
+use Rattle.bootimg.specs.PartWords.{is_input, reads_input}
+use Rattle.bootimg.specs.BuildOptions.{sources_of}
 use Rattle.bi_files.specs.Files.{FileStep, KnownFiles, WereReadInTurn}
 use Rattle.bootimg.specs.ReadParts.{IsLent, IsReadingFailure, IsPartFailure, WasRead, WereRead}
-use Rattle.bootimg.specs.Runs.{build_promise, source_failure, Work, IsBuildWork, NoRoom, PartNotRead, IsBuiltWork, WasBuilt, WasNotBuilt}
-use Rattle.bootimg.specs.Runs.{ArePartsRead, IsFileRead, IsPart, IsPartNotRead, AreFirstRead}
+use Rattle.bootimg.specs.BuildWorks.{build_promise, IsBuildWork, NoRoom, PartNotRead, IsBuiltWork, WasBuilt, WasNotBuilt, ArePartsRead}
+use Rattle.bootimg.specs.BuildWorks.{IsPart, IsPartNotRead, AreFirstRead}
+use Rattle.bootimg.specs.Works.{source_failure, Work, IsFileRead}
 use Rattle.bootimg.specs.Tasks.{EndedWith}
 use Rattle.bootimg.specs.declared.builds.OwnedPart.{OwnedPart}
 use Rattle.bootimg.specs.declared.builds.OwnedPart.TheVariants as owned

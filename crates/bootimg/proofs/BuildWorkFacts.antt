@@ -32,12 +32,13 @@ use Rattle.bi_norm.specs.FitBuilding.{PlanSpecModel, plain_plan, plan_for, spec_
 use Rattle.bi_norm.specs.KnownBuildFaults.{head_like}
 use Rattle.bi_norm.specs.KnownBuiltTexts.{kernel_and_ramdisk}
 use Rattle.bi_norm.specs.declared.fit_building.ImageSpec.{ImageSpec}
-use Rattle.bootimg.specs.CommandLine.{reads_input}
+use Rattle.bootimg.specs.PartWords.{reads_input}
 use Rattle.bootimg.specs.KnownInputs.{two_files, without_files}
 use Rattle.bootimg.specs.KnownTasks.{BuildPromisesAreKnown, BuildWorksAreKnown, IsPlainPlan, without_notes, hello_and_abc}
 use Rattle.bootimg.specs.KnownWorks.{bytes_in_part, parts_a_and_b}
-use Rattle.bootimg.specs.Runs.{ArePartsRead, BuiltOfFiles, BuiltWithInput, IsBuildWork, IsBuiltWork, IsPartNotRead, NoRoom, PartNotRead}
-use Rattle.bootimg.specs.Runs.{WasBuilt, WasNotBuilt, Work, build_promise, no_input, plan_of_options, source_failure, with_input}
+use Rattle.bootimg.specs.BuildWorks.{ArePartsRead, BuiltOfFiles, BuiltWithInput, IsBuildWork, IsBuiltWork, IsPartNotRead, NoRoom}
+use Rattle.bootimg.specs.BuildWorks.{PartNotRead, WasBuilt, WasNotBuilt, build_promise, no_input, plan_of_options}
+use Rattle.bootimg.specs.Works.{Work, source_failure, with_input}
 use Rattle.bootimg.specs.Tasks.{EndedWith}
 use Rattle.bootimg.specs.declared.command_line.build.BuildPlan.TheVariants.{Legacy, Fit}
 use Rattle.bootimg.specs.declared.command_line.build.FitPlan.{FitPlan}

@@ -17,11 +17,12 @@ use Rattle.bi_norm.specs.declared.fit_building.ImageTexts.{ImageTexts}
 use Rattle.bootimg.specs.CodeWords.{text_of_code, four_texts, IsCode}
 use Rattle.clap.specs.Matches.{raw_values}
 use Rattle.clap.specs.declared.parser.matches.MatchedArg.{MatchedArg}
-use Rattle.bootimg.specs.CommandLine.{given_count, list_of, option_of, texts_of, AreEscaped, AreGiven, AreImages, ArePartSources}
+use Rattle.bootimg.specs.ExtractOptions.{given_count, AreEscaped, AreGiven, IsAllFailure, IsAllRequest, IsNoneGiven, IsEntry, IsSelection}
+use Rattle.bootimg.specs.ExtractOptions.{IsSelectionFailure, IsNameOf, SelectsDefault}
+use Rattle.bootimg.specs.ImageWords.{list_of, AreImages, IsFirstBad, IsAddress, IsImage, IsImageText}
+use Rattle.bootimg.specs.Options.{option_of, texts_of, IsFailureOutcome, IsBadValue, NoneIs}
+use Rattle.bootimg.specs.PartWords.{ArePartSources, IsPartSource}
 use Rattle.bootimg.specs.Words.{parts_of}
-use Rattle.bootimg.specs.CommandLine.{IsAllFailure, IsAllRequest, IsNoneGiven, IsFailureOutcome, IsEntry, IsFirstBad, IsSelection}
-use Rattle.bootimg.specs.CommandLine.{IsSelectionFailure}
-use Rattle.bootimg.specs.CommandLine.{IsAddress, IsBadValue, IsImage, IsImageText, IsNameOf, IsPartSource, NoneIs, SelectsDefault}
 use Rattle.bootimg.specs.Numbers.{IsNumber}
 use Rattle.bootimg.specs.declared.codes.CodeField.TheVariants.{Os, Arch, ImageType, Compression}
 use Rattle.bootimg.specs.declared.command_line.image.ImageFields.{ImageFields}

@@ -13,7 +13,7 @@ use Rattle.bi_fit.specs.NamedImages.{configuration_spec_model, configuration_spe
 use Rattle.bi_fit.specs.declared.building.ConfigurationSpec.{ConfigurationSpec}
 use Rattle.bi_fit.specs.declared.key.Key.{Key}
 use Rattle.bi_norm.specs.FitBuilding.{ListsOnly}
-use Rattle.bootimg.specs.CommandLine.{texts_of, NoneIs}
+use Rattle.bootimg.specs.Options.{texts_of, NoneIs}
 use Rattle.bootimg.specs.ConfigurationWords.{configuration_model, configuration_models, names_under, AreConfigurations, AreLists}
 use Rattle.bootimg.specs.ConfigurationWords.{name_of_word, IsConfigurationWord, IsDefault, IsFirstBadConfiguration, IsListText}
 use Rattle.bootimg.specs.Words.{parts_of}

@@ -5,7 +5,7 @@ use Rattle.bi_base.specs.Traces.{WriteTrace}
 use Rattle.bi_base.specs.Writing.{WroteAll, WriteStopped}
 use Rattle.bi_base.specs.BufferedSinks.{wrote_nothing, wrote_in_turn, stopped_after}
 use Rattle.bootimg.specs.ErrorLines.{LineState, IsSent, SendsMore, LineHas, Extends}
-use Rattle.bootimg.specs.Runs.{Logs, IsLogged, HasStopped}
+use Rattle.bootimg.specs.Diagnostics.{Logs, IsLogged, HasStopped}
 
 -- A line that was written is sent after all that was sent before it, or that fails.
 

@@ -10,11 +10,13 @@ use Rattle.bi_hash.specs.declared.algo.Algo.TheVariants.{Sha256}
 use Rattle.bi_norm.specs.FitBuilding.{names_of_specs}
 use Rattle.clap.specs.declared.parser.matches.ArgMatches.{ArgMatches}
 use Rattle.clap.proofs.OnLiterals.{clap_on_literals}
-use Rattle.bootimg.specs.CommandLine.{ChangesHashes, HasFitValues, HasNoForm, IsBadPlan, IsChanges, IsChangesFailure}
-use Rattle.bootimg.specs.CommandLine.{IsFirstBad, IsFitPlanFailure, IsForm, IsFormWith, IsImageText, IsLimits, IsNewTime}
-use Rattle.bootimg.specs.CommandLine.{IsTaskFailure, NoneIs, NotAllowed, NotChanged, NotCompared, NotExplained, NotFit, NotFormed}
-use Rattle.bootimg.specs.CommandLine.{NotFormedChanged, NotLegacy, NotLimited, NotPlaced, NotSelected, align_option, external_flag}
-use Rattle.bootimg.specs.CommandLine.{given_offset, hashes_flag, limit_of, name_of_task, option_of, value_of, values_of}
+use Rattle.bootimg.specs.TaskOptions.{ChangesHashes, IsChanges, IsChangesFailure, IsNewTime, hashes_flag}
+use Rattle.bootimg.specs.BuildOptions.{HasFitValues, IsBadPlan, IsFitPlanFailure}
+use Rattle.bootimg.specs.Options.{HasNoForm, IsForm, IsFormWith, IsLimits, NoneIs, align_option, external_flag, given_offset, limit_of}
+use Rattle.bootimg.specs.Options.{option_of, value_of, values_of}
+use Rattle.bootimg.specs.ImageWords.{IsFirstBad, IsImageText}
+use Rattle.bootimg.specs.CommandLine.{IsTaskFailure, NotAllowed, NotChanged, NotCompared, NotExplained, NotFit, NotFormed, NotFormedChanged}
+use Rattle.bootimg.specs.CommandLine.{NotLegacy, NotLimited, NotPlaced, NotSelected, name_of_task}
 use Rattle.bootimg.specs.ConfigurationWords.{AreHashes, IsDefault, IsFirstBadConfiguration}
 use Rattle.bootimg.specs.KnownBuildRequests.{FirstFailuresAreKnown, IsTheOne}
 use Rattle.bootimg.specs.Numbers.{IsNumber}

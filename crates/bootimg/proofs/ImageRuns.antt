@@ -17,11 +17,12 @@ use Rattle.bi_files.specs.Files.{IsNotSaved, IsSaved, TookSteps, WasNotOpened, W
 use Rattle.bootimg.specs.declared.jobs.SourceFailure.{SourceFailure}
 use Rattle.bootimg.specs.declared.tasks.Done.{Done}
 use Rattle.bootimg.specs.Failures.{failure_to_save}
-use Rattle.bootimg.specs.Runs.{Inputs, Work, source_failure, IsNotRead, IsImageRead, InputRead, FileRead, IsImageNotRead, InputNotRead}
-use Rattle.bootimg.specs.Runs.{FileNotRead, IsFileRead, IsFileNotRead, OpenedNotRead}
-use Rattle.bootimg.specs.Runs.{IsComparedWork, IsCompareWork, BothRead, OtherNotRead, IsFailedWork, IsBuildWork}
-use Rattle.bootimg.specs.Runs.{IsExplainWork, IsImageWork, IsJobWork, IsHeldWork, IsHeldFailure, failure_in_memory, Run, work_of}
-use Rattle.bootimg.specs.Runs.{inputs_before, inputs_after, IsOutputRun, IsSavedWork, OutputSaved, OutputNotSaved, ToStandardOutput, ToFile}
+use Rattle.bootimg.specs.Works.{Inputs, Work, source_failure, IsNotRead, IsImageRead, InputRead, FileRead, IsImageNotRead, InputNotRead}
+use Rattle.bootimg.specs.Works.{FileNotRead, IsFileRead, IsFileNotRead, OpenedNotRead, IsFailedWork}
+use Rattle.bootimg.specs.JobWorks.{IsComparedWork, IsCompareWork, BothRead, OtherNotRead, IsExplainWork, IsImageWork, IsJobWork}
+use Rattle.bootimg.specs.BuildWorks.{IsBuildWork}
+use Rattle.bootimg.specs.SavedWorks.{IsHeldWork, IsHeldFailure, failure_in_memory, IsSavedWork, OutputSaved, OutputNotSaved}
+use Rattle.bootimg.specs.Runs.{Run, work_of, inputs_before, inputs_after, IsOutputRun, ToStandardOutput, ToFile}
 use Rattle.bi_files.proofs.NewFiles.{steps_in_turn}
 
 -- Reading standard input or a file that was opened reads the image, and each job that was done with it is the work of the job.

@@ -28,8 +28,9 @@ use Rattle.bootimg.specs.KnownInputs.{ComparesFiles, ExplanationsAreKnown, Fails
 use Rattle.bootimg.specs.KnownInputs.{ImagesAtAreKnown, one_file, two_files, without_files}
 use Rattle.bootimg.specs.KnownRequests.{IsFileNamed}
 use Rattle.bootimg.specs.KnownRuns.{compared_plan}
-use Rattle.bootimg.specs.Runs.{BothRead, CouldNotOpen, FileNotRead, FileRead, Inputs, InputNotRead, InputRead, IsFailedWork, IsFileNotRead}
-use Rattle.bootimg.specs.Runs.{IsFileRead, IsImageNotRead, IsImageRead, OneNotRead, OpenedNotRead, OtherNotRead, Work, source_failure}
+use Rattle.bootimg.specs.JobWorks.{BothRead, OneNotRead, OtherNotRead}
+use Rattle.bootimg.specs.Works.{CouldNotOpen, FileNotRead, FileRead, Inputs, InputNotRead, InputRead, IsFailedWork, IsFileNotRead}
+use Rattle.bootimg.specs.Works.{IsFileRead, IsImageNotRead, IsImageRead, OpenedNotRead, Work, source_failure}
 use Rattle.bootimg.specs.declared.command_line.source.ImageSource.{ImageSource}
 use Rattle.bootimg.specs.declared.command_line.source.ImageSource.TheVariants.{File}
 use Rattle.bootimg.specs.declared.failure.Failure.{Failure}

@@ -10,7 +10,7 @@ use Rattle.bi_fit.specs.Names.{key_name}
 use Rattle.bi_fit.specs.declared.key.Key.{Key}
 use Rattle.bi_fit.specs.declared.key.Key.TheVariants.{Kernel, Fdt, Ramdisk, Firmware, Loadables, Script}
 use Rattle.clap.proofs.CutLemmas.{before_first-at}
-use Rattle.bootimg.specs.CommandLine.{NoneIs}
+use Rattle.bootimg.specs.Options.{NoneIs}
 use Rattle.bootimg.specs.ConfigurationWords.{names_under, AreLists, IsListText}
 use Rattle.bootimg.specs.Words.{listed_words}
 use Rattle.bootimg.specs.declared.command_line.configurations.KeyList.{KeyList}

@@ -17,18 +17,21 @@ use Rattle.bootimg.specs.declared.command_line.source.ImageSource.{ImageSource}
 use Rattle.bootimg.specs.declared.failure.Failure.{Failure}
 use Rattle.bootimg.specs.declared.jobs.SourceFailure.{SourceFailure}
 use Rattle.bootimg.specs.declared.tasks.Done.{Done}
-use Rattle.bootimg.specs.CommandLine.{IsAllRequested, IsRequest, sources_of}
+use Rattle.bootimg.specs.CommandLine.{IsAllRequested, IsRequest}
+use Rattle.bootimg.specs.BuildOptions.{sources_of}
 use Rattle.bi_files.specs.Files.{FileStep, KnownFiles, Names, Opened, NotOpened, ReaderClosed, WasOpened, WasNotOpened}
 use Rattle.clap.specs.declared.error.kind.ErrorKind.{ErrorKind}
 use Rattle.bi_files.specs.FilesAfter.{after_steps, AreSameNames, HasDirectory, HasFile, HaveContents}
 use Rattle.bootimg.specs.LeftFiles.{LeavesFiles, DirectoryIsThere, OutputIsThere, NoFileIsNamed, NothingIsRequested, HasFailed}
-use Rattle.bootimg.specs.Runs.{Inputs, Run, Work, IsFileRead, IsFileNotRead, CouldNotOpen, OpenedNotRead, IsImageRead, InputRead, FileRead}
-use Rattle.bootimg.specs.Runs.{IsImageNotRead, InputNotRead, FileNotRead, IsPart, ArePartsRead, IsImageWork, DoneOnInput, DoneOnFile}
-use Rattle.bootimg.specs.Runs.{FileNotOpened, IsCompareWork, BothRead, OneNotRead, OtherNotRead, IsBuildWork, BuiltWithInput, BuiltOfFiles}
-use Rattle.bootimg.specs.Runs.{PartNotRead, NoRoom, IsJobWork, IsSavedWork, OutputSaved, OutputNotSaved, NoOutput, IsOutputRun}
-use Rattle.bootimg.specs.Runs.{ToStandardOutput, ToFile, IsEnd, EndsWell, EndsWithFailure, IsTextRun, IsWritten, IsNotWritten}
-use Rattle.bootimg.specs.Runs.{IsUsage, IsRun, RanJob, ExtractedAll, Rejected, WroteText, inputs_before, inputs_after}
-use Rattle.bootimg.specs.Runs.{IsAllWork, PayloadsSaved, PayloadsNotSaved, NotExtracted, NothingRead}
+use Rattle.bootimg.specs.Works.{Inputs, Work, IsFileRead, IsFileNotRead, CouldNotOpen, OpenedNotRead, IsImageRead, InputRead, FileRead}
+use Rattle.bootimg.specs.Works.{IsImageNotRead, InputNotRead, FileNotRead}
+use Rattle.bootimg.specs.Runs.{Run, IsOutputRun, ToStandardOutput, ToFile, IsEnd, EndsWell, EndsWithFailure, IsTextRun, IsWritten}
+use Rattle.bootimg.specs.Runs.{IsNotWritten, IsUsage, IsRun, RanJob, ExtractedAll, Rejected, WroteText, inputs_before, inputs_after}
+use Rattle.bootimg.specs.BuildWorks.{IsPart, ArePartsRead, IsBuildWork, BuiltWithInput, BuiltOfFiles, PartNotRead, NoRoom}
+use Rattle.bootimg.specs.JobWorks.{IsImageWork, DoneOnInput, DoneOnFile, FileNotOpened, IsCompareWork, BothRead, OneNotRead, OtherNotRead}
+use Rattle.bootimg.specs.JobWorks.{IsJobWork}
+use Rattle.bootimg.specs.SavedWorks.{IsSavedWork, OutputSaved, OutputNotSaved, NoOutput, IsAllWork, PayloadsSaved, PayloadsNotSaved}
+use Rattle.bootimg.specs.SavedWorks.{NotExtracted, NothingRead}
 use Rattle.bootimg.specs.Tasks.{status_of}
 use Rattle.bi_files.proofs.FilesAfter.{KeepsNames, keeps_same, keeps_in_turn, keeps_with, LeftAfterFailure, kept_is_left, not_saved_leaves}
 use Rattle.bi_files.proofs.FilesAfter.{saved_leaves}

@@ -8,7 +8,7 @@ use Rattle.std.specs.List.{AllZip, list_any}
 use Rattle.std.specs.Str.{bytes_eq}
 use Rattle.bi_blob.specs.Layout.{is_among}
 use Rattle.bi_blob.specs.Tree.{AreDistinct, IsNew}
-use Rattle.bootimg.specs.CommandLine.{texts_of}
+use Rattle.bootimg.specs.Options.{texts_of}
 
 -- Texts that are parsed one after another: one more joins those so far, and what the last of them is not, all are not.
 

@@ -11,10 +11,10 @@ use Rattle.clap.specs.Walk.{Row, rows_of}
 use Rattle.clap.specs.declared.error.Error.{Error as ClapError}
 use Rattle.clap.specs.declared.parser.matches.ArgMatches.{ArgMatches}
 use Rattle.clap.specs.declared.parser.matches.ArgMatches.TheViews.{out-ArgMatches, out-SubCommand}
-use Rattle.bootimg.specs.CommandLine.{limit_of, Gives, HasNoText, HasText, IsBadValue, IsFailureOutcome, IsJob, IsLimits, IsNoRequest}
-use Rattle.bootimg.specs.CommandLine.{IsOutcomeOf}
-use Rattle.bootimg.specs.CommandLine.{IsAllFailure, IsAllRequest, IsAllRequested, IsNoneGiven, IsTaskFailure, NoJob, NoLimits, NoMemory}
-use Rattle.bootimg.specs.CommandLine.{NotAll, SelectsAll}
+use Rattle.bootimg.specs.Options.{limit_of, IsBadValue, IsFailureOutcome, IsLimits}
+use Rattle.bootimg.specs.CommandLine.{Gives, HasNoText, HasText, IsJob, IsNoRequest, IsOutcomeOf, IsAllRequested, IsTaskFailure, NoJob}
+use Rattle.bootimg.specs.CommandLine.{NoLimits, NoMemory, NotAll}
+use Rattle.bootimg.specs.ExtractOptions.{IsAllFailure, IsAllRequest, IsNoneGiven, SelectsAll}
 use Rattle.bootimg.specs.declared.command_line.extract.AllRequest.{AllRequest}
 use Rattle.bootimg.specs.Program.{program_app, IsCommandName}
 use Rattle.bootimg.specs.declared.command_line.Job.{Job}

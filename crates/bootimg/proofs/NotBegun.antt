@@ -6,7 +6,7 @@ use Rattle.bi_base.specs.declared.fault.Error.TheVariants.{OutOfMemory, ReadFail
 use Rattle.bi_commands.specs.BuildCommands.{IsFitOutput, IsFitOutputError}
 use Rattle.bi_commands.specs.declared.parts.Part.{Part}
 use Rattle.bi_commands.proofs.MemoryBeforeRun.{not_begun}
-use Rattle.bootimg.specs.Runs.{fit_promise, plan_of_options}
+use Rattle.bootimg.specs.BuildWorks.{fit_promise, plan_of_options}
 use Rattle.bootimg.specs.declared.command_line.build.FitPlan.{FitPlan}
 
 -- A command for which memory runs out before it begins reads and writes nothing.

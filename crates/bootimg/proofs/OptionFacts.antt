@@ -9,7 +9,8 @@ use Rattle.clap.specs.Walk.{Row, Text, all_of}
 use Rattle.clap.specs.declared.parser.matches.ArgMatches.{ArgMatches}
 use Rattle.clap.proofs.OnLiterals.{clap_on_literals}
 use Rattle.clap.proofs.WalkLemmas.{raw_values-rows}
-use Rattle.bootimg.specs.CommandLine.{Gives, values_of}
+use Rattle.bootimg.specs.CommandLine.{Gives}
+use Rattle.bootimg.specs.Options.{values_of}
 use Rattle.bootimg.specs.KnownArguments.{DefaultsAreKnown, GivesValues, MistakesAreKnown, OptionsAreKnown, ValuesOf}
 use Rattle.bootimg.specs.Program.{program_app}
 

@@ -8,10 +8,12 @@ use Rattle.clap.specs.Simple.{subcommand_of}
 use Rattle.clap.specs.Walk.{Row, Text}
 use Rattle.clap.specs.declared.parser.matches.ArgMatches.{ArgMatches}
 use Rattle.clap.proofs.OnLiterals.{clap_on_literals}
-use Rattle.bootimg.specs.CommandLine.{Gives, IsJob, IsLimits, IsTask, IsTaskFailure, NoJob, NoLimits, NoMemory}
-use Rattle.bootimg.specs.CommandLine.{NotAll, NotAllowed, NotChanged, NotCompared, NotExplained, NotFit, NotFormed, NotFormedChanged}
-use Rattle.bootimg.specs.CommandLine.{NotLegacy, NotLimited, NotPlaced, NotSelected, all_flag, hashes_flag, json_flag, limit_of}
-use Rattle.bootimg.specs.CommandLine.{option_of}
+use Rattle.bootimg.specs.CommandLine.{Gives, IsJob, IsTask, IsTaskFailure, NoJob, NoLimits, NoMemory, NotAll, NotAllowed, NotChanged}
+use Rattle.bootimg.specs.CommandLine.{NotCompared, NotExplained, NotFit, NotFormed, NotFormedChanged, NotLegacy, NotLimited, NotPlaced}
+use Rattle.bootimg.specs.CommandLine.{NotSelected}
+use Rattle.bootimg.specs.Options.{IsLimits, json_flag, limit_of, option_of}
+use Rattle.bootimg.specs.ExtractOptions.{all_flag}
+use Rattle.bootimg.specs.TaskOptions.{hashes_flag}
 use Rattle.bootimg.specs.KnownOrders.{IsListOfFile, IsRejectedFor, RejectionsAreKnown, RequestsAreKnown}
 use Rattle.bootimg.specs.Program.{program_app}
 use Rattle.bootimg.specs.declared.command_line.Job.{Job}

@@ -2,9 +2,9 @@ use Rattle.std.proofs.Common.{◌≡◌, ℕ, List, Option, codes, subst, sym, i
 use Rattle.bi_norm.specs.FitBuilding.{names_of_specs}
 use Rattle.bi_norm.specs.declared.fit_building.ImageSpec.{ImageSpec}
 use Rattle.bi_norm.specs.declared.fit_building.ImageTexts.{ImageTexts}
-use Rattle.bootimg.specs.CommandLine.{option_of, value_of, values_of, AreImages, HasFitValues, IsBadConfiguration, IsBadImage, IsBadValue}
-use Rattle.bootimg.specs.CommandLine.{IsFormFailure}
-use Rattle.bootimg.specs.CommandLine.{IsFirstBad, IsFitPlanFailure}
+use Rattle.bootimg.specs.Options.{option_of, value_of, values_of, IsBadValue, IsFormFailure}
+use Rattle.bootimg.specs.ImageWords.{AreImages, IsBadImage, IsFirstBad}
+use Rattle.bootimg.specs.BuildOptions.{HasFitValues, IsBadConfiguration, IsFitPlanFailure}
 use Rattle.bootimg.specs.ConfigurationWords.{AreHashes, IsDefault, IsFirstBadConfiguration}
 use Rattle.bootimg.specs.Numbers.{IsNumber}
 use Rattle.bootimg.specs.declared.command_line.part.PartSource.{PartSource}

@@ -27,11 +27,15 @@ use Rattle.clap.specs.declared.parser.matches.ArgMatches.{ArgMatches}
 use Rattle.clap.proofs.OnLiterals.{clap_on_literals}
 use Rattle.clap.proofs.WalkLemmas.{first_value-rows, one_text-rows}
 use Rattle.bootimg.specs.CodeWords.{IsCode}
-use Rattle.bootimg.specs.CommandLine.{IsFormWith}
-use Rattle.bootimg.specs.CommandLine.{Gives, IsAddress, IsAllowed, IsChangesFailure, IsFields, IsImageSource, IsImageText, IsNewTime}
-use Rattle.bootimg.specs.CommandLine.{IsPartSource, IsSelection, IsSelectionFailure, IsBuildPlan, NamesAFile, NoneIs}
-use Rattle.bootimg.specs.CommandLine.{IsAllFailure, IsEntry, IsNameOf, IsNoneGiven, SelectsDefault, default_flag}
-use Rattle.bootimg.specs.CommandLine.{given_count, list_of, option_of, value_of}
+use Rattle.bootimg.specs.Options.{IsFormWith, NoneIs, option_of, value_of}
+use Rattle.bootimg.specs.CommandLine.{Gives, IsBuildPlan}
+use Rattle.bootimg.specs.ImageWords.{IsAddress, IsImageText, list_of}
+use Rattle.bootimg.specs.TaskOptions.{IsAllowed, IsChangesFailure, IsNewTime}
+use Rattle.bootimg.specs.BuildOptions.{IsFields}
+use Rattle.bootimg.specs.ImageSources.{IsImageSource, NamesAFile}
+use Rattle.bootimg.specs.PartWords.{IsPartSource}
+use Rattle.bootimg.specs.ExtractOptions.{IsSelection, IsSelectionFailure, IsAllFailure, IsEntry, IsNameOf, IsNoneGiven, SelectsDefault}
+use Rattle.bootimg.specs.ExtractOptions.{default_flag, given_count}
 use Rattle.bootimg.specs.Words.{listed_words, parts_of}
 use Rattle.bootimg.specs.KnownArguments.{IsOnlyCode, IsOnlyNumber}
 use Rattle.bootimg.specs.KnownRequests.{AllRequestsAreKnown, AllowedWordsAreKnown, AreFieldsOfLine, ChangesAreKnown}

@@ -13,8 +13,10 @@ use Rattle.bootimg.specs.declared.command_line.source.ImageSource.{ImageSource}
 use Rattle.bootimg.specs.declared.failure.Failure.{Failure}
 use Rattle.bi_files.specs.Files.{FileStep, KnownFiles}
 use Rattle.bootimg.specs.declared.tasks.Done.{Done}
-use Rattle.bootimg.specs.Runs.{IsPlainRun, IsRun, IsTaskWork, Logs, IsLogged, HasStopped, IsRejection, Reports, Run, Work, Succeeded}
-use Rattle.bootimg.specs.Runs.{HasFailed, IsAskedFor, IsMistake, source_failure}
+use Rattle.bootimg.specs.Runs.{IsPlainRun, IsRun, IsRejection, Run, IsAskedFor, IsMistake}
+use Rattle.bootimg.specs.JobWorks.{IsTaskWork, Succeeded, HasFailed}
+use Rattle.bootimg.specs.Diagnostics.{Logs, IsLogged, HasStopped, Reports}
+use Rattle.bootimg.specs.Works.{Work, source_failure}
 use Rattle.bootimg.specs.Tasks.{plan_promise}
 
 -- A run of the program over traced streams is one over plain streams, and it succeeds, fails or is rejected as its calls do.

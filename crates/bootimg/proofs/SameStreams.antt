@@ -16,17 +16,20 @@ use Rattle.bootimg.specs.declared.command_line.Request.{Request}
 use Rattle.bootimg.specs.declared.command_line.extract.AllRequest.{AllRequest}
 use Rattle.bootimg.specs.declared.jobs.SourceFailure.{SourceFailure}
 use Rattle.bootimg.specs.declared.tasks.Done.{Done}
-use Rattle.bootimg.specs.Runs.{Inputs, Run, Work, no_input, work_of, with_input, Logs, IsLogged, HasStopped, Notes}
-use Rattle.bootimg.specs.Runs.{NotesCount, NotesAlignment, note_line, alignment_line, positions_line}
+use Rattle.bootimg.specs.Works.{Inputs, Work, with_input, IsImageRead, InputRead, FileRead, IsImageNotRead, InputNotRead, FileNotRead}
+use Rattle.bootimg.specs.Runs.{Run, work_of, IsRejection, IsOutputRun, ToStandardOutput, ToFile, IsEnd, EndsWell, EndsWithFailure}
+use Rattle.bootimg.specs.Runs.{IsRequestRun, IsTextRun, IsWritten, IsNotWritten, IsUsage, IsRun, RanJob, Rejected, WroteText, ExtractedAll}
+use Rattle.bootimg.specs.Runs.{IsAllRun}
+use Rattle.bootimg.specs.BuildWorks.{no_input, IsBuiltWork, WasBuilt, WasNotBuilt, IsBuildWork, BuiltWithInput, BuiltOfFiles, PartNotRead}
+use Rattle.bootimg.specs.BuildWorks.{NoRoom}
+use Rattle.bootimg.specs.Diagnostics.{Logs, IsLogged, HasStopped, Notes, NotesCount, NotesAlignment, note_line, alignment_line}
+use Rattle.bootimg.specs.Diagnostics.{positions_line, HasNone, HasSome}
 use Rattle.bi_fit.specs.declared.kept.Kept.{Kept}
-use Rattle.bootimg.specs.Runs.{HasNone, HasSome, IsRejection, IsTaskWork, Succeeded, HasFailed, IsImageWork, DoneOnInput, DoneOnFile}
-use Rattle.bootimg.specs.Runs.{FileNotOpened, IsImageRead, InputRead, FileRead, IsImageNotRead, InputNotRead, FileNotRead, IsComparedWork}
-use Rattle.bootimg.specs.Runs.{WroteDifferences, NotAllWritten, NotCompared, IsCompareWork, BothRead, OneNotRead, OtherNotRead}
-use Rattle.bootimg.specs.Runs.{IsExplainWork, WroteExplanation, ExplanationNotWritten, NoMemoryForExplanation, IsBuiltWork, WasBuilt}
-use Rattle.bootimg.specs.Runs.{WasNotBuilt, IsBuildWork, BuiltWithInput, BuiltOfFiles, PartNotRead, NoRoom, IsJobWork, IsHeldWork}
-use Rattle.bootimg.specs.Runs.{IsSavedWork, OutputSaved, OutputNotSaved, NoOutput, IsOutputRun, ToStandardOutput, ToFile, IsEnd, EndsWell}
-use Rattle.bootimg.specs.Runs.{EndsWithFailure, IsRequestRun, IsTextRun, IsWritten, IsNotWritten, IsUsage, IsRun, RanJob, Rejected}
-use Rattle.bootimg.specs.Runs.{WroteText, ExtractedAll, IsAllRun, IsAllWork, PayloadsSaved, PayloadsNotSaved, NotExtracted, NothingRead}
+use Rattle.bootimg.specs.JobWorks.{IsTaskWork, Succeeded, HasFailed, IsImageWork, DoneOnInput, DoneOnFile, FileNotOpened, IsComparedWork}
+use Rattle.bootimg.specs.JobWorks.{WroteDifferences, NotAllWritten, NotCompared, IsCompareWork, BothRead, OneNotRead, OtherNotRead}
+use Rattle.bootimg.specs.JobWorks.{IsExplainWork, WroteExplanation, ExplanationNotWritten, NoMemoryForExplanation, IsJobWork}
+use Rattle.bootimg.specs.SavedWorks.{IsHeldWork, IsSavedWork, OutputSaved, OutputNotSaved, NoOutput, IsAllWork, PayloadsSaved}
+use Rattle.bootimg.specs.SavedWorks.{PayloadsNotSaved, NotExtracted, NothingRead}
 
 -- A run has the same streams before and after it.
 

@@ -37,7 +37,8 @@ use Rattle.bi_norm.proofs.ComparisonFacts.{kernel_with_rest_means, no_magic_is_e
 use Rattle.bi_norm.proofs.KindLaws.{one_file_fault}
 use Rattle.clap.specs.declared.parser.matches.ArgMatches.{ArgMatches}
 use Rattle.clap.proofs.OnLiterals.{clap_on_literals}
-use Rattle.bootimg.specs.CommandLine.{Gives, IsExplained, IsJob, name_of_task}
+use Rattle.bootimg.specs.CommandLine.{Gives, IsJob, name_of_task}
+use Rattle.bootimg.specs.TaskOptions.{IsExplained}
 use Rattle.bootimg.specs.Explanations.{explain_text}
 use Rattle.bootimg.specs.Failures.{failure_of}
 use Rattle.bootimg.specs.KnownInputs.{two_files, without_files}
@@ -45,13 +46,15 @@ use Rattle.bootimg.specs.KnownWorks.{AllWorksAreKnown, ExplainRunsAreKnown, Expl
 use Rattle.bootimg.specs.KnownWorks.{OutputsInFilesAreKnown, PartsOfFilesAreKnown, TaskFailuresAreKnown, TaskOutputsAreKnown}
 use Rattle.bootimg.specs.KnownWorks.{all_of_in, bytes_in_part, explanation, file_in, in_job, in_plan, normalising, only_in, parts_a_and_b}
 use Rattle.bootimg.specs.Program.{program_app}
-use Rattle.bootimg.specs.Runs.{ArePartsRead, AreFirstRead, DoneOnFile, DoneOnInput, EndsWell, EndsWithFailure, ExplanationNotWritten}
-use Rattle.bootimg.specs.Runs.{ExtractedAll, FileNotOpened, HasFailed, HasNone, HasSome, Inputs, IsAllWork, IsEnd, IsExplainWork}
-use Rattle.bootimg.specs.Runs.{IsFileNotRead, CouldNotOpen, OpenedNotRead, IsHeldFailure, IsHeldWork, IsImageWork, IsJobWork, IsOutputRun}
-use Rattle.bootimg.specs.Runs.{IsPart, IsPartNotRead, IsRun, IsSavedWork, IsTaskWork, NoMemoryForExplanation, NoOutput, NotExtracted, Notes}
-use Rattle.bootimg.specs.Runs.{NothingRead, OutputNotSaved, OutputSaved, PayloadsNotSaved, PayloadsSaved, RanJob, Rejected, Run, Succeeded}
-use Rattle.bootimg.specs.Runs.{ToFile, ToStandardOutput, Work, WroteExplanation, WroteText, failure_in_memory, source_failure}
-use Rattle.bootimg.specs.Runs.{NotesAlignment, NotesCount, inputs_after, inputs_before, note_line, positions_line, with_input, work_of}
+use Rattle.bootimg.specs.BuildWorks.{ArePartsRead, AreFirstRead, IsPart, IsPartNotRead}
+use Rattle.bootimg.specs.JobWorks.{DoneOnFile, DoneOnInput, ExplanationNotWritten, FileNotOpened, HasFailed, IsExplainWork, IsImageWork}
+use Rattle.bootimg.specs.JobWorks.{IsJobWork, IsTaskWork, NoMemoryForExplanation, Succeeded, WroteExplanation}
+use Rattle.bootimg.specs.Runs.{EndsWell, EndsWithFailure, ExtractedAll, IsEnd, IsOutputRun, IsRun, RanJob, Rejected, Run, ToFile}
+use Rattle.bootimg.specs.Runs.{ToStandardOutput, WroteText, inputs_after, inputs_before, work_of}
+use Rattle.bootimg.specs.Diagnostics.{HasNone, HasSome, Notes, NotesAlignment, NotesCount, note_line, positions_line}
+use Rattle.bootimg.specs.Works.{Inputs, IsFileNotRead, CouldNotOpen, OpenedNotRead, Work, source_failure, with_input}
+use Rattle.bootimg.specs.SavedWorks.{IsAllWork, IsHeldFailure, IsHeldWork, IsSavedWork, NoOutput, NotExtracted, NothingRead, OutputNotSaved}
+use Rattle.bootimg.specs.SavedWorks.{OutputSaved, PayloadsNotSaved, PayloadsSaved, failure_in_memory}
 use Rattle.bootimg.specs.Tasks.{IsCallFailure, EndedWith, plan_promise, status_of}
 use Rattle.bootimg.specs.declared.command_line.Job.{Job}
 use Rattle.bootimg.specs.declared.command_line.Job.TheVariants.{Run as RunTask, Compare, Build, Explain}

@@ -12,7 +12,9 @@ use Rattle.clap.specs.declared.error.kind.ErrorKind.TheVariants.{MissingSubcomma
 use Rattle.clap.specs.declared.error.kind.ErrorKind.TheVariants.{UnknownArgument}
 use Rattle.clap.specs.declared.parser.matches.ArgMatches.{ArgMatches}
 use Rattle.bootimg.specs.CodeWords.{IsCode}
-use Rattle.bootimg.specs.CommandLine.{Gives, IsLimits, NoneIs, reads_input, texts_of, values_of}
+use Rattle.bootimg.specs.CommandLine.{Gives}
+use Rattle.bootimg.specs.Options.{IsLimits, NoneIs, texts_of, values_of}
+use Rattle.bootimg.specs.PartWords.{reads_input}
 use Rattle.bootimg.specs.Numbers.{IsNumber}
 use Rattle.bootimg.specs.Program.{program_app}
 use Rattle.bootimg.specs.declared.codes.CodeField.{CodeField}

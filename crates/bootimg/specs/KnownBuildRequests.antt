@@ -6,8 +6,10 @@ use Rattle.bi_fit.specs.declared.key.Key.TheVariants.{Script}
 use Rattle.bi_hash.specs.declared.algo.Algo.{Algo}
 use Rattle.bi_hash.specs.declared.algo.Algo.TheVariants.{Crc32, Sha1, Sha256}
 use Rattle.bi_norm.specs.FitBuilding.{ImageTextsModel, image_texts_model}
-use Rattle.bootimg.specs.CommandLine.{IsFitPlanFailure, IsImageText, IsTaskFailure, NoneIs}
-use Rattle.bootimg.specs.CommandLine.{option_of, values_of}
+use Rattle.bootimg.specs.BuildOptions.{IsFitPlanFailure}
+use Rattle.bootimg.specs.ImageWords.{IsImageText}
+use Rattle.bootimg.specs.CommandLine.{IsTaskFailure}
+use Rattle.bootimg.specs.Options.{NoneIs, option_of, values_of}
 use Rattle.bootimg.specs.ConfigurationWords.{AreConfigurations, AreHashes, IsDefault}
 use Rattle.bootimg.specs.ConfigurationWords.{IsFirstBadConfiguration, configuration_models}
 use Rattle.bootimg.specs.KnownRequests.{HoldsFor, IsOnlyOne}

@@ -26,7 +26,8 @@ use Rattle.bootimg.specs.Explanations.{all_causes, explain_text, line_of_cause}
 use Rattle.bootimg.specs.KnownRequests.{IsFileNamed}
 use Rattle.bootimg.specs.KnownRuns.{compared_plan}
 use Rattle.bootimg.specs.Offsets.{HasImageAt, promise_at}
-use Rattle.bootimg.specs.Runs.{IsCompareWork, Work, source_failure}
+use Rattle.bootimg.specs.JobWorks.{IsCompareWork}
+use Rattle.bootimg.specs.Works.{Work, source_failure}
 use Rattle.bootimg.specs.declared.command_line.source.ImageSource.TheVariants.{File}
 use Rattle.bootimg.specs.declared.failure.Failure.TheVariants.{CannotOpen}
 use Rattle.bootimg.specs.declared.jobs.SourceFailure.{SourceFailure}

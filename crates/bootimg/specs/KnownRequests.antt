@@ -13,12 +13,16 @@ use Rattle.bi_fit.specs.declared.key.Key.TheVariants.{Fdt}
 use Rattle.bi_legacy.specs.declared.fields.Fields.{Fields}
 use Rattle.bi_norm.specs.declared.fit_building.ImageSpec.{ImageSpec}
 use Rattle.clap.specs.declared.parser.matches.ArgMatches.{ArgMatches}
-use Rattle.bootimg.specs.CommandLine.{AreEscaped, ChangesHashes, Gives, IsAllowedBy, IsBuildPlan}
-use Rattle.bootimg.specs.CommandLine.{IsChanges, IsChangesFailure, IsComparePlan, IsFields, IsForm}
-use Rattle.bootimg.specs.CommandLine.{IsFormat, IsImageSource, IsImageText, IsJob, IsPartSource}
-use Rattle.bootimg.specs.CommandLine.{IsQuiet, IsSelected, IsSelectionFailure, NoneIs}
-use Rattle.bootimg.specs.CommandLine.{IsAllFailure, IsAllRequest, IsNoneGiven, SelectsAll}
-use Rattle.bootimg.specs.CommandLine.{SelectsDefault, ShowsLayout, given_offset}
+use Rattle.bootimg.specs.ExtractOptions.{AreEscaped, IsSelected, IsSelectionFailure, IsAllFailure}
+use Rattle.bootimg.specs.ExtractOptions.{IsAllRequest, IsNoneGiven, SelectsAll, SelectsDefault}
+use Rattle.bootimg.specs.TaskOptions.{ChangesHashes, IsAllowedBy, IsChanges, IsChangesFailure}
+use Rattle.bootimg.specs.TaskOptions.{ShowsLayout}
+use Rattle.bootimg.specs.CommandLine.{Gives, IsBuildPlan, IsJob}
+use Rattle.bootimg.specs.ImageSources.{IsComparePlan, IsImageSource, IsQuiet}
+use Rattle.bootimg.specs.BuildOptions.{IsFields}
+use Rattle.bootimg.specs.Options.{IsForm, IsFormat, NoneIs, given_offset}
+use Rattle.bootimg.specs.ImageWords.{IsImageText}
+use Rattle.bootimg.specs.PartWords.{IsPartSource}
 use Rattle.bootimg.specs.Numbers.{IsNumber}
 use Rattle.bootimg.specs.declared.command_line.Job.TheVariants.{Compare, Explain}
 use Rattle.bootimg.specs.declared.command_line.Task.TheVariants as task

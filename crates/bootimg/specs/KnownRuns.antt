@@ -14,8 +14,8 @@ use Rattle.bi_fit.specs.declared.configurations.ConfigError.TheVariants as list
 use Rattle.clap.specs.declared.error.kind.ErrorKind.{ErrorKind}
 use Rattle.bootimg.specs.ComparedFiles.{failure_of_comparing, refused_source}
 use Rattle.bootimg.specs.Failures.{failure_of}
-use Rattle.bootimg.specs.Runs.{failure_line, note_line, alignment_line, positions_line, IsEnd}
-use Rattle.bootimg.specs.Runs.{IsMistake, IsRejection, IsTextRun, Run}
+use Rattle.bootimg.specs.Diagnostics.{failure_line, note_line, alignment_line, positions_line}
+use Rattle.bootimg.specs.Runs.{IsEnd, IsMistake, IsRejection, IsTextRun, Run}
 use Rattle.bootimg.specs.Tasks.{status_of}
 use Rattle.bootimg.specs.declared.command_line.source.ComparePlan.{ComparePlan}
 use Rattle.bootimg.specs.declared.command_line.source.ImageSource.{ImageSource}

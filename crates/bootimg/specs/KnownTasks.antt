@@ -35,7 +35,8 @@ use Rattle.bi_report.specs.KnownScans.{scan_limits, two_images, two_lines}
 use Rattle.bi_show.specs.KnownPages.{kernel_page, multi_page}
 use Rattle.bootimg.specs.KnownInputs.{two_files, without_files}
 use Rattle.bootimg.specs.KnownWorks.{HasAnswer, Makes, parts_a_and_b}
-use Rattle.bootimg.specs.Runs.{IsBuildWork, IsBuiltWork, Work, build_promise, source_failure}
+use Rattle.bootimg.specs.BuildWorks.{IsBuildWork, IsBuiltWork, build_promise}
+use Rattle.bootimg.specs.Works.{Work, source_failure}
 use Rattle.bootimg.specs.Tasks.{TaskDone}
 use Rattle.bootimg.specs.declared.command_line.Task.TheVariants as task
 use Rattle.bootimg.specs.declared.command_line.build.BuildPlan.TheVariants.{Legacy, Fit}

@@ -24,14 +24,17 @@ use Rattle.bi_legacy.specs.KnownFiles.{kernel_file_with_rest}
 use Rattle.bi_legacy.specs.KnownImages.{kernel_file, kernel_image}
 use Rattle.bi_norm.specs.Converting.{fit_of}
 use Rattle.bi_norm.specs.KnownComparisons.{file_without_magic, no_magic}
-use Rattle.bootimg.specs.CommandLine.{HasJobLengths, sources_of}
+use Rattle.bootimg.specs.CommandLine.{HasJobLengths}
+use Rattle.bootimg.specs.BuildOptions.{sources_of}
 use Rattle.bootimg.specs.Explanations.{explain_text}
 use Rattle.bootimg.specs.Failures.{failure_to_save}
 use Rattle.bootimg.specs.KnownInputs.{one_file, two_files, without_files}
-use Rattle.bootimg.specs.Runs.{ArePartsRead, AreFirstRead, IsAllWork, IsExplainWork, IsHeldFailure}
-use Rattle.bootimg.specs.Runs.{IsImageWork, IsOutputRun, IsPart, IsPartNotRead, IsPlainRun, Inputs}
-use Rattle.bootimg.specs.Runs.{Run, Work, failure_in_memory, no_input, plan_of_options}
-use Rattle.bootimg.specs.Runs.{source_failure}
+use Rattle.bootimg.specs.BuildWorks.{ArePartsRead, AreFirstRead, IsPart, IsPartNotRead, no_input}
+use Rattle.bootimg.specs.BuildWorks.{plan_of_options}
+use Rattle.bootimg.specs.SavedWorks.{IsAllWork, IsHeldFailure, failure_in_memory}
+use Rattle.bootimg.specs.JobWorks.{IsExplainWork, IsImageWork}
+use Rattle.bootimg.specs.Runs.{IsOutputRun, IsPlainRun, Run}
+use Rattle.bootimg.specs.Works.{Inputs, Work, source_failure}
 use Rattle.bootimg.specs.Selections.{select_of}
 use Rattle.bootimg.specs.Tasks.{IsCallFailure, IsExtractFailure, TaskDone, TaskFails, TaskText}
 use Rattle.bootimg.specs.Tasks.{plan_promise}

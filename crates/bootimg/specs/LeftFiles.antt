@@ -11,7 +11,8 @@ use Rattle.bi_files.specs.Directories.{IsWithoutSlashes}
 use Rattle.bi_files.specs.Files.{FileStep, KnownFiles, Names}
 use Rattle.bi_files.specs.FilesAfter.{AreSameNames, HasDirectory, HasFile, LeavesNewDirectory}
 use Rattle.bi_files.specs.FilesAfter.{LeavesNewFile}
-use Rattle.bootimg.specs.Runs.{Inputs, IsHeldWork, IsImageRead}
+use Rattle.bootimg.specs.Works.{Inputs, IsImageRead}
+use Rattle.bootimg.specs.SavedWorks.{IsHeldWork}
 use Rattle.bootimg.specs.Tasks.{status_of}
 
 -- What a run leaves of the files (profile of this project).

@@ -1,6 +1,13 @@
 pub mod CodeWords
 pub mod TextsOfWords
+pub mod BuildOptions
 pub mod CommandLine
+pub mod Options
+pub mod TaskOptions
+pub mod ImageSources
+pub mod ExtractOptions
+pub mod PartWords
+pub mod ImageWords
 pub mod ConfigurationWords
 pub mod Words
 pub mod Program
@@ -11,6 +18,11 @@ pub mod Numbers
 pub mod Offsets
 pub mod ReadParts
 pub mod Tasks
+pub mod Diagnostics
+pub mod Works
+pub mod JobWorks
+pub mod BuildWorks
+pub mod SavedWorks
 pub mod Runs
 pub mod Selections
 pub mod Explanations

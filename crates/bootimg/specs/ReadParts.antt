@@ -11,8 +11,8 @@ use Rattle.bootimg.specs.declared.command_line.source.ImageSource.TheVariants.{S
 use Rattle.bootimg.specs.declared.failure.Failure.TheVariants.{Call}
 use Rattle.bootimg.specs.declared.jobs.SourceFailure.{SourceFailure}
 use Rattle.bi_files.specs.Files.{FileStep, KnownFiles, WereReadInTurn}
-use Rattle.bootimg.specs.Runs.{source_failure, AreFirstRead, IsFileNotRead, IsFileRead}
-use Rattle.bootimg.specs.Runs.{IsPartNotRead}
+use Rattle.bootimg.specs.Works.{source_failure, IsFileNotRead, IsFileRead}
+use Rattle.bootimg.specs.BuildWorks.{AreFirstRead, IsPartNotRead}
 
 -- The parts of an image to be built, once their files are read (profile of this project).
 

@@ -5,13 +5,13 @@ ghost use Rattle.std.specs.List.{AllZip, list_any};
 ghost use Rattle.bi_base.specs.Pipes.{IsTracedPipe};
 ghost use Rattle.bi_base.specs.declared.fault.Error.TheVariants.{OutOfMemory};
 ghost use Rattle.bi_fit.specs.NamedImages.{configuration_spec_models};
-ghost use Rattle.bootimg.specs.CommandLine.{HasLengths, sources_of};
-ghost use Rattle.bootimg.specs.CommandLine.{is_input as is_input_of, reads_input as reads_input_of};
+ghost use Rattle.bootimg.specs.BuildOptions.{HasLengths, sources_of};
+ghost use Rattle.bootimg.specs.PartWords.{is_input as is_input_of, reads_input as reads_input_of};
 ghost use Rattle.bootimg.specs.ConfigurationWords.{configuration_models};
 ghost use Rattle.bootimg.specs.ReadParts.{IsLent, IsReadingFailure, IsPartFailure, WasRead};
 ghost use Rattle.bootimg.specs.ReadParts.{WereRead};
-ghost use Rattle.bootimg.specs.Runs.{build_promise, fit_promise, source_failure};
-ghost use Rattle.bootimg.specs.Runs.{IsBuildWork, IsBuiltWork};
+ghost use Rattle.bootimg.specs.BuildWorks.{build_promise, fit_promise, IsBuildWork, IsBuiltWork};
+ghost use Rattle.bootimg.specs.Works.{source_failure};
 ghost use Rattle.bootimg.specs.declared.command_line.source.ImageSource.TheVariants.{Standard};
 ghost use Rattle.bootimg.specs.declared.failure.Failure.TheVariants.{Call};
 

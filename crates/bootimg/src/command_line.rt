@@ -16,10 +16,11 @@ mod update;
 
 ghost use Rattle.std.specs.Prelude.{◌≡◌, ◌≢◌, false, true, IfOk, IfErr, IsFalse, IsTrue, codes};
 ghost use Rattle.bi_base.specs.declared.fault.Error.TheVariants.{OutOfMemory};
-ghost use Rattle.bootimg.specs.CommandLine.{HasJobLengths, HasOrderDepth, HasOrderLengths};
-ghost use Rattle.bootimg.specs.CommandLine.{IsFailureOutcome};
-ghost use Rattle.bootimg.specs.CommandLine.{IsJob, IsNoRequest, IsOrder, IsOutcomeOf, IsTask};
-ghost use Rattle.bootimg.specs.CommandLine.{IsTaskFailure, SelectsAll, texts_of};
+ghost use Rattle.bootimg.specs.CommandLine.{HasJobLengths, HasOrderDepth, HasOrderLengths, IsJob};
+ghost use Rattle.bootimg.specs.CommandLine.{IsNoRequest, IsOrder, IsOutcomeOf, IsTask};
+ghost use Rattle.bootimg.specs.CommandLine.{IsTaskFailure};
+ghost use Rattle.bootimg.specs.Options.{IsFailureOutcome, texts_of};
+ghost use Rattle.bootimg.specs.ExtractOptions.{SelectsAll};
 ghost use Rattle.bootimg.specs.Program.{IsCommandName};
 ghost use Rattle.bootimg.specs.declared.command_line.NoRequest.TheVariants as outcome;
 ghost use Rattle.bootimg.specs.declared.failure.Failure.TheVariants.{Call};

@@ -2,8 +2,9 @@
 
 ghost use Rattle.std.specs.Prelude.{◌≡◌};
 ghost use Rattle.bootimg.specs.Failures.{name_text};
-ghost use Rattle.bootimg.specs.Runs.{Notes, NotesAlignment, NotesCount, Reports};
-ghost use Rattle.bootimg.specs.Runs.{alignment_line, failure_line, note_line, positions_line};
+ghost use Rattle.bootimg.specs.Diagnostics.{Notes, NotesAlignment, NotesCount, Reports};
+ghost use Rattle.bootimg.specs.Diagnostics.{alignment_line, failure_line, note_line};
+ghost use Rattle.bootimg.specs.Diagnostics.{positions_line};
 
 use crate::command_line::ImageSource;
 use crate::error_line::ErrorLine;

@@ -1,7 +1,8 @@
 //! What `explain` writes: what the causes of refusals mean.
 
 ghost use Rattle.std.specs.Prelude.{◌≡◌, ◌++◌, IfNone, IfOk, IfSome, OnOk, string_bytes};
-ghost use Rattle.bootimg.specs.CommandLine.{NamesCause, NoneIs};
+ghost use Rattle.bootimg.specs.TaskOptions.{NamesCause};
+ghost use Rattle.bootimg.specs.Options.{NoneIs};
 ghost use Rattle.bootimg.specs.Explanations.{all_explanations, explain_text, explanation_of};
 ghost use Rattle.bootimg.specs.Explanations.{line_of_cause};
 

@@ -1,6 +1,6 @@
 //! Extracting every payload of an image into a new directory.
 
-ghost use Rattle.bootimg.specs.Runs.{IsAllWork};
+ghost use Rattle.bootimg.specs.SavedWorks.{IsAllWork};
 
 use crate::command_line::{AllRequest, ImageSource};
 use crate::failure::Failure;

@@ -7,10 +7,10 @@ ghost use Rattle.bootimg.specs.ComparedFiles.{IsCompareOutput, IsCompareFailure}
 ghost use Rattle.bootimg.specs.ComparedFiles.{failure_of_comparing, refused_source};
 ghost use Rattle.bootimg.specs.declared.command_line.source.ImageSource.TheVariants.{Standard};
 ghost use Rattle.bootimg.specs.declared.failure.Failure.TheVariants.{Call};
-ghost use Rattle.bootimg.specs.Runs.{IsComparedWork, IsCompareWork, IsFileNotRead, IsFileRead};
-ghost use Rattle.bootimg.specs.Runs.{IsExplainWork, IsImageNotRead, IsImageRead};
-ghost use Rattle.bootimg.specs.Runs.{IsImageWork, IsJobWork, IsNotRead};
-ghost use Rattle.bootimg.specs.Runs.{source_failure};
+ghost use Rattle.bootimg.specs.JobWorks.{IsComparedWork, IsCompareWork, IsExplainWork, IsImageWork};
+ghost use Rattle.bootimg.specs.JobWorks.{IsJobWork};
+ghost use Rattle.bootimg.specs.Works.{IsFileNotRead, IsFileRead, IsImageNotRead, IsImageRead};
+ghost use Rattle.bootimg.specs.Works.{IsNotRead, source_failure};
 ghost use Rattle.bi_base.specs.Reading.{IsInputRead};
 ghost use Rattle.bi_base.specs.Traces.{ReadTrace};
 

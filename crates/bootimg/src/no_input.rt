@@ -1,6 +1,6 @@
 //! An input without bytes.
 
-ghost use Rattle.bootimg.specs.Runs.{no_input};
+ghost use Rattle.bootimg.specs.BuildWorks.{no_input};
 
 use bi_base::TracedRead;
 use std::io;

@@ -2,8 +2,9 @@
 
 ghost use Rattle.std.specs.Prelude.{◌≡◌, IfOk, IfErr, Ok, Some};
 ghost use Rattle.bootimg.specs.CommandLine.{HasJobLengths};
-ghost use Rattle.bootimg.specs.Runs.{failure_in_memory, IsEnd, IsHeldFailure, IsHeldWork};
-ghost use Rattle.bootimg.specs.Runs.{IsSavedWork};
+ghost use Rattle.bootimg.specs.SavedWorks.{failure_in_memory, IsHeldFailure, IsHeldWork};
+ghost use Rattle.bootimg.specs.SavedWorks.{IsSavedWork};
+ghost use Rattle.bootimg.specs.Runs.{IsEnd};
 
 use crate::command_line::{ImageSource, Job};
 use crate::diagnostics::{put_notes, report_failure};

@@ -3,7 +3,7 @@
 ghost use Rattle.std.specs.Prelude.{◌≡◌, ◌↔◌, IfNone, IfSome, IsTrue, List, None, Option};
 ghost use Rattle.bi_base.specs.Traces.{ReadTrace};
 ghost use Rattle.bi_files.specs.Files.{FileStep, SavesNothing, no_files};
-ghost use Rattle.bootimg.specs.CommandLine.{texts_of};
+ghost use Rattle.bootimg.specs.Options.{texts_of};
 ghost use Rattle.bi_files.specs.Directories.{SavesNoDirectory};
 ghost use Rattle.bootimg.specs.LeftFiles.{LeavesKnownFiles};
 ghost use Rattle.bootimg.specs.Runs.{IsPlainRun, IsRun, IsTextRun, IsMistake};

@@ -2,9 +2,9 @@
 
 ghost use Rattle.std.specs.Prelude.{◌≡◌, ◌↔◌, ◌⊎◌, IfOk, IfErr, IfSome, IfNone, IsTrue, Some};
 ghost use Rattle.bi_report.specs.Checking.{allows, kind_word};
-ghost use Rattle.bootimg.specs.CommandLine.{allow_option, IsAllowed, IsAllowedBy};
+ghost use Rattle.bootimg.specs.TaskOptions.{allow_option, IsAllowed, IsAllowedBy};
 ghost use Rattle.bootimg.specs.Words.{listed_words};
-ghost use Rattle.bootimg.specs.CommandLine.{IsBadValue, NoneIs};
+ghost use Rattle.bootimg.specs.Options.{IsBadValue, NoneIs};
 
 use crate::failure::Failure;
 use bi_commands::check::{Allowed, ConcernKind};

@@ -2,9 +2,11 @@
 
 ghost use Rattle.std.specs.Prelude.{◌≡◌, IfOk, IfErr, length};
 ghost use Rattle.bootimg.specs.CodeWords.{IsCode};
-ghost use Rattle.bootimg.specs.CommandLine.{texts_of, sources_of, AreImages, ArePartSources};
-ghost use Rattle.bootimg.specs.CommandLine.{IsFailureOutcome, IsBadImage, IsBadValue, IsFields};
-ghost use Rattle.bootimg.specs.CommandLine.{IsFitPlan, IsFitPlanFailure, IsLegacyPlan};
+ghost use Rattle.bootimg.specs.Options.{texts_of, IsFailureOutcome, IsBadValue};
+ghost use Rattle.bootimg.specs.BuildOptions.{sources_of, IsFields, IsFitPlan, IsFitPlanFailure};
+ghost use Rattle.bootimg.specs.BuildOptions.{IsLegacyPlan};
+ghost use Rattle.bootimg.specs.ImageWords.{AreImages, IsBadImage};
+ghost use Rattle.bootimg.specs.PartWords.{ArePartSources};
 
 use crate::codes::{CodeField, parse_code};
 use crate::command_line::NoRequest;

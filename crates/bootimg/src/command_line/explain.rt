@@ -1,7 +1,8 @@
 //! The command `explain`.
 
 ghost use Rattle.std.specs.Prelude.{IfOk, IfErr, codes};
-ghost use Rattle.bootimg.specs.CommandLine.{option_of, IsBadValue, IsExplained};
+ghost use Rattle.bootimg.specs.Options.{option_of, IsBadValue};
+ghost use Rattle.bootimg.specs.TaskOptions.{IsExplained};
 
 use crate::explanations::parse_cause;
 use crate::failure::Failure;

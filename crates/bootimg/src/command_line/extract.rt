@@ -5,9 +5,9 @@ ghost use Rattle.bi_fit.specs.declared.key.Key.{Key};
 ghost use Rattle.bi_fit.specs.Names.{key_name};
 ghost use Rattle.bi_norm.specs.Meaning.{Meaning};
 ghost use Rattle.bi_commands.specs.Extracting.{choice_of};
-ghost use Rattle.bootimg.specs.CommandLine.{IsFailureOutcome, IsBadValue, IsEntry, IsNameOf};
-ghost use Rattle.bootimg.specs.CommandLine.{IsAllFailure, IsAllRequest, IsNoneGiven, IsSelected};
-ghost use Rattle.bootimg.specs.CommandLine.{IsSelectionFailure};
+ghost use Rattle.bootimg.specs.Options.{IsFailureOutcome, IsBadValue};
+ghost use Rattle.bootimg.specs.ExtractOptions.{IsEntry, IsNameOf, IsAllFailure, IsAllRequest};
+ghost use Rattle.bootimg.specs.ExtractOptions.{IsNoneGiven, IsSelected, IsSelectionFailure};
 ghost use Rattle.bootimg.specs.Selections.{select_of};
 
 use crate::command_line::options::{flag, limits, number, value};

@@ -3,7 +3,7 @@
 ghost use Rattle.std.specs.Prelude.{◌≡◌, codes, bytes_eq, IfOk, IfErr};
 ghost use Rattle.std.specs.List.{list_any};
 ghost use Rattle.bi_hash.specs.Algos.{algorithm_name};
-ghost use Rattle.bootimg.specs.CommandLine.{option_of, IsBadValue, IsFailureOutcome};
+ghost use Rattle.bootimg.specs.Options.{option_of, IsBadValue, IsFailureOutcome};
 ghost use Rattle.bootimg.specs.ConfigurationWords.{AreAlgorithms, AreHashes, AreHashesOf};
 ghost use Rattle.bootimg.specs.Words.{listed_words};
 

@@ -5,9 +5,9 @@ ghost use Rattle.std.specs.Prelude.{option_map, if◌then◌else◌};
 ghost use Rattle.bi_norm.specs.FitBuilding.{image_texts_model, multi};
 ghost use Rattle.bootimg.specs.CodeWords.{four_texts};
 ghost use Rattle.bootimg.specs.TextsOfWords.{text_of_word};
-ghost use Rattle.bootimg.specs.CommandLine.{list_of, IsAddress, IsImage, IsImageText};
+ghost use Rattle.bootimg.specs.ImageWords.{list_of, IsAddress, IsImage, IsImageText};
 ghost use Rattle.bootimg.specs.Words.{parts_of};
-ghost use Rattle.bootimg.specs.CommandLine.{NoneIs};
+ghost use Rattle.bootimg.specs.Options.{NoneIs};
 ghost use Rattle.bootimg.specs.declared.command_line.image.ImageFields.{ImageFields};
 
 use crate::codes::{CodeField, CodeWord, parse_code_word};

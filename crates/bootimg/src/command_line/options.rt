@@ -1,9 +1,8 @@
 //! Options that several commands have.
 
 ghost use Rattle.std.specs.Prelude.{◌≡◌, IfOk, IfErr, IfSome, IfNone, codes};
-ghost use Rattle.bootimg.specs.CommandLine.{limit_of, value_of};
-ghost use Rattle.bootimg.specs.CommandLine.{IsAlignOf, IsBadValue, IsForm, IsFormFailure};
-ghost use Rattle.bootimg.specs.CommandLine.{IsFlag, IsFormat, IsLimits, NoneIs};
+ghost use Rattle.bootimg.specs.Options.{limit_of, value_of, IsAlignOf, IsBadValue, IsForm};
+ghost use Rattle.bootimg.specs.Options.{IsFormFailure, IsFlag, IsFormat, IsLimits, NoneIs};
 ghost use Rattle.bootimg.specs.Numbers.{IsNumber};
 ghost use Rattle.clap.specs.Matches.{found_of, one_text};
 

@@ -1,8 +1,8 @@
 //! The parts of an image to be built, as the arguments name them.
 
 ghost use Rattle.std.specs.Prelude.{◌≡◌, IfSome, IfNone};
-ghost use Rattle.bootimg.specs.CommandLine.{IsPartSource, NoneIs};
-ghost use Rattle.bootimg.specs.CommandLine.{is_input as is_input_of};
+ghost use Rattle.bootimg.specs.PartWords.{IsPartSource, is_input as is_input_of};
+ghost use Rattle.bootimg.specs.Options.{NoneIs};
 
 use crate::numbers::parse_number;
 

@@ -1,6 +1,6 @@
 //! The command `show`.
 
-ghost use Rattle.bootimg.specs.CommandLine.{ShowsLayout};
+ghost use Rattle.bootimg.specs.TaskOptions.{ShowsLayout};
 
 use crate::command_line::options::flag;
 use bi_commands::show::Presenter;

@@ -1,8 +1,8 @@
 //! The images that the arguments name, and the command `compare`.
 
 ghost use Rattle.std.specs.Prelude.{IfOk, IfErr};
-ghost use Rattle.bootimg.specs.CommandLine.{option_of, IsBadValue, IsComparePlan};
-ghost use Rattle.bootimg.specs.CommandLine.{IsImageSource};
+ghost use Rattle.bootimg.specs.Options.{option_of, IsBadValue};
+ghost use Rattle.bootimg.specs.ImageSources.{IsComparePlan, IsImageSource};
 
 use crate::command_line::options::{flag, format};
 use crate::failure::Failure;

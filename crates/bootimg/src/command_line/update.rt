@@ -1,7 +1,7 @@
 //! The command `update`.
 
 ghost use Rattle.std.specs.Prelude.{IfOk, IfErr};
-ghost use Rattle.bootimg.specs.CommandLine.{IsChanges, IsChangesFailure};
+ghost use Rattle.bootimg.specs.TaskOptions.{IsChanges, IsChangesFailure};
 
 use crate::command_line::options::flag;
 use crate::failure::Failure;

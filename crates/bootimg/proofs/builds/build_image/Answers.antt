@@ -1,8 +1,9 @@
 use Rattle.std.proofs.Common.{Err, inr, refl, ap, subst, sym, ◌∙◌}
 use Rattle.std.proofs.lemmas.Result.{err_from_is_err_and}
-use Rattle.bootimg.specs.CommandLine.{reads_input, sources_of}
+use Rattle.bootimg.specs.PartWords.{reads_input}
+use Rattle.bootimg.specs.BuildOptions.{sources_of}
 use Rattle.bootimg.specs.ReadParts.{IsReadingFailure}
-use Rattle.bootimg.specs.Runs.{BuiltOfFiles, BuiltWithInput}
+use Rattle.bootimg.specs.BuildWorks.{BuiltOfFiles, BuiltWithInput}
 use Rattle.bootimg.proofs.BuildRuns.{all_parts_read, are_parts, as_many, no_parts_read}
 use Rattle.bootimg.proofs.builds.build_image.Goals as goal
 

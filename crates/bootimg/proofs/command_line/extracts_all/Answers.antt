@@ -1,5 +1,5 @@
 use Rattle.std.proofs.Common.{rules, subst}
-use Rattle.bootimg.specs.CommandLine.{SelectsAll}
+use Rattle.bootimg.specs.ExtractOptions.{SelectsAll}
 use Rattle.bootimg.proofs.command_line.extracts_all.Goals as goal
 
 pub returns-then-eq-clause-all : goal.returns-then-eq-clause-all

@@ -1,6 +1,6 @@
 use Rattle.std.proofs.Common.{◌≡◌, ◌∙◌, false, refl, true}
 use Rattle.clap.specs.Words.{app_of}
-use Rattle.bootimg.specs.CommandLine.{texts_of}
+use Rattle.bootimg.specs.Options.{texts_of}
 use Rattle.bootimg.proofs.NoRequests.{all_requested, arguments_give, given_is_command, no_all, no_job, no_limits, rejected_by_clap}
 use Rattle.bootimg.proofs.NoRequests.{subcommand_is_there}
 use Rattle.bootimg.proofs.command_line.parse_arguments.Goals as goal

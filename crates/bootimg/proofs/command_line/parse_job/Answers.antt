@@ -1,5 +1,7 @@
 use Rattle.std.proofs.Common.{◌≡◌, codes, inl, rules}
-use Rattle.bootimg.specs.CommandLine.{IsBadValue, IsFitPlanFailure, IsTaskFailure, NotFit, NotPlaced, given_offset}
+use Rattle.bootimg.specs.Options.{IsBadValue, given_offset}
+use Rattle.bootimg.specs.BuildOptions.{IsFitPlanFailure}
+use Rattle.bootimg.specs.CommandLine.{IsTaskFailure, NotFit, NotPlaced}
 use Rattle.bootimg.specs.Numbers.{IsNumber}
 use Rattle.bootimg.specs.declared.command_line.NoRequest.TheVariants.{Failure}
 use Rattle.bootimg.proofs.CommandLines.{outcome_weaker}

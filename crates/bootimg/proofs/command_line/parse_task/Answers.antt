@@ -1,5 +1,6 @@
 use Rattle.std.proofs.Common.{◌≡◌, codes, inl, subst, sym}
-use Rattle.bootimg.specs.CommandLine.{IsFormFailure, IsTask, IsTaskFailure, NotFormedChanged}
+use Rattle.bootimg.specs.Options.{IsFormFailure}
+use Rattle.bootimg.specs.CommandLine.{IsTask, IsTaskFailure, NotFormedChanged}
 use Rattle.bootimg.specs.declared.command_line.NoRequest.TheVariants.{Failure}
 use Rattle.bootimg.proofs.CommandLines.{outcome_weaker}
 use Rattle.bootimg.proofs.command_line.parse_task.Goals as goal

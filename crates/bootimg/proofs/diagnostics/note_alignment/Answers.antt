@@ -1,6 +1,6 @@
 use Rattle.std.proofs.Common.{◌∙◌, rules}
 use Rattle.bootimg.specs.ErrorLines.{line_of}
-use Rattle.bootimg.specs.Runs.{alignment_line}
+use Rattle.bootimg.specs.Diagnostics.{alignment_line}
 use Rattle.bootimg.proofs.ErrorLines.{line_is_written}
 use Rattle.bootimg.proofs.diagnostics.note_alignment.Goals as goal
 

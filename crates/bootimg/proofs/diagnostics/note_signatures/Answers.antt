@@ -1,6 +1,6 @@
 use Rattle.std.proofs.Common.{◌∙◌, arith, rules}
 use Rattle.bootimg.specs.ErrorLines.{line_of}
-use Rattle.bootimg.specs.Runs.{HasSome, note_line}
+use Rattle.bootimg.specs.Diagnostics.{HasSome, note_line}
 use Rattle.bootimg.proofs.ErrorLines.{line_is_written}
 use Rattle.bootimg.proofs.diagnostics.note_signatures.Goals as goal
 

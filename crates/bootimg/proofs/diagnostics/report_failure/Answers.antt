@@ -1,6 +1,6 @@
 use Rattle.std.proofs.Common.{◌∙◌, rules}
 use Rattle.bootimg.specs.ErrorLines.{line_of}
-use Rattle.bootimg.specs.Runs.{failure_line}
+use Rattle.bootimg.specs.Diagnostics.{failure_line}
 use Rattle.bootimg.proofs.ErrorLines.{line_is_written}
 use Rattle.bootimg.proofs.diagnostics.report_failure.Goals as goal
 

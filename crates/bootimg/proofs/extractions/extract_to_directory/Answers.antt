@@ -1,7 +1,8 @@
 use Rattle.std.proofs.Common.{◌∙◌, Err, ap, map, refl}
 use Rattle.bi_commands.specs.Payloads.{payload_file, payloads_model}
 use Rattle.bootimg.specs.declared.command_line.source.ImageSource.TheVariants.{File}
-use Rattle.bootimg.specs.Runs.{NothingRead, source_failure}
+use Rattle.bootimg.specs.SavedWorks.{NothingRead}
+use Rattle.bootimg.specs.Works.{source_failure}
 use Rattle.bootimg.proofs.AllRuns.{all_not_saved, all_saved, not_extracted}
 use Rattle.bootimg.proofs.extractions.extract_to_directory.Goals as goal
 

@@ -1,7 +1,7 @@
 use Rattle.std.proofs.Common.{refl, subst, ap}
 use Rattle.std.proofs.Common.{Err}
 use Rattle.bi_base.specs.Writing.{WroteAndFlushed, WriteOrFlushStopped}
-use Rattle.bootimg.specs.Runs.{WroteDifferences, NotAllWritten, NotCompared}
+use Rattle.bootimg.specs.JobWorks.{WroteDifferences, NotAllWritten, NotCompared}
 use Rattle.bootimg.proofs.jobs.compare_files.Goals as goal
 
 pub returns-in-Ok-write_and_flush : goal.returns-in-Ok-write_and_flush

@@ -1,5 +1,5 @@
 use Rattle.std.proofs.Common.{refl}
-use Rattle.bootimg.specs.Runs.{OneNotRead}
+use Rattle.bootimg.specs.JobWorks.{OneNotRead}
 use Rattle.bootimg.proofs.ImageRuns.{both_read, other_not_read}
 use Rattle.bootimg.proofs.jobs.compare_images.Goals as goal
 

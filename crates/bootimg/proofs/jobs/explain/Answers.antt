@@ -2,7 +2,8 @@ use Rattle.std.proofs.Common.{◌∙◌, ap, refl, subst}
 use Rattle.std.proofs.Common.{Err}
 use Rattle.bi_base.specs.Writing.{WroteAndFlushed, WriteOrFlushStopped}
 use Rattle.bootimg.specs.declared.command_line.source.ImageSource.TheVariants.{Standard}
-use Rattle.bootimg.specs.Runs.{WroteExplanation, ExplanationNotWritten, NoMemoryForExplanation, source_failure}
+use Rattle.bootimg.specs.JobWorks.{WroteExplanation, ExplanationNotWritten, NoMemoryForExplanation}
+use Rattle.bootimg.specs.Works.{source_failure}
 use Rattle.bootimg.proofs.jobs.explain.Goals as goal
 
 pub returns-in-Ok-write_and_flush : goal.returns-in-Ok-write_and_flush

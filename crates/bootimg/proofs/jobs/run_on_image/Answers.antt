@@ -1,5 +1,5 @@
 use Rattle.std.proofs.Common.{refl}
-use Rattle.bootimg.specs.Runs.{DoneOnFile, DoneOnInput, FileNotOpened}
+use Rattle.bootimg.specs.JobWorks.{DoneOnFile, DoneOnInput, FileNotOpened}
 use Rattle.bootimg.proofs.ImageRuns.{no_file_opened, opened_and_closed}
 use Rattle.bootimg.proofs.RunFacts.{run_succeeds, has_failed}
 use Rattle.bootimg.proofs.jobs.run_on_image.Goals as goal

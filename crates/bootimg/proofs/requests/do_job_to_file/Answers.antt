@@ -1,7 +1,8 @@
 use Rattle.std.proofs.Common.{Err, ap, refl}
 use Rattle.std.proofs.lemmas.Result.{err_from_is_err_and}
 use Rattle.bootimg.specs.declared.command_line.source.ImageSource.TheVariants.{File}
-use Rattle.bootimg.specs.Runs.{NoOutput, source_failure}
+use Rattle.bootimg.specs.SavedWorks.{NoOutput}
+use Rattle.bootimg.specs.Works.{source_failure}
 use Rattle.bootimg.proofs.ImageRuns.{output_saved, output_not_saved}
 use Rattle.bootimg.proofs.requests.do_job_to_file.Goals as goal
 

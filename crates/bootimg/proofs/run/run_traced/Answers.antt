@@ -1,6 +1,7 @@
 use Rattle.std.proofs.Common.{◌≡◌, ap, refl, rules, subst}
 use Rattle.clap.specs.Values.{kind_of}
-use Rattle.bootimg.specs.CommandLine.{texts_of, HasOrderLengths, IsNoRequest, IsOrder, NoMemory}
+use Rattle.bootimg.specs.Options.{texts_of}
+use Rattle.bootimg.specs.CommandLine.{HasOrderLengths, IsNoRequest, IsOrder, NoMemory}
 use Rattle.bootimg.specs.declared.command_line.Order.TheVariants as order
 use Rattle.bootimg.specs.declared.command_line.NoRequest.TheVariants as outcome
 use Rattle.bootimg.specs.declared.failure.Failure.TheVariants.{Call}

@@ -1,5 +1,6 @@
 use Rattle.std.proofs.Common.{IfErr, option_map, ap, subst, sym, ◌∙◌}
-use Rattle.bootimg.specs.CommandLine.{IsAllowed, IsAllowedBy, IsBadValue}
+use Rattle.bootimg.specs.TaskOptions.{IsAllowed, IsAllowedBy}
+use Rattle.bootimg.specs.Options.{IsBadValue}
 use Rattle.bootimg.specs.Words.{listed_words}
 use Rattle.bootimg.proofs.CommandLines.{not_parsed}
 use Rattle.bootimg.proofs.command_line.allowed.allowed_kinds.Goals as goal

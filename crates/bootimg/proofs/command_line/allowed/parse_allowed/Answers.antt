@@ -3,7 +3,8 @@ use Rattle.std.specs.Str.Iter.{split_text, split_has_more, split_pattern}
 use Rattle.std.proofs.lemmas.List.{map-append}
 use Rattle.std.proofs.lemmas.Iterator.Consumers.{YieldsList-end, YieldsList-turn}
 use Rattle.std.proofs.lemmas.Iterator.Splits.{YieldsList-from_str_split}
-use Rattle.bootimg.specs.CommandLine.{texts_of, IsAllowed, NoneIs}
+use Rattle.bootimg.specs.Options.{texts_of, NoneIs}
+use Rattle.bootimg.specs.TaskOptions.{IsAllowed}
 use Rattle.bootimg.specs.Words.{listed_words}
 use Rattle.bootimg.proofs.AllowedKinds.{allows_nothing, none_allowed, one_more_allowed, unknown_word, only_kind, no_kind}
 use Rattle.bootimg.proofs.CommandLines.{if_none}

@@ -1,4 +1,5 @@
-use Rattle.bootimg.specs.CommandLine.{texts_of, IsAllowed}
+use Rattle.bootimg.specs.Options.{texts_of}
+use Rattle.bootimg.specs.TaskOptions.{IsAllowed}
 use Rattle.bootimg.proofs.command_line.allowed.parse_allowed.Given as goal
 
 -- The words so far allow the kinds so far.

@@ -1,6 +1,7 @@
 use Rattle.std.proofs.Common.{◌∙◌, codes, subst, sym}
 use Rattle.bootimg.specs.CodeWords.{IsCode}
-use Rattle.bootimg.specs.CommandLine.{value_of, IsFields}
+use Rattle.bootimg.specs.Options.{value_of}
+use Rattle.bootimg.specs.BuildOptions.{IsFields}
 use Rattle.bootimg.specs.Numbers.{IsNumber}
 use Rattle.bootimg.specs.declared.codes.CodeField.TheVariants.{Os, Arch, ImageType, Compression}
 use Rattle.bootimg.proofs.CommandLines.{bad_part}

@@ -1,7 +1,8 @@
 use Rattle.std.proofs.Common.{◌≡◌, codes, option_map, refl, subst, sym}
 use Rattle.bi_norm.specs.FitBuilding.{names_of_specs}
-use Rattle.bootimg.specs.CommandLine.{option_of, texts_of, values_of, AreImages, HasFitValues, IsBadConfiguration, IsBadImage}
-use Rattle.bootimg.specs.CommandLine.{IsFitPlanFailure}
+use Rattle.bootimg.specs.Options.{option_of, texts_of, values_of}
+use Rattle.bootimg.specs.ImageWords.{AreImages, IsBadImage}
+use Rattle.bootimg.specs.BuildOptions.{HasFitValues, IsBadConfiguration, IsFitPlanFailure}
 use Rattle.bootimg.specs.ConfigurationWords.{IsDefault}
 use Rattle.bootimg.proofs.CommandLines.{fails_with, outcome_weaker, words_are}
 use Rattle.bootimg.proofs.PlanFailures.{bad_configuration, bad_default, bad_form, bad_image, bad_time}

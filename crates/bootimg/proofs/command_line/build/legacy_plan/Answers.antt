@@ -1,5 +1,7 @@
 use Rattle.std.proofs.Common.{◌≡◌, codes, refl, subst, sym}
-use Rattle.bootimg.specs.CommandLine.{texts_of, values_of, ArePartSources, IsBadValue, IsLegacyPlan}
+use Rattle.bootimg.specs.Options.{texts_of, values_of, IsBadValue}
+use Rattle.bootimg.specs.PartWords.{ArePartSources}
+use Rattle.bootimg.specs.BuildOptions.{IsLegacyPlan}
 use Rattle.bootimg.proofs.CommandLines.{fails_with, outcome_weaker, words_are}
 use Rattle.bootimg.proofs.command_line.build.legacy_plan.Goals as goal
 

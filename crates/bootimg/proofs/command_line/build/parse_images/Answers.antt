@@ -1,5 +1,6 @@
 use Rattle.std.proofs.Common.{Bor, List, ℕ, [], get_or, arith, subst, sym}
-use Rattle.bootimg.specs.CommandLine.{texts_of, IsBadImage, IsImageText, NoneIs}
+use Rattle.bootimg.specs.Options.{texts_of, NoneIs}
+use Rattle.bootimg.specs.ImageWords.{IsBadImage, IsImageText}
 use Rattle.bootimg.specs.declared.failure.Failure.TheVariants.{BadImage}
 use Rattle.bootimg.proofs.CommandLines.{fails_with, first_bad, images_next, no_image_words, none_given, ok_or_failed, ok_or_is}
 use Rattle.bootimg.proofs.command_line.build.parse_images.Goals as goal

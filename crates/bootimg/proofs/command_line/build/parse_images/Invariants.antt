@@ -1,5 +1,6 @@
 use Rattle.std.proofs.Common.{take}
-use Rattle.bootimg.specs.CommandLine.{texts_of, AreImages}
+use Rattle.bootimg.specs.Options.{texts_of}
+use Rattle.bootimg.specs.ImageWords.{AreImages}
 use Rattle.bootimg.proofs.command_line.build.parse_images.Given as goal
 
 -- The arguments so far are the images, texts and payloads so far.

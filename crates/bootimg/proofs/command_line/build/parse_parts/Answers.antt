@@ -1,5 +1,6 @@
 use Rattle.std.proofs.Common.{Bor, List, ℕ, [], get_or, arith}
-use Rattle.bootimg.specs.CommandLine.{texts_of, ArePartSources, IsBadValue, IsPartSource, NoneIs}
+use Rattle.bootimg.specs.Options.{texts_of, IsBadValue, NoneIs}
+use Rattle.bootimg.specs.PartWords.{ArePartSources, IsPartSource}
 use Rattle.bootimg.specs.declared.failure.Failure.TheVariants.{BadValue}
 use Rattle.bootimg.proofs.CommandLines.{fails_with, no_parts, none_given, ok_or_failed, ok_or_is, parts_next}
 use Rattle.bootimg.proofs.command_line.build.parse_parts.Goals as goal

@@ -1,5 +1,6 @@
 use Rattle.std.proofs.Common.{take}
-use Rattle.bootimg.specs.CommandLine.{texts_of, ArePartSources}
+use Rattle.bootimg.specs.Options.{texts_of}
+use Rattle.bootimg.specs.PartWords.{ArePartSources}
 use Rattle.bootimg.proofs.command_line.build.parse_parts.Given as goal
 
 -- The arguments so far are the parts so far.

@@ -5,7 +5,8 @@ use Rattle.bi_blob.specs.Tree.{IsChildName}
 use Rattle.bi_blob.proofs.NameSets.{HoldsNames-insert, HoldsNames-new, HoldsNames-held}
 use Rattle.bi_fit.specs.Building.{configuration_names, IsConfigurationSpec}
 use Rattle.bi_norm.specs.FitBuilding.{names_of_specs, ListsOnly}
-use Rattle.bootimg.specs.CommandLine.{texts_of, IsBad, IsBadConfiguration}
+use Rattle.bootimg.specs.Options.{texts_of, IsBad}
+use Rattle.bootimg.specs.BuildOptions.{IsBadConfiguration}
 use Rattle.bootimg.specs.ConfigurationWords.{configuration_model, configuration_models, IsConfigurationWord}
 use Rattle.bootimg.specs.declared.failure.Failure.TheVariants.{BadConfiguration}
 use Rattle.bootimg.proofs.CommandLines.{outcome_weaker}

@@ -2,7 +2,7 @@ use Rattle.std.proofs.Common.{take}
 use Rattle.bi_blob.specs.NameSets.{HoldsNames}
 use Rattle.bi_fit.specs.Building.{configuration_names}
 use Rattle.bi_norm.specs.FitBuilding.{names_of_specs}
-use Rattle.bootimg.specs.CommandLine.{texts_of}
+use Rattle.bootimg.specs.Options.{texts_of}
 use Rattle.bootimg.specs.ConfigurationWords.{configuration_models, AreConfigurations}
 use Rattle.bootimg.proofs.command_line.configurations.parse_configurations.Given as goal
 

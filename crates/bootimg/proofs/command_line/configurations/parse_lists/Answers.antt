@@ -2,7 +2,7 @@ use Rattle.std.proofs.Common.{◌∙◌, ap, lit<, inl, refl, subst}
 use Rattle.std.specs.Str.Iter.{split_text, split_has_more, split_pattern}
 use Rattle.std.proofs.lemmas.Iterator.Consumers.{YieldsList-end, YieldsList-so_far, YieldsList-turn}
 use Rattle.std.proofs.lemmas.Iterator.Splits.{YieldsList-from_str_split}
-use Rattle.bootimg.specs.CommandLine.{texts_of, IsBad}
+use Rattle.bootimg.specs.Options.{texts_of, IsBad}
 use Rattle.bootimg.specs.ConfigurationWords.{AreLists, IsListText}
 use Rattle.bootimg.specs.Words.{parts_of}
 use Rattle.bootimg.proofs.CommandLines.{outcome_weaker}

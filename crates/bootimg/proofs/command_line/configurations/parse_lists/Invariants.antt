@@ -1,4 +1,4 @@
-use Rattle.bootimg.specs.CommandLine.{texts_of}
+use Rattle.bootimg.specs.Options.{texts_of}
 use Rattle.bootimg.specs.ConfigurationWords.{AreLists}
 use Rattle.bootimg.proofs.command_line.configurations.parse_lists.Given as goal
 

@@ -1,6 +1,6 @@
 use Rattle.std.proofs.Common.{◌≡◌}
 use Rattle.bi_base.specs.Slices.{bytes_of}
-use Rattle.bootimg.specs.CommandLine.{texts_of}
+use Rattle.bootimg.specs.Options.{texts_of}
 use Rattle.bootimg.proofs.command_line.configurations.split_names.Given as goal
 
 -- The names so far.

@@ -1,5 +1,6 @@
 use Rattle.std.proofs.Common.{◌≡◌, ◌∙◌, None, Some, ap, codes, option_map, sym}
-use Rattle.bootimg.specs.CommandLine.{given_offset, limit_of, option_of, IsAllRequest, IsBadValue, IsEntry, IsLimits}
+use Rattle.bootimg.specs.Options.{given_offset, limit_of, option_of, IsBadValue, IsLimits}
+use Rattle.bootimg.specs.ExtractOptions.{IsAllRequest, IsEntry}
 use Rattle.bootimg.specs.Numbers.{IsNumber}
 use Rattle.bootimg.specs.declared.failure.Failure.TheVariants.{BadValue}
 use Rattle.bootimg.proofs.CommandLines.{bad_part, err_if, ok_or_failed, text_required}

@@ -1,5 +1,6 @@
 use Rattle.std.proofs.Common.{codes}
-use Rattle.bootimg.specs.CommandLine.{value_of, IsEntry}
+use Rattle.bootimg.specs.Options.{value_of}
+use Rattle.bootimg.specs.ExtractOptions.{IsEntry}
 use Rattle.bootimg.specs.Numbers.{IsNumber}
 use Rattle.bootimg.proofs.CommandLines.{bad_part}
 use Rattle.bootimg.proofs.command_line.extract.entry.Goals as goal

@@ -1,5 +1,6 @@
 use Rattle.std.proofs.Common.{true, false, Some, None, refl, subst, sym}
-use Rattle.bootimg.specs.CommandLine.{IsBadValue, IsNameOf, IsSelectionFailure}
+use Rattle.bootimg.specs.Options.{IsBadValue}
+use Rattle.bootimg.specs.ExtractOptions.{IsNameOf, IsSelectionFailure}
 use Rattle.bootimg.specs.declared.failure.Failure.TheVariants.{BadValue}
 use Rattle.bootimg.proofs.CommandLines.{fails_with, given_by, no_config_name, no_selected_entry, no_image_name, no_part, ok_or_failed}
 use Rattle.bootimg.proofs.CommandLines.{outcome_weaker}

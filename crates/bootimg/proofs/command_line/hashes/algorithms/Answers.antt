@@ -1,5 +1,5 @@
 use Rattle.std.proofs.Common.{IfErr, option_map, ap, subst, sym, ◌∙◌}
-use Rattle.bootimg.specs.CommandLine.{IsBadValue, IsFailureOutcome}
+use Rattle.bootimg.specs.Options.{IsBadValue, IsFailureOutcome}
 use Rattle.bootimg.specs.ConfigurationWords.{AreHashes}
 use Rattle.bootimg.proofs.command_line.hashes.algorithms.Goals as goal
 

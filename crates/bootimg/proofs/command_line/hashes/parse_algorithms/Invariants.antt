@@ -1,4 +1,4 @@
-use Rattle.bootimg.specs.CommandLine.{texts_of}
+use Rattle.bootimg.specs.Options.{texts_of}
 use Rattle.bootimg.specs.ConfigurationWords.{AreAlgorithms}
 use Rattle.bootimg.proofs.command_line.hashes.parse_algorithms.Given as goal
 

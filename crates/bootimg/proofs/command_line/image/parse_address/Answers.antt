@@ -1,4 +1,5 @@
-use Rattle.bootimg.specs.CommandLine.{IsAddress, NoneIs}
+use Rattle.bootimg.specs.ImageWords.{IsAddress}
+use Rattle.bootimg.specs.Options.{NoneIs}
 use Rattle.bootimg.proofs.CommandLines.{if_none, no_address, not_dash}
 use Rattle.bootimg.proofs.command_line.image.parse_address.Goals as goal
 

@@ -1,4 +1,5 @@
-use Rattle.bootimg.specs.CommandLine.{IsImage, NoneIs}
+use Rattle.bootimg.specs.ImageWords.{IsImage}
+use Rattle.bootimg.specs.Options.{NoneIs}
 use Rattle.bootimg.proofs.CommandLines.{if_none}
 use Rattle.bootimg.proofs.command_line.image.parse_fields.Goals as goal
 

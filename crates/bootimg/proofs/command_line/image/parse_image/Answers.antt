@@ -1,4 +1,5 @@
-use Rattle.bootimg.specs.CommandLine.{IsImage, IsImageText, NoneIs}
+use Rattle.bootimg.specs.ImageWords.{IsImage, IsImageText}
+use Rattle.bootimg.specs.Options.{NoneIs}
 use Rattle.bootimg.proofs.CommandLines.{no_image_text, none_weaker}
 use Rattle.bootimg.proofs.command_line.image.parse_image.Goals as goal
 

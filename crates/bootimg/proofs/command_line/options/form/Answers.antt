@@ -1,7 +1,7 @@
 use Rattle.std.proofs.Common.{ℕ, List, codes, IfNone, true, false, Some, refl, subst}
 use Rattle.bi_fit.specs.declared.form.Form.{Form}
 use Rattle.bi_fit.specs.declared.form.Form.TheVariants.{Embedded, External, Aligned}
-use Rattle.bootimg.specs.CommandLine.{IsAlignOf, IsExternal, IsFormWith, NoneIs}
+use Rattle.bootimg.specs.Options.{IsAlignOf, IsExternal, IsFormWith, NoneIs}
 use Rattle.bootimg.proofs.CommandLines.{text_given}
 use Rattle.bootimg.proofs.command_line.options.form.Goals as goal
 

@@ -1,5 +1,5 @@
 use Rattle.std.proofs.Common.{subst, sym, codes}
-use Rattle.bootimg.specs.CommandLine.{value_of}
+use Rattle.bootimg.specs.Options.{value_of}
 use Rattle.bootimg.specs.Numbers.{IsNumber}
 use Rattle.bootimg.proofs.CommandLines.{bad_value}
 use Rattle.bootimg.proofs.command_line.options.number.Goals as goal

@@ -1,5 +1,5 @@
 use Rattle.bi_base.specs.Aligns.{align_bytes}
-use Rattle.bootimg.specs.CommandLine.{IsAlignOf, NoneIs}
+use Rattle.bootimg.specs.Options.{IsAlignOf, NoneIs}
 use Rattle.bootimg.proofs.CommandLines.{if_none}
 use Rattle.bootimg.proofs.command_line.options.parse_align.Goals as goal
 

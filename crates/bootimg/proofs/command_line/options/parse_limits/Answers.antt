@@ -1,4 +1,4 @@
-use Rattle.bootimg.specs.CommandLine.{IsLimits, NoneIs}
+use Rattle.bootimg.specs.Options.{IsLimits, NoneIs}
 use Rattle.bootimg.proofs.CommandLines.{if_none}
 use Rattle.bootimg.proofs.command_line.options.parse_limits.Goals as goal
 

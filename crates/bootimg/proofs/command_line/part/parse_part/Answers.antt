@@ -1,4 +1,5 @@
-use Rattle.bootimg.specs.CommandLine.{IsPartSource, NoneIs}
+use Rattle.bootimg.specs.PartWords.{IsPartSource}
+use Rattle.bootimg.specs.Options.{NoneIs}
 use Rattle.bootimg.proofs.CommandLines.{if_none, no_source}
 use Rattle.bootimg.proofs.command_line.part.parse_part.Goals as goal
 

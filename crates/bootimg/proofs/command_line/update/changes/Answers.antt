@@ -1,5 +1,5 @@
 use Rattle.std.proofs.Common.{◌∙◌, codes, sym, subst}
-use Rattle.bootimg.specs.CommandLine.{IsChangesFailure}
+use Rattle.bootimg.specs.TaskOptions.{IsChangesFailure}
 use Rattle.bootimg.specs.declared.failure.Failure.TheVariants.{BadValue}
 use Rattle.bootimg.proofs.CommandLines.{err_if, ok_or_failed, text_given}
 use Rattle.bootimg.proofs.command_line.update.changes.Goals as goal
