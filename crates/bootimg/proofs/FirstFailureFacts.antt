@@ -16,15 +16,14 @@ use Rattle.bootimg.specs.Options.{HasNoForm, IsForm, IsFormWith, IsLimits, NoneI
 use Rattle.bootimg.specs.Options.{option_of, value_of, values_of}
 use Rattle.bootimg.specs.ImageWords.{IsFirstBad, IsImageText}
 use Rattle.bootimg.specs.CommandLine.{IsTaskFailure, NotAllowed, NotChanged, NotCompared, NotExplained, NotFit, NotFormed, NotFormedChanged}
-use Rattle.bootimg.specs.CommandLine.{NotLegacy, NotLimited, NotPlaced, NotSelected, name_of_task}
+use Rattle.bootimg.specs.CommandLine.{NotLegacy, NotLimited, NotPlaced, NotSelected}
 use Rattle.bootimg.specs.ConfigurationWords.{AreHashes, IsDefault, IsFirstBadConfiguration}
 use Rattle.bootimg.specs.KnownBuildRequests.{FirstFailuresAreKnown, IsTheOne}
 use Rattle.bootimg.specs.Numbers.{IsNumber}
 use Rattle.bootimg.specs.Program.{program_app}
 use Rattle.bootimg.specs.Words.{parts_of}
 use Rattle.bootimg.specs.declared.codes.CodeField.TheVariants.{Os, Arch, ImageType, Compression}
-use Rattle.bootimg.specs.declared.command_line.Task.{Task}
-use Rattle.bootimg.specs.declared.command_line.Task.TheVariants as task
+use Rattle.bootimg.proofs.TaskNames.{no_task}
 use Rattle.bootimg.specs.declared.command_line.image.ImageWord.{ImageWord}
 use Rattle.bootimg.specs.declared.command_line.part.PartSource.TheVariants as part
 use Rattle.bootimg.specs.declared.failure.Failure.{Failure}
@@ -236,18 +235,6 @@ second_of word other later (image ∷ images) none are = no_first other later im
 
 -- ---- tasks
 
-not_a_task : (given : Task) → ¬ (codes "build-fit" ≡ name_of_task given)
-not_a_task (task.Normalise form) = other_bytes (codes "build-fit") (codes "normalise") refl
-not_a_task (task.Show presenter) = other_bytes (codes "build-fit") (codes "show") refl
-not_a_task (task.List format) = other_bytes (codes "build-fit") (codes "list") refl
-not_a_task (task.Describe format) = other_bytes (codes "build-fit") (codes "describe") refl
-not_a_task (task.Verify format) = other_bytes (codes "build-fit") (codes "verify") refl
-not_a_task (task.Check allowed format) = other_bytes (codes "build-fit") (codes "check") refl
-not_a_task task.Scan = other_bytes (codes "build-fit") (codes "scan") refl
-not_a_task (task.Update changes form) = other_bytes (codes "build-fit") (codes "update") refl
-not_a_task (task.Extract selection) = other_bytes (codes "build-fit") (codes "extract") refl
-not_a_task task.Convert = other_bytes (codes "build-fit") (codes "convert") refl
-
 -- The failures of `build-fit` are those of its limit and of its plan.
 abbrev IsFitTaskFailure : ArgMatches → Failure → Type 0
 IsFitTaskFailure options failure =
@@ -262,7 +249,7 @@ fit_failure options failure (NotChanged name fails) = absurd (other_bytes (codes
 fit_failure options failure (NotFormedChanged name changes are fails) =
     absurd (other_bytes (codes "build-fit") (codes "update") refl name)
 fit_failure options failure (NotSelected name all fails) = absurd (other_bytes (codes "build-fit") (codes "extract") refl name)
-fit_failure options failure (NotPlaced given is fails) = absurd (not_a_task given is.0)
+fit_failure options failure (NotPlaced given is fails) = absurd (no_task _ refl given is.0)
 fit_failure options failure (NotLegacy name fails) = absurd (other_bytes (codes "build-fit") (codes "build-legacy") refl name)
 fit_failure options failure (NotLimited name fails) = inl fails
 fit_failure options failure (NotFit name limits are fails) = inr (limits, are, fails)

@@ -1,5 +1,6 @@
 pub mod AllowedKinds
 pub mod CodeWords
+pub mod TaskNames
 pub mod TaskFailures
 pub mod CommandLines
 pub mod ListedTexts

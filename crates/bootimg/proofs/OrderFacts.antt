@@ -8,9 +8,9 @@ use Rattle.clap.specs.Simple.{subcommand_of}
 use Rattle.clap.specs.Walk.{Row, Text}
 use Rattle.clap.specs.declared.parser.matches.ArgMatches.{ArgMatches}
 use Rattle.clap.proofs.OnLiterals.{clap_on_literals}
-use Rattle.bootimg.specs.CommandLine.{Gives, IsJob, IsTask, IsTaskFailure, NoJob, NoLimits, NoMemory, NotAll, NotAllowed, NotChanged}
-use Rattle.bootimg.specs.CommandLine.{NotCompared, NotExplained, NotFit, NotFormed, NotFormedChanged, NotLegacy, NotLimited, NotPlaced}
-use Rattle.bootimg.specs.CommandLine.{NotSelected}
+use Rattle.bootimg.specs.CommandLine.{AreTaskOptions, Gives, IsJob, IsTask, IsTaskFailure, NoJob, NoLimits, NoMemory, NotAll, NotAllowed}
+use Rattle.bootimg.specs.CommandLine.{NotChanged, NotCompared, NotExplained, NotFit, NotFormed, NotFormedChanged, NotLegacy, NotLimited}
+use Rattle.bootimg.specs.CommandLine.{NotPlaced, NotSelected}
 use Rattle.bootimg.specs.Options.{IsLimits, json_flag, limit_of, option_of}
 use Rattle.bootimg.specs.ExtractOptions.{all_flag}
 use Rattle.bootimg.specs.TaskOptions.{hashes_flag}
@@ -26,6 +26,7 @@ use Rattle.bootimg.specs.declared.failure.Failure.TheVariants.{BadValue, NoChang
 use Rattle.bootimg.proofs.ArgumentFacts.{decimal_digits, limits_are_known}
 use Rattle.bootimg.proofs.FirstFailureFacts.{change_fails}
 use Rattle.bootimg.proofs.RequestFacts.{all_requests_are_known, file_is_named, flag_is}
+use Rattle.bootimg.proofs.TaskNames.{list_task, update_task}
 use Rattle.bootimg.proofs.RequestFacts.{no_time_given, number_of_argument, option_is, value_is}
 
 -- What whole command lines request, or why they request nothing, is known.
@@ -40,18 +41,11 @@ command_is line name options is wanted given =
 
 -- ---- requests
 
-list_task : (options : ArgMatches) → json_flag options ≡ Some (codes "true") → (given : Task) → IsTask (codes "list") options given →
+list_of_options : (options : ArgMatches) → json_flag options ≡ Some (codes "true") → (given : Task) → IsTask (codes "list") options given →
     given ≡ task.List Json
-list_task options flag (task.Normalise form) is = absurd (other_bytes (codes "list") (codes "normalise") refl is.0)
-list_task options flag (task.Show presenter) is = absurd (other_bytes (codes "list") (codes "show") refl is.0)
-list_task options flag (task.List format) is = ap task.List (is.1.given flag)
-list_task options flag (task.Describe format) is = absurd (other_bytes (codes "list") (codes "describe") refl is.0)
-list_task options flag (task.Verify format) is = absurd (other_bytes (codes "list") (codes "verify") refl is.0)
-list_task options flag (task.Check allowed format) is = absurd (other_bytes (codes "list") (codes "check") refl is.0)
-list_task options flag task.Scan is = absurd (other_bytes (codes "list") (codes "scan") refl is.0)
-list_task options flag (task.Update changes form) is = absurd (other_bytes (codes "list") (codes "update") refl is.0)
-list_task options flag (task.Extract selection) is = absurd (other_bytes (codes "list") (codes "extract") refl is.0)
-list_task options flag task.Convert is = absurd (other_bytes (codes "list") (codes "convert") refl is.0)
+list_of_options options flag given is =
+    let named = list_task given is.0 in
+    named.1 ∙ ap task.List ((subst (AreTaskOptions options) named.1 is.1).given flag)
 
 abbrev list_line : List ℕ
 list_line = codes "list --json --offset 7 --limit 64 -o out in"
@@ -60,7 +54,7 @@ list_job : (options : ArgMatches) → Gives (words_of_line list_line) (codes "li
     IsJob (codes "list") options job → IsListOfFile job
 unfolding program_app clap_on_literals
 list_job options is (Run plan) holds = (
-  list_task options (flag_is list_line (codes "list") options is (codes "json") ∙ refl) plan.task holds.task,
+  list_of_options options (flag_is list_line (codes "list") options is (codes "json") ∙ refl) plan.task holds.task,
   number_of_argument _ (codes "7") 7 (value_is list_line (codes "list") options is (codes "offset") (codes "0") ∙ refl)
       (decimal_digits (codes "7") refl refl) plan.offset holds.offset,
   file_is_named _ (codes "in") plan.source (option_is list_line (codes "list") options is (codes "file") ∙ refl) refl holds.source,
@@ -112,17 +106,10 @@ update_rejected line name only none failure (NoMemory is) = inr is
 -- No job is an update without a change.
 no_update_task : (options : ArgMatches) → option_of options (codes "time") ≡ None → hashes_flag options ≡ Some (codes "false") →
     (given : Task) → ¬ (IsTask (codes "update") options given)
-no_update_task options time flag (task.Normalise form) is = other_bytes (codes "update") (codes "normalise") refl is.0
-no_update_task options time flag (task.Show presenter) is = other_bytes (codes "update") (codes "show") refl is.0
-no_update_task options time flag (task.List format) is = other_bytes (codes "update") (codes "list") refl is.0
-no_update_task options time flag (task.Describe format) is = other_bytes (codes "update") (codes "describe") refl is.0
-no_update_task options time flag (task.Verify format) is = other_bytes (codes "update") (codes "verify") refl is.0
-no_update_task options time flag (task.Check allowed format) is = other_bytes (codes "update") (codes "check") refl is.0
-no_update_task options time flag task.Scan is = other_bytes (codes "update") (codes "scan") refl is.0
-no_update_task options time flag (task.Update changes form) is =
-    is.1.0.some (no_time_given _ time changes.time is.1.0.time, is.1.0.hashes.not_given flag)
-no_update_task options time flag (task.Extract selection) is = other_bytes (codes "update") (codes "extract") refl is.0
-no_update_task options time flag task.Convert is = other_bytes (codes "update") (codes "convert") refl is.0
+no_update_task options time flag given is =
+    let named = update_task given is.0 in
+    let options_are = subst (AreTaskOptions options) named.1.1 is.1 in
+    options_are.0.some (no_time_given _ time named.0.time options_are.0.time, options_are.0.hashes.not_given flag)
 
 no_update_job : (options : ArgMatches) → option_of options (codes "time") ≡ None → hashes_flag options ≡ Some (codes "false") →
     (job : Job) → ¬ (IsJob (codes "update") options job)

@@ -37,7 +37,7 @@ use Rattle.bi_norm.proofs.ComparisonFacts.{kernel_with_rest_means, no_magic_is_e
 use Rattle.bi_norm.proofs.KindLaws.{one_file_fault}
 use Rattle.clap.specs.declared.parser.matches.ArgMatches.{ArgMatches}
 use Rattle.clap.proofs.OnLiterals.{clap_on_literals}
-use Rattle.bootimg.specs.CommandLine.{Gives, IsJob, name_of_task}
+use Rattle.bootimg.specs.CommandLine.{Gives, IsJob}
 use Rattle.bootimg.specs.TaskOptions.{IsExplained}
 use Rattle.bootimg.specs.Explanations.{explain_text}
 use Rattle.bootimg.specs.Failures.{failure_of}
@@ -58,8 +58,7 @@ use Rattle.bootimg.specs.SavedWorks.{OutputSaved, PayloadsNotSaved, PayloadsSave
 use Rattle.bootimg.specs.Tasks.{IsCallFailure, EndedWith, plan_promise, status_of}
 use Rattle.bootimg.specs.declared.command_line.Job.{Job}
 use Rattle.bootimg.specs.declared.command_line.Job.TheVariants.{Run as RunTask, Compare, Build, Explain}
-use Rattle.bootimg.specs.declared.command_line.Task.{Task}
-use Rattle.bootimg.specs.declared.command_line.Task.TheVariants as task
+use Rattle.bootimg.proofs.TaskNames.{no_task}
 use Rattle.bootimg.specs.declared.command_line.build.BuildPlan.TheVariants as build
 use Rattle.bootimg.specs.declared.command_line.part.PartSource.{PartSource}
 use Rattle.bootimg.specs.declared.command_line.part.PartSource.TheVariants as part
@@ -217,22 +216,10 @@ no_cause argument cause is explains = by cause (subst (λ a. IsExplained a cause
   by None explains = refl
   by (Some given) explains = absurd explains
 
-no_task_explains : (given : Task) → ¬ (codes "explain" ≡ name_of_task given)
-no_task_explains (task.Normalise form) same = other_bytes (codes "explain") (codes "normalise") refl same
-no_task_explains (task.Show presenter) same = other_bytes (codes "explain") (codes "show") refl same
-no_task_explains (task.List format) same = other_bytes (codes "explain") (codes "list") refl same
-no_task_explains (task.Describe format) same = other_bytes (codes "explain") (codes "describe") refl same
-no_task_explains (task.Verify format) same = other_bytes (codes "explain") (codes "verify") refl same
-no_task_explains (task.Check allowed format) same = other_bytes (codes "explain") (codes "check") refl same
-no_task_explains task.Scan same = other_bytes (codes "explain") (codes "scan") refl same
-no_task_explains (task.Update changes form) same = other_bytes (codes "explain") (codes "update") refl same
-no_task_explains (task.Extract selection) same = other_bytes (codes "explain") (codes "extract") refl same
-no_task_explains task.Convert same = other_bytes (codes "explain") (codes "convert") refl same
-
 explain_job : (options : ArgMatches) → Gives (words_of_line explain_line) (codes "explain") options → (job : Job) →
     IsJob (codes "explain") options job → job ≡ Explain None
 unfolding program_app clap_on_literals
-explain_job options is (RunTask plan) holds = absurd (no_task_explains plan.task holds.task.0)
+explain_job options is (RunTask plan) holds = absurd (no_task _ refl plan.task holds.task.0)
 explain_job options is (Compare plan) holds = absurd (other_bytes (codes "explain") (codes "compare") refl holds.0)
 explain_job options is (Explain cause) holds =
     ap Explain (no_cause _ cause (option_is explain_line (codes "explain") options is (codes "cause") ∙ refl) holds.1)
