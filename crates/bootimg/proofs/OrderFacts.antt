@@ -108,7 +108,7 @@ no_update_task : (options : ArgMatches) → option_of options (codes "time") ≡
     (given : Task) → ¬ (IsTask (codes "update") options given)
 no_update_task options time flag given is =
     let named = update_task given is.0 in
-    let options_are = subst (AreTaskOptions options) named.1.1 is.1 in
+    let options_are = subst (AreTaskOptions options) named.2 is.1 in
     options_are.0.some (no_time_given _ time named.0.time options_are.0.time, options_are.0.hashes.not_given flag)
 
 no_update_job : (options : ArgMatches) → option_of options (codes "time") ≡ None → hashes_flag options ≡ Some (codes "false") →

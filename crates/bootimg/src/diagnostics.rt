@@ -1,6 +1,7 @@
 //! The lines that the program writes to standard error.
 
 ghost use Rattle.std.specs.Prelude.{◌≡◌};
+ghost use Rattle.bootimg.specs.ErrorLines.{Extends, line_of};
 ghost use Rattle.bootimg.specs.Failures.{name_text};
 ghost use Rattle.bootimg.specs.Diagnostics.{Notes, NotesAlignment, NotesCount, Reports};
 ghost use Rattle.bootimg.specs.Diagnostics.{alignment_line, failure_line, note_line};
@@ -33,8 +34,13 @@ pub fn report_failure<E: TracedWrite>(
 }
 
 /// Puts the line of a failure.
-fn put_failure<P: Pen>(source: ImageSource<'_>, failure: Failure, line: &mut P)
-    ensures { P.puts line.old (failure_line source.entry failure) line.new }
+fn put_failure<E: TracedWrite>(
+    source: ImageSource<'_>,
+    failure: Failure,
+    line: &mut ErrorLine<'_, E>,
+)
+    ensures { Extends (line_of E.trace line.old) (failure_line source.entry failure)
+        (line_of E.trace line.new) }
 {
     line.put(b"bootimg: ");
     put_source(source, failure, line);
@@ -101,8 +107,8 @@ fn note_positions<E: TracedWrite>(positions: usize, errors: &mut E)
 }
 
 /// Puts the line on the signature nodes of a text.
-fn put_signatures<P: Pen>(signatures: usize, line: &mut P)
-    ensures { P.puts line.old (note_line signatures) line.new }
+fn put_signatures<E: TracedWrite>(signatures: usize, line: &mut ErrorLine<'_, E>)
+    ensures { Extends (line_of E.trace line.old) (note_line signatures) (line_of E.trace line.new) }
 {
     line.put(b"bootimg: note: ");
     put_field(Field::Decimal(signatures as u64), line);
@@ -110,8 +116,8 @@ fn put_signatures<P: Pen>(signatures: usize, line: &mut P)
 }
 
 /// Puts the line on an alignment in bytes that payloads lose.
-fn put_alignment<P: Pen>(bytes: u32, line: &mut P)
-    ensures { P.puts line.old (alignment_line bytes) line.new }
+fn put_alignment<E: TracedWrite>(bytes: u32, line: &mut ErrorLine<'_, E>)
+    ensures { Extends (line_of E.trace line.old) (alignment_line bytes) (line_of E.trace line.new) }
 {
     line.put(b"bootimg: note: payloads are no longer aligned to ");
     put_field(Field::Decimal(u64::from(bytes)), line);
@@ -119,8 +125,9 @@ fn put_alignment<P: Pen>(bytes: u32, line: &mut P)
 }
 
 /// Puts the line on payloads with fixed positions.
-fn put_positions<P: Pen>(positions: usize, line: &mut P)
-    ensures { P.puts line.old (positions_line positions) line.new }
+fn put_positions<E: TracedWrite>(positions: usize, line: &mut ErrorLine<'_, E>)
+    ensures { Extends (line_of E.trace line.old) (positions_line positions)
+        (line_of E.trace line.new) }
 {
     line.put(b"bootimg: note: ");
     put_field(Field::Decimal(positions as u64), line);
