@@ -31,7 +31,7 @@ module _ (recorded : List (List ℕ)) (parts : List NeededPart) (part : NeededPa
       ∙ map-append (λ (part : NeededPart). Uncovered part.path) (filter (λ part. not (is_covered recorded part)) parts)
       (filter (λ part. not (is_covered recorded part)) (part ∷ []))
 
-  -- A part that is covered is no concern.
+  -- A part that is covered is not a concern.
   pub covered_more : is_covered recorded part ≡ true →
       uncovered_concerns recorded (parts ++ part ∷ []) ≡ uncovered_concerns recorded parts ++ []
   covered_more is = both ∙ ap (λ l. uncovered_concerns recorded parts ++ l) last

@@ -172,7 +172,7 @@ module _ (file : List ℕ) (root : Root FileNode) (children : List Children) (en
       ap (λ l. slice_get l number) at.index.have_ends
       ∙ mapped_at (λ (sibling : Sibling FileNode). names_end file sibling.own) at.index.nodes number at.sibling at.there
 
-  -- The rest is no path.
+  -- The rest is not a path.
   pub at_no_path : BeginsWithNoSlash rest → rest ≢ [] → owns_with [] root.children path ≡ []
   at_no_path plain some = at.owns ∙ by rest refl
     where

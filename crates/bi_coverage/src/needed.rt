@@ -49,7 +49,7 @@ pub(crate) fn image_part(
 }
 
 /// Returns the sum of two lengths. Error: TooLarge at the limit, if the sum is more than that.
-/// Requires: the first length is no more.
+/// Requires: the first length is at most the limit.
 pub(crate) fn add_length(total: usize, length: usize, limit: u32) -> Result<usize, Fault>
     requires { total ≤ limit }
     ensures sum { IfOk result (λ sum. sum ≡ total + length) }
@@ -63,8 +63,8 @@ pub(crate) fn add_length(total: usize, length: usize, limit: u32) -> Result<usiz
 }
 
 /// Adds the lengths of the path of an image and of those of its children with these names to a
-/// length. Error: TooLarge at the limit, if the sum is more than that. Requires: the length is no
-/// more.
+/// length. Error: TooLarge at the limit, if the sum is more than that. Requires: the length
+/// is at most the limit.
 pub(crate) fn add_image_length(
     total: usize,
     image: &[u8],
@@ -89,7 +89,7 @@ pub(crate) fn add_image_length(
 }
 
 /// Adds the length of the path of a child of an image to a length. Error: TooLarge at the limit, if
-/// the sum is more than that. Requires: the length is no more.
+/// the sum is more than that. Requires: the length is at most the limit.
 fn add_child_length(total: usize, image: &[u8], child: &[u8], limit: u32) -> Result<usize, Fault>
     requires { total ≤ limit }
     ensures sum { IfOk result (λ sum. sum ≡ total + (9 + length image.now + length child.now)) }
@@ -130,7 +130,7 @@ fn add_part<'p>(paths: &mut NameSet<'p>, part: &'p NeededPart) -> Result<(), All
 }
 
 /// Returns the sum of a total and of a length that is added a number of times. Error: TooLarge at
-/// the limit, if the sum is more than that. Requires: the total is no more.
+/// the limit, if the sum is more than that. Requires: the total is at most the limit.
 pub(crate) fn add_lengths(
     total: usize,
     length: usize,

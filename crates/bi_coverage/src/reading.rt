@@ -398,7 +398,7 @@ fn add_strings_concern(
     Ok(())
 }
 
-/// Adds the concern that there is no reference, if there is none. Fails if memory runs out.
+/// Adds the concern that no image is referenced, if that is so. Fails if memory runs out.
 fn add_image_concern(
     concerns: &mut Vec<SignatureConcern>,
     references: &[&[u8]],

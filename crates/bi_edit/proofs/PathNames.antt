@@ -46,7 +46,8 @@ pub rest_of_names : (names all : List (List ℕ)) (rest : List ℕ) → AreChild
 rest_of_names [] all rest are all_are ends same = record { others = all; are = refl; rest = same }
 rest_of_names (name ∷ names) [] rest are all_are ends same = absurd cc
 rest_of_names (name ∷ names) (first ∷ all) rest are all_are ends same =
-    let parts = cut_agrees is_slash (shown_text first) (shown_text name) (flat_map slash_and_name all) (flat_map slash_and_name names ++ rest)
+    let parts = cut_agrees is_slash (shown_text first) (shown_text name) (flat_map slash_and_name all)
+    (flat_map slash_and_name names ++ rest)
     (shown_no_slash first all_are.0.is_name.no_slash) (shown_no_slash name are.0.is_name.no_slash)
     (ends-slashed all) (ends_more names rest ends)
     (later_same same ∙ append_assoc (shown_text name) (flat_map slash_and_name names) rest) in
@@ -69,7 +70,10 @@ names_with_one_more (first ∷ names) name =
 -- A path has no space.
 steps_bare : (names : List (List ℕ)) → HasNoEnd is_blank (flat_map slash_and_name names)
 steps_bare [] = tt
-steps_bare (name ∷ names) = (refl, goes_on-append is_blank (shown_text name) (flat_map slash_and_name names) (shown_no_blank name) (steps_bare names))
+steps_bare (name ∷ names) = (
+  refl,
+  goes_on-append is_blank (shown_text name) (flat_map slash_and_name names) (shown_no_blank name) (steps_bare names),
+)
 
 pub path_no_space : (names : List (List ℕ)) → LacksByte 32 (path names)
 path_no_space [] = no_space (path []) (refl, tt)

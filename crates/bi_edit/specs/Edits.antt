@@ -64,7 +64,7 @@ with_payload_digests none = none
 with_payload_digests (node name own children later) =
     node name own (with_digests_of (get own data_name) children) (with_payload_digests later)
 
--- A plain tree after an edit. A field of a legacy image is no part of it.
+-- A plain tree after an edit. It has no field of a legacy image.
 abbrev pub edited_root : Root PropertyMap → Edit → Root PropertyMap
 edited_root root (RemoveNode path) = without_node_at path root
 edited_root root (RemoveProperty place) =

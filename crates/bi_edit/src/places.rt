@@ -34,8 +34,8 @@ impl Model for NodePath {
 }
 
 impl NodePath {
-    /// Returns the path with these names. Returns None exactly if one of them is not a name that a
-    /// child may have, or there are more than 63.
+    /// Returns the path with these names. Returns None if and only if one of them is not a name that
+    /// a child may have, or there are more than 63.
     pub fn new(names: Vec<Vec<u8>>) -> Option<NodePath>
         ensures some { IfSome result (λ path.
             (path ≡ names_of_path names.items) × IsNodePath path) }
@@ -146,7 +146,7 @@ impl Model for ImageName {
 }
 
 impl ImageName {
-    /// Returns this name. Returns None exactly if it is not one that a child may have.
+    /// Returns this name. Returns None if and only if a child may not have it.
     pub fn new(name: Vec<u8>) -> Option<ImageName>
         ensures some { IfSome result (λ image.
             (image ≡ name.items) × IsChildNameOfBytes image) }
@@ -187,8 +187,8 @@ impl Model for PropertyPlace {
 }
 
 impl PropertyPlace {
-    /// Returns the property with this name of the node at this path. Returns None exactly if the
-    /// name is not one that a property may have, or it is one of the four of an image node.
+    /// Returns the property with this name of the node at this path. Returns None if and only
+    /// if a property may not have the name, or it is one of the four of an image node.
     pub fn new(path: NodePath, name: Vec<u8>) -> Option<PropertyPlace>
         ensures some { IfSome result (λ place.
             (place ≡ record { path = path; name = name.items }) × IsPlace place) }

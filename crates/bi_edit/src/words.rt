@@ -52,7 +52,8 @@ pub fn parse_removal<'a>(alloc: Global, word: &[u8]) -> Result<Option<Edit<'a>>,
     }
 }
 
-/// Returns the edit that removes the node at a path. Returns None exactly if it cannot be removed.
+/// Returns the edit that removes the node at a path. Returns None if and only if it cannot be
+/// removed.
 fn removed_node<'a>(path: NodePath) -> Option<Edit<'a>>
     ensures some { IfSome result (λ edit. (edit ≡ RemoveNode path) × IsRemovable path) }
     ensures none { IfNone result (IsRemovable path → ⊥) }
@@ -133,8 +134,8 @@ pub struct PayloadWord<'a> {
 }
 
 /// Parses the word for a new payload: the name of an image as it is printed, `=@`, and the name of
-/// a file. The name of the image ends at the first `=@`. Returns None exactly for any other word,
-/// also if the name of the file is empty.
+/// a file. The name of the image ends at the first `=@`. Returns None for any other word, and
+/// for one with an empty name of the file.
 ///
 /// Fails only with OutOfMemory.
 pub fn parse_payload<'a>(alloc: Global, word: &'a str) -> Result<Option<PayloadWord<'a>>, Error>

@@ -84,7 +84,8 @@ new_with : (name other value : List ℕ) → name ≢ other → (properties : Li
     IsNew other (names_in (with_property_in name value properties))
 new_with name other value differs [] new = (differs, tt)
 new_with name other value differs (first ∷ later) new =
-    new_with_first name other value first later differs new.0 new.1 (new_with name other value differs later new.1) (bytes_eq first.0 name) refl
+    new_with_first name other value first later differs new.0 new.1 (new_with name other value differs later new.1)
+    (bytes_eq first.0 name) refl
 
 new_without_first : (name other : List ℕ) (first : Property) (later : List Property) → first.0 ≢ other →
     IsNew other (names_in later) → IsNew other (names_in (without_property_in name later)) → (b : Bool) → bytes_eq first.0 name ≡ b →
@@ -111,7 +112,8 @@ distinct_with : (name value : List ℕ) (properties : List Property) → AreDist
     AreDistinct (names_in (with_property_in name value properties))
 distinct_with name value [] distinct = (tt, tt)
 distinct_with name value (first ∷ later) distinct =
-    distinct_with_first name value first later distinct.0 distinct.1 (distinct_with name value later distinct.1) (bytes_eq first.0 name) refl
+    distinct_with_first name value first later distinct.0 distinct.1 (distinct_with name value later distinct.1)
+    (bytes_eq first.0 name) refl
 
 distinct_without_first : (name : List ℕ) (first : Property) (later : List Property) → IsNew first.0 (names_in later) →
     AreDistinct (names_in later) → AreDistinct (names_in (without_property_in name later)) → (b : Bool) → bytes_eq first.0 name ≡ b →

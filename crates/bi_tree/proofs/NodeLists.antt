@@ -36,7 +36,8 @@ pub change_first_named : (nodes : List TreeNodeModel) (name : List ℕ) (change 
     IsChanged name change new other nodes
 change_first_named [] name change new other within named is = absurd (omega (arith, within))
 change_first_named (first ∷ later) name change new other within named is =
-    change_first first later name change new other (change_first_named later name change new other) (bytes_eq first.name name) refl within named is
+    change_first first later name change new other (change_first_named later name change new other) (bytes_eq first.name name) refl within
+    named is
 
 -- A node with a new name is added.
 abbrev new_node : List ℕ → TreeNodeModel
@@ -95,7 +96,8 @@ removed (first ∷ later) name within = remove_first first later name (removed l
 -- Without a node of the name all stay.
 abbrev IsKept : List ℕ → (Root (List Property) → Root (List Property)) → List TreeNodeModel → Type 0
 IsKept name change nodes = node_index name nodes ≡ length nodes →
-    (nodes_of_models nodes ≡ without_node name (nodes_of_models nodes)) × (nodes_of_models nodes ≡ with_node name change (nodes_of_models nodes))
+    (nodes_of_models nodes ≡ without_node name (nodes_of_models nodes))
+    × (nodes_of_models nodes ≡ with_node name change (nodes_of_models nodes))
 
 keep_first : (first : TreeNodeModel) (later : List TreeNodeModel) (name : List ℕ) (change : Root (List Property) → Root (List Property)) →
     IsKept name change later → (b : Bool) → bytes_eq first.name name ≡ b → IsKept name change (first ∷ later)

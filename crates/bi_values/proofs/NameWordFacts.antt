@@ -72,7 +72,7 @@ no_child_with_blank name is same =
 no_empty_child : IsNoChildName []
 no_empty_child name is same = some_shown name same
 
--- A step that is no name, alone after the first slash.
+-- A step that is not a name, alone after the first slash.
 no_first_step : (step : List ℕ) → AllByRecursion (λ byte. byte ≢ 47) step → IsNoChildName step → AreNoSteps (47 ∷ (step ++ []))
 no_first_step step plain none =
     no_path_steps (47 ∷ (step ++ [])) [] (47 ∷ (step ++ [])) step [] tt refl (record { is = refl; no_slash = plain; ends = tt }) none

@@ -15,7 +15,7 @@ use Rattle.bi_values.specs.declared.value_form.ValueForm.{ValueForm}
 
 -- ---- reasons
 
--- The error for a result that is no bytes.
+-- The error for a result without bytes.
 abbrev error_for : (index : ℕ) → ValueResult → GetError
 error_for index OfOtherKind = error.WrongKind
 error_for index NoSuchProperty = error.NoProperty index
@@ -30,7 +30,7 @@ reason_has_error index result (error.NoProperty at) is = ap error.NoProperty is.
 reason_has_error index result (error.NoText at) is = ap error.NoText is.1 ∙ sym (ap (error_for index) is.0)
 reason_has_error index result (error.NoNumber at) is = ap error.NoNumber is.1 ∙ sym (ap (error_for index) is.0)
 
--- Bytes are no reason.
+-- Bytes are not a reason.
 pub no_reason_in_bytes : (index : ℕ) (bytes : List ℕ) (given : GetError) → ¬ (IsValueReason index (ValueBytes bytes) given)
 no_reason_in_bytes index bytes (error.Failed failed) is = is
 no_reason_in_bytes index bytes error.WrongKind is = absurd cc
@@ -55,7 +55,7 @@ pub one_text : (results : List ValueResult) (text other : List ℕ) → IsTextOf
 one_text results text other is also =
     also.is_text ∙ ap concat (same_pieces also.pieces is.pieces (sym also.are_bytes ∙ is.are_bytes)) ∙ sym is.is_text
 
--- Where a reason is, there are no bytes, and the reasons before it are none.
+-- A result with a reason has no bytes, and no result before it has a reason.
 record IsSameReason (pieces others : List (List ℕ)) (reason other : ValueResult) : Type 0 where
   counts : length pieces ≡ length others
   reasons : reason ≡ other
@@ -84,7 +84,7 @@ one_reason results given also is has =
     ∙ ap (error_for (length is.pieces)) (sym same.reasons)
     ∙ sym (reason_has_error (length is.pieces) is.reason given is.is_reason)
 
--- There is no text of results with a reason.
+-- Results with a reason have no text.
 pub text_or_reason : (results : List ValueResult) (text : List ℕ) (given : GetError) → IsTextOfResults results text →
     ¬ (IsFirstReason results given)
 text_or_reason results text given is has =

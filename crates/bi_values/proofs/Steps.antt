@@ -93,7 +93,7 @@ first_after : (names more : List (List ℕ)) (name : List ℕ) → AllByRecursio
 first_after [] more name are = are.0
 first_after (other ∷ names) more name are = first_after names more name are.1
 
--- After some names comes a slash and what is no name: the text is that of no names.
+-- A slash and what is not a name follow some names: no names have this text.
 pub no_path_steps : (text : List ℕ) (names : List (List ℕ)) (rest step later : List ℕ) → AllByRecursion IsChildNameOfBytes names →
     steps_text names ++ rest ≡ text → BeginsWithStep rest step later → IsNoChildName step → AreNoSteps text
 no_path_steps text names rest step later are begins goes none others also same =
@@ -138,12 +138,12 @@ path_of_steps text [] some are few = absurd (some (sym are.is))
 path_of_steps text (name ∷ names) some are few =
     record { is_path = record { are_names = are.are_names; few = few }; is = are.is }
 
--- A text of no steps is no path, but for that of the root.
+-- A text without steps is not a path, unless it is that of the root.
 pub no_path : (text : List ℕ) → text ≢ codes "/" → AreNoSteps text → IsNoPath text
 no_path text other none [] is same = other (sym same)
 no_path text other none (name ∷ names) is same = none (name ∷ names) is.are_names same
 
--- A text of too many steps is no path.
+-- A text of too many steps is not a path.
 pub no_long_path : (text : List ℕ) (names : List (List ℕ)) → text ≢ codes "/" → AreStepsOf text names → 63 < length names → IsNoPath text
 no_long_path text names other are long [] is same = other (sym same)
 no_long_path text names other are long (first ∷ others) is same =

@@ -41,7 +41,7 @@ IsValueReason index result (error.NoProperty at) = (result ≡ NoSuchProperty) �
 IsValueReason index result (error.NoText at) = (result ≡ HasNoText) × (at ≡ index)
 IsValueReason index result (error.NoNumber at) = (result ≡ HasNoNumber) × (at ≡ index)
 
--- The error names the first of these results that is no bytes.
+-- The error names the first of these results without bytes.
 pub record IsFirstReason (results : List ValueResult) (error : GetError) : Type 0 where
   pub pieces : List (List ℕ)
   pub reason : ValueResult

@@ -18,7 +18,7 @@ use std::alloc::Global;
 const MOST_STEPS: usize = 63;
 
 /// Returns the names of the nodes on the way from the root to a node, by its path as it is printed.
-/// Returns None if the text is no such path: for example if a name is printed otherwise, or if
+/// Returns None if the text is not such a path: for example if a name is printed otherwise, or if
 /// there are more than 63 names. Fails if memory runs out.
 pub(crate) fn path_shown_as(alloc: Global, text: &[u8]) -> Result<Option<Vec<Vec<u8>>>, Error>
     ensures some { IfOk result (λ found. IfSome found (λ names.

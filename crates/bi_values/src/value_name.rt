@@ -127,7 +127,7 @@ impl ValueName {
 }
 
 /// Returns the name of a value that the first words name, and their number, which is 1 or 2.
-/// Returns None if there is no word, or if they name no value. Fails if memory runs out.
+/// Returns None without a word, or if they do not name a value. Fails if memory runs out.
 fn first_name(alloc: Global, words: &[&[u8]]) -> Result<Option<(ValueName, usize)>, Error>
     ensures some { IfOk result (λ found. IfSome found (λ first.
         BeginWithName (bytes_of_names words.now) (value_name_model first.0)

@@ -19,7 +19,8 @@ returns-then-index-len-clause-removed t c =
     ap (λ nodes. record { own = tree_properties c.self.inside.properties.items; children = nodes }) changed
     ∙ ap (λ top. record { own = top.own; children = with_node c.deref-3.result.now (without_node_at later) top.children })
     c.self.view_is
-    ∙ sym (removed_below c.deref-3.result.now later (below c.args.self.now) (some_names (take (length path - 1) (drop 1 path)) (sym c.is_empty.ensures ∙ c.if-is_empty.false)))
+    ∙ sym (removed_below c.deref-3.result.now later (below c.args.self.now)
+    (some_names (take (length path - 1) (drop 1 path)) (sym c.is_empty.ensures ∙ c.if-is_empty.false)))
     ∙ ap (λ name. without_node_at (name ∷ later) (below c.args.self.now)) c.deref-3.ensures.value
     ∙ sym
     (ap (λ names. without_node_at (names_of_path names) (below c.args.self.now))
@@ -37,7 +38,8 @@ returns-else-index-len-clause-removed t c =
     ∙ ap (λ nodes. record { own = tree_properties c.self.inside.properties.items; children = nodes }) same
     ∙ ap (λ top. record { own = top.own; children = with_node c.deref-3.result.now (without_node_at later) top.children })
     c.self.view_is
-    ∙ sym (removed_below c.deref-3.result.now later (below c.args.self.now) (some_names (take (length path - 1) (drop 1 path)) (sym c.is_empty.ensures ∙ c.if-is_empty.false)))
+    ∙ sym (removed_below c.deref-3.result.now later (below c.args.self.now)
+    (some_names (take (length path - 1) (drop 1 path)) (sym c.is_empty.ensures ∙ c.if-is_empty.false)))
     ∙ ap (λ name. without_node_at (name ∷ later) (below c.args.self.now)) c.deref-3.ensures.value
     ∙ sym
     (ap (λ names. without_node_at (names_of_path names) (below c.args.self.now))
