@@ -4,8 +4,8 @@
  * Boot images of U-Boot: legacy images and FITs (flattened image trees).
  *
  * A file here is an image in memory; no call opens a file of the system. A call keeps nothing
- * between calls, and returns nothing allocated, so there is nothing to free. Several threads may
- * make calls at the same time, if no call writes to memory that another call uses.
+ * between calls, and returns nothing allocated: there is nothing to free. Several threads may make
+ * calls at the same time, if no call writes to memory that another call uses.
  *
  * A pointer and the number after it are the first element of some memory and the number of its
  * elements, which are bytes if they are of the type uint8_t. The pointer may be null if the number
@@ -13,13 +13,13 @@
  * overlap neither what else it writes nor what it reads. Structs are aligned as in any C program.
  *
  * `limit` is the greatest number of bytes of a file, and of an image, payload or description that
- * is made: 64 to BOOTIMG_LIMIT. Each call with `limit` that reads an image refuses a longer file
+ * is made: 64 to BOOTIMG_LIMIT. Every call with `limit` that reads an image refuses a longer file
  * with TooLarge, and then a file that fails a check of its format with the cause of the first check
  * that fails (docs/FORMATS.md). The comment of a call says what else it refuses.
  * `depth` is the greatest depth of a FIT, including the root: 1 to BOOTIMG_DEPTH. The program
  * `bootimg` uses BOOTIMG_DEPTH, and BOOTIMG_LIMIT by default.
  *
- * A call returns its status, and sets each number of the struct `answer`:
+ * A call returns its status, and sets all numbers of the struct `answer`:
  *
  *   BOOTIMG_OK              The call succeeded. `size` is the size of the output, and `value` the
  *                           number that the comment of the call names.
@@ -32,7 +32,7 @@
  *                           BOOTIMG_OK.
  *   BOOTIMG_WRONG_ARGUMENT  A number is out of the range of its argument.
  *   BOOTIMG_NOT_FOUND       What the call looks for is not there. `reason` is one of
- *                           BOOTIMG_WRONG_KIND to BOOTIMG_NO_PROPERTY. `value` is the index of the
+ *                           BOOTIMG_WRONG_KIND to BOOTIMG_NO_NUMBER. `value` is the index of the
  *                           first name that no image has for BOOTIMG_MISSING, and otherwise 0.
  *
  * Numbers without meaning for the status or the call are 0. If the status is BOOTIMG_OK, the
@@ -51,7 +51,7 @@ extern "C" {
 #endif
 
 /* The version of this header and of the library. */
-#define BOOTIMG_VERSION "0.3.0"
+#define BOOTIMG_VERSION "0.4.0"
 
 /* What a call returns. */
 #define BOOTIMG_OK 0u
@@ -128,8 +128,16 @@ enum bootimg_cause {
 #define BOOTIMG_NO_PAYLOAD 9u
 #define BOOTIMG_NO_NODE 10u
 #define BOOTIMG_NO_PROPERTY 11u
+#define BOOTIMG_NO_TEXT 12u
+#define BOOTIMG_NO_NUMBER 13u
 
-/* `addresses` of an image to be built: it has a load address, and an entry point. */
+/* `form` of a value. */
+#define BOOTIMG_VALUE_SHOWN 0u
+#define BOOTIMG_VALUE_TEXT 1u
+#define BOOTIMG_VALUE_NUMBER 2u
+#define BOOTIMG_VALUE_RAW 3u
+
+/* `addresses` of an image to be built: whether `load` and `entry` are given. */
 #define BOOTIMG_HAS_LOAD 1u
 #define BOOTIMG_HAS_ENTRY 2u
 
@@ -151,9 +159,10 @@ enum bootimg_cause {
 enum bootimg_concern_kind {
     /* The verdict on a hash node is not good. */
     BOOTIMG_CONCERN_BAD_HASH = 1,
-    /* An image has a payload and no good verdict. */
+    /* An image has a payload and no good verdict, apart from hash nodes that U-Boot skips. */
     BOOTIMG_CONCERN_UNHASHED = 2,
-    /* An image has a payload and good verdicts, but none of SHA-256, SHA-384 or SHA-512. */
+    /* An image has a payload and good verdicts, but none of SHA-256, SHA-384 or SHA-512, apart
+     * from hash nodes that U-Boot skips. */
     BOOTIMG_CONCERN_WEAK_HASH = 4,
     /* The value of a key of a configuration is not a list of names. */
     BOOTIMG_CONCERN_BAD_LIST = 8,
@@ -162,11 +171,28 @@ enum bootimg_concern_kind {
     /* There are configurations, and the default names none of them. */
     BOOTIMG_CONCERN_BAD_DEFAULT = 32,
     /* A byte after the image is not zero. */
-    BOOTIMG_CONCERN_TRAILING = 64
+    BOOTIMG_CONCERN_TRAILING = 64,
+    /* U-Boot skips a hash node. */
+    BOOTIMG_CONCERN_SKIPPED_HASH = 128,
+    /* A configuration has no signature, or there is no configuration. Only with BOOTIMG_SIGNED. */
+    BOOTIMG_CONCERN_UNSIGNED = 256,
+    /* A signature of a configuration does not say which nodes it covers. */
+    BOOTIMG_CONCERN_NO_NODES = 512,
+    /* The configuration of a signature names no image. */
+    BOOTIMG_CONCERN_NO_IMAGES = 1024,
+    /* A signature of a configuration does not cover a node that it must cover. */
+    BOOTIMG_CONCERN_UNCOVERED = 2048,
+    /* A signature of a configuration covers a node that it need not cover. */
+    BOOTIMG_CONCERN_FOREIGN = 4096,
+    /* A signature of a configuration does not cover the names of all properties of its nodes. */
+    BOOTIMG_CONCERN_STRINGS = 8192,
+    /* There is a signature of a configuration, and the name of a node contains an @. */
+    BOOTIMG_CONCERN_UNIT_ADDRESS = 16384
 };
 
-/* `kinds` of bootimg_check and bootimg_concerns: the concerns that are left out. The numbers are
- * those of enum bootimg_concern_kind. */
+/* `kinds` of bootimg_check and bootimg_concerns: the concerns that are left out, by the numbers of
+ * enum bootimg_concern_kind. BOOTIMG_SIGNED asks for signatures: without it no concern is
+ * BOOTIMG_CONCERN_UNSIGNED. */
 #define BOOTIMG_ALLOW_BAD_HASH 1u
 #define BOOTIMG_ALLOW_UNHASHED 2u
 #define BOOTIMG_ALLOW_WEAK_HASH 4u
@@ -174,6 +200,15 @@ enum bootimg_concern_kind {
 #define BOOTIMG_ALLOW_MISSING 16u
 #define BOOTIMG_ALLOW_BAD_DEFAULT 32u
 #define BOOTIMG_ALLOW_TRAILING 64u
+#define BOOTIMG_ALLOW_SKIPPED_HASH 128u
+#define BOOTIMG_ALLOW_UNSIGNED 256u
+#define BOOTIMG_ALLOW_NO_NODES 512u
+#define BOOTIMG_ALLOW_NO_IMAGES 1024u
+#define BOOTIMG_ALLOW_UNCOVERED 2048u
+#define BOOTIMG_ALLOW_FOREIGN 4096u
+#define BOOTIMG_ALLOW_STRINGS 8192u
+#define BOOTIMG_ALLOW_UNIT_ADDRESS 16384u
+#define BOOTIMG_SIGNED 32768u
 
 /* What a call returns in addition to its status. */
 typedef struct bootimg_result {
@@ -231,9 +266,9 @@ typedef struct bootimg_property {
     bootimg_region value;
 } bootimg_property;
 
-/* A hash node of an image of a FIT: the name of the image, that of the node, that of the algorithm,
- * and the value. The numbers of a region are 0 if it is not there. `verdict` is one of
- * BOOTIMG_VERDICT_GOOD to BOOTIMG_VERDICT_MALFORMED. */
+/* A hash node of an image of a FIT: the names of the image, the node and the algorithm, and the
+ * value. The numbers of a region are 0 if it is not there. `verdict` is one of BOOTIMG_VERDICT_GOOD
+ * to BOOTIMG_VERDICT_MALFORMED. */
 typedef struct bootimg_hash {
     bootimg_region image;
     bootimg_region node;
@@ -242,22 +277,26 @@ typedef struct bootimg_hash {
     uint32_t verdict;
 } bootimg_hash;
 
-/* A concern about a boot image. `kind` is one of BOOTIMG_CONCERN_*. Each kind has these members:
+/* A concern about a boot image. `kind` is one of BOOTIMG_CONCERN_*, with these members:
  *
  *   BOOTIMG_CONCERN_BAD_HASH     `name` of the image, `node`, `algorithm` and `verdict`.
  *   BOOTIMG_CONCERN_UNHASHED     `name` of the image.
- *   BOOTIMG_CONCERN_WEAK_HASH    `name` of the image. Its algorithms are those of the elements of
+ *   BOOTIMG_CONCERN_WEAK_HASH    `name` of the image. Its algorithms are in the elements of
  *                                bootimg_verdicts with this region as `image` and with
- *                                BOOTIMG_VERDICT_GOOD.
+ *                                BOOTIMG_VERDICT_GOOD, except for the nodes of the elements of
+ *                                BOOTIMG_CONCERN_SKIPPED_HASH.
  *   BOOTIMG_CONCERN_BAD_LIST     `name` of the configuration, and `key`.
- *   BOOTIMG_CONCERN_MISSING      `name` of the configuration, `key`, and `index`: that of the first
- *                                listed name that no image has, counted from 0.
+ *   BOOTIMG_CONCERN_MISSING      `name` of the configuration, `key`, and `index`, counted from 0,
+ *                                of the first listed name that no image has.
  *   BOOTIMG_CONCERN_BAD_DEFAULT  `name`, which is the default.
  *   BOOTIMG_CONCERN_TRAILING     `size`: the number of bytes after the image.
+ *   BOOTIMG_CONCERN_SKIPPED_HASH `name` of the image, and `node`.
+ *   Any other kind               None. The line of bootimg_check with the same index gives the
+ *                                names and the path.
  *
  * `node` is the name of the hash node. `verdict` is one of BOOTIMG_VERDICT_BAD to
  * BOOTIMG_VERDICT_MALFORMED, and `key` one of BOOTIMG_KERNEL to BOOTIMG_SCRIPT. The numbers of a
- * region are 0 if it is not there. Members that the kind does not have are 0. */
+ * region are 0 if it is not there. All other members are 0. */
 typedef struct bootimg_concern {
     bootimg_region name;
     bootimg_region node;
@@ -270,7 +309,7 @@ typedef struct bootimg_concern {
 } bootimg_concern;
 
 /* An image of a FIT to be built. The name and the payload are regions of the input. `addresses` is
- * a sum of BOOTIMG_HAS_*, or 0. The codes are those of a legacy header. */
+ * a sum of BOOTIMG_HAS_*, or 0. The codes are the same as in a legacy header. */
 typedef struct bootimg_build_image {
     bootimg_region name;
     bootimg_region payload;
@@ -288,8 +327,8 @@ typedef struct bootimg_build_image {
  * four bytes, and with BadMagic at 0 for one without a magic number. */
 uint32_t bootimg_kind(const uint8_t *file, size_t file_size, bootimg_result *answer);
 
-/* Writes the normal form of a file. `form` is BOOTIMG_EMBEDDED or BOOTIMG_EXTERNAL, and has no
- * effect on a legacy image. `value` is the number of signature nodes, which are kept and not
+/* Writes the normal form of a file. `form` is BOOTIMG_EMBEDDED or BOOTIMG_EXTERNAL, and changes
+ * nothing for a legacy image. `value` is the number of signature nodes, which are kept and not
  * checked. The call fails with TooLarge if the normal form is longer than `limit`. */
 uint32_t bootimg_normalise(const uint8_t *file, size_t file_size, uint32_t form, uint32_t limit,
                            uint32_t depth, uint8_t *buffer, size_t buffer_size,
@@ -298,10 +337,9 @@ uint32_t bootimg_normalise(const uint8_t *file, size_t file_size, uint32_t form,
 /* Writes the normal form of a file with changes. `changes` is a sum of BOOTIMG_CHANGE_*, or 0.
  * BOOTIMG_CHANGE_TIME sets the time of creation to `time`, in seconds since 1970.
  * BOOTIMG_CHANGE_HASHES recomputes the digests in the hash nodes of a FIT. Without
- * BOOTIMG_CHANGE_TIME, `time` has no effect. A legacy image has no hash nodes, and its checksums
- * are always computed. `form` and `value` are as for bootimg_normalise. The call fails with
- * TooLarge if the output is longer than `limit`, or, with BOOTIMG_CHANGE_HASHES, if the payloads
- * together are longer. */
+ * BOOTIMG_CHANGE_TIME, `time` is ignored. The checksums of a legacy image are always computed.
+ * `form` and `value` are as for bootimg_normalise. The call fails with TooLarge if the output is
+ * longer than `limit`, or, with BOOTIMG_CHANGE_HASHES, if the payloads together are longer. */
 uint32_t bootimg_update(const uint8_t *file, size_t file_size, uint32_t changes, uint32_t time,
                         uint32_t form, uint32_t limit, uint32_t depth, uint8_t *buffer,
                         size_t buffer_size, bootimg_result *answer);
@@ -316,7 +354,7 @@ uint32_t bootimg_update(const uint8_t *file, size_t file_size, uint32_t changes,
  *   BOOTIMG_NO_PART      The legacy image has no part with the given index.
  *   BOOTIMG_NO_IMAGE     No image has the given name.
  *   BOOTIMG_NO_CONFIG    No configuration has the given name, or no default is named.
- *   BOOTIMG_NO_KEY       The configuration does not have the key.
+ *   BOOTIMG_NO_KEY       The configuration lacks the key.
  *   BOOTIMG_BAD_LIST     The value of the key is not a list of names.
  *   BOOTIMG_MISSING      The list names an image that does not exist. `value` is the index of the
  *                        first such name, counted from 0.
@@ -364,7 +402,7 @@ uint32_t bootimg_parts(const uint8_t *file, size_t file_size, uint32_t limit, ui
                        bootimg_region *parts, size_t parts_count, bootimg_result *answer);
 
 /* Sets the fields of the blob of a FIT. They are unchanged unless the status is BOOTIMG_OK. The
- * call fails with BadMagic at 0 for a file that is not a FIT. So do the calls after it. */
+ * call fails with BadMagic at 0 for a file that is not a FIT. The calls after it do, too. */
 uint32_t bootimg_fit(const uint8_t *file, size_t file_size, uint32_t limit, uint32_t depth,
                      bootimg_fit_fields *fields, bootimg_result *answer);
 
@@ -384,27 +422,27 @@ uint32_t bootimg_configurations(const uint8_t *file, size_t file_size, uint32_t 
                                 bootimg_result *answer);
 
 /* Writes the indices of the images that the configuration with the given name lists under a key,
- * one of BOOTIMG_KERNEL to BOOTIMG_SCRIPT, in the order of the list. An index is that in the array
- * of bootimg_images. The name is not NUL-terminated. If nothing is listed, the status is
- * BOOTIMG_NOT_FOUND, and `reason` is one of BOOTIMG_NO_CONFIG to BOOTIMG_MISSING. */
+ * one of BOOTIMG_KERNEL to BOOTIMG_SCRIPT, in the order of the list. An index is a place in the
+ * array of bootimg_images, counted from 0. The name is not NUL-terminated. If nothing is listed,
+ * the status is BOOTIMG_NOT_FOUND, and `reason` is one of BOOTIMG_NO_CONFIG to BOOTIMG_MISSING. */
 uint32_t bootimg_listed(const uint8_t *file, size_t file_size, const uint8_t *name,
                         size_t name_size, uint32_t key, uint32_t limit, uint32_t depth,
                         size_t *images, size_t images_count, bootimg_result *answer);
 
-/* Writes the hash nodes of a FIT with the verdicts on them, image by image, in their order. Each
- * region of the file is read once for each algorithm that its hash nodes name. */
+/* Writes the hash nodes of a FIT with the verdicts on them, image by image, in their order. A
+ * region of the file is read once for every algorithm that its hash nodes name. */
 uint32_t bootimg_verdicts(const uint8_t *file, size_t file_size, uint32_t limit, uint32_t depth,
                           bootimg_hash *hashes, size_t hashes_count, bootimg_result *answer);
 
 /* Writes the concerns about a file of either kind, in the order of the lines of bootimg_check.
- * `kinds` is a sum of BOOTIMG_ALLOW_*, or 0: concerns of these kinds are left out. The call fails
- * as bootimg_check does. */
+ * `kinds` is a sum of BOOTIMG_ALLOW_* and BOOTIMG_SIGNED, or 0: concerns of these kinds are left
+ * out. The call fails as bootimg_check does. */
 uint32_t bootimg_concerns(const uint8_t *file, size_t file_size, uint32_t kinds, uint32_t limit,
                           uint32_t depth, bootimg_concern *concerns, size_t concerns_count,
                           bootimg_result *answer);
 
 /* The calls that look at a node of a FIT take its path: `/` for the root, and else a `/` before the
- * name of each node from a child of the root down to it, for example `/images/kernel-1`. The names
+ * name of every node from a child of the root down to it, for example `/images/kernel-1`. The names
  * are bytes of the file, and the whole names: no alias is followed. The path is not NUL-terminated.
  * If no node has the path, the status is BOOTIMG_NOT_FOUND and `reason` is BOOTIMG_NO_NODE. */
 
@@ -427,6 +465,31 @@ uint32_t bootimg_property_value(const uint8_t *file, size_t file_size, const uin
                                 size_t path_size, const uint8_t *name, size_t name_size,
                                 uint32_t limit, uint32_t depth, bootimg_result *answer);
 
+/* Writes a single value, as `bootimg get` prints it. `place` and `name` are the path of a node of a
+ * FIT and the name of one of its properties, both as bootimg_describe prints them. For a field of a
+ * legacy image `place` is its word, one of name, time, load, entry, os, arch, type and compression,
+ * and `name` is empty. Neither is NUL-terminated. `form` is one of:
+ *
+ *   BOOTIMG_VALUE_SHOWN    A line: the value as bootimg_describe or bootimg_list prints it.
+ *   BOOTIMG_VALUE_TEXT     A line for every text, without quotes. A field is as shown.
+ *   BOOTIMG_VALUE_NUMBER   A line: `0x`, and 8 or 16 hexadecimal digits of a property of 4 or 8
+ *                          bytes, or the digits of a field.
+ *   BOOTIMG_VALUE_RAW      The bytes and no newline: of a property or a field. Of the name, they
+ *                          end before its first zero.
+ *
+ * The status is BOOTIMG_WRONG_ARGUMENT if the words do not name one value. BOOTIMG_NOT_FOUND comes
+ * after the causes of reading. Its `reason` is one of:
+ *
+ *   BOOTIMG_WRONG_KIND    A field is named of a FIT, or a property of a legacy image.
+ *   BOOTIMG_NO_PROPERTY   No node has the path, or the node has no such property. No image has one
+ *                         of the four properties that hold or place its payload.
+ *   BOOTIMG_NO_TEXT       The value is not one or more texts.
+ *   BOOTIMG_NO_NUMBER     The value has another size, or the field is the name.
+ */
+uint32_t bootimg_get(const uint8_t *file, size_t file_size, const uint8_t *place, size_t place_size,
+                     const uint8_t *name, size_t name_size, uint32_t form, uint32_t limit,
+                     uint32_t depth, uint8_t *buffer, size_t buffer_size, bootimg_result *answer);
+
 /* Returns in `value` whether two files mean the same thing: 1 if they do, otherwise 0. */
 uint32_t bootimg_same_meaning(const uint8_t *one, size_t one_size, const uint8_t *other,
                               size_t other_size, uint32_t limit, uint32_t depth,
@@ -443,21 +506,22 @@ uint32_t bootimg_describe(const uint8_t *file, size_t file_size, uint32_t limit,
                           uint8_t *buffer, size_t buffer_size, bootimg_result *answer);
 
 /* Writes the page of a file, for a person: tables of what it is, of its images or parts with the
- * verdict on each hash node, of its configurations and signature nodes, and the lines of
- * bootimg_check. With `layout` 1 the page also has the regions of the file by their offsets, with 0
- * it does not. Its form may change with the version. The call fails with TooLarge if the payloads
+ * verdicts on hash nodes, of its configurations and signature nodes, and the lines of
+ * bootimg_check. With `layout` 1 the page also shows the regions of the file by their offsets, with
+ * 0 it does not. Its form may change with the version. The call fails with TooLarge if the payloads
  * together are longer than `limit`. */
 uint32_t bootimg_show(const uint8_t *file, size_t file_size, uint32_t layout, uint32_t limit,
                       uint32_t depth, uint8_t *buffer, size_t buffer_size, bootimg_result *answer);
 
-/* Writes the report on the checksums and digests of a file. `value` is 1 if each verdict in it is
+/* Writes the report on the checksums and digests of a file. `value` is 1 if all verdicts in it are
  * good, even if there is none, and otherwise 0. */
 uint32_t bootimg_verify(const uint8_t *file, size_t file_size, uint32_t limit, uint32_t depth,
                         uint8_t *buffer, size_t buffer_size, bootimg_result *answer);
 
-/* Writes a line for each concern about a file: each thing in it that is not protected. `kinds` is
- * a sum of BOOTIMG_ALLOW_*, or 0: lines of these kinds are left out. `value` is 1 if there is no
- * line, otherwise 0. The call fails with TooLarge if the payloads together are longer than
+/* Writes a line for every concern about a file: everything in it that is not protected. No
+ * signature is verified. `kinds` is a sum of BOOTIMG_ALLOW_* and BOOTIMG_SIGNED, or 0: lines of
+ * these kinds are left out. `value` is 1 if there is no line, otherwise 0. The call fails with
+ * TooLarge if the payloads together, or the paths that signatures must cover, are longer than
  * `limit`. */
 uint32_t bootimg_check(const uint8_t *file, size_t file_size, uint32_t kinds, uint32_t limit,
                        uint32_t depth, uint8_t *buffer, size_t buffer_size, bootimg_result *answer);
@@ -471,7 +535,7 @@ uint32_t bootimg_compare(const uint8_t *one, size_t one_size, const uint8_t *oth
                          size_t buffer_size, bootimg_result *answer);
 
 /* The calls `.._json` write what the call without `_json` writes, as one JSON text (RFC 8259) in
- * ASCII and a newline. Their arguments, `value` and errors are those of that call. There is always
+ * ASCII and a newline. Arguments, `value` and errors are the same as for that call. There is always
  * an output, even if there are no concerns. */
 uint32_t bootimg_list_json(const uint8_t *file, size_t file_size, uint32_t limit, uint32_t depth,
                            uint8_t *buffer, size_t buffer_size, bootimg_result *answer);
@@ -500,27 +564,27 @@ uint32_t bootimg_convert(const uint8_t *file, size_t file_size, uint32_t limit, 
                          uint8_t *buffer, size_t buffer_size, bootimg_result *answer);
 
 /* Writes the legacy image with these fields and parts. The name and the parts are regions of
- * `input`, which may be anywhere in it. So what bootimg_legacy and bootimg_parts return of a file
+ * `input`, which may be anywhere in it. What bootimg_legacy and bootimg_parts return of a file
  * builds its normal form, with the file as the input. If a region is not inside the input, the
  * status is BOOTIMG_WRONG_ARGUMENT. The call fails, with the offset in the image, with BadField at
- * 32 if the name has more than 32 bytes or a zero byte; with BadField at 30 if there is not exactly
- * one part and the type is neither multi nor script; with TooLarge if the image is longer than
- * `limit`; and with EmptyPart at the size of the first empty part of a multi-file image or script.
- */
+ * 32 if the name is longer than 32 bytes or contains a zero byte; with BadField at 30 if there is
+ * not exactly one part and the type is neither multi nor script; with TooLarge if the image is
+ * longer than `limit`; and with EmptyPart at the size of the first empty part of a multi-file image
+ * or script. */
 uint32_t bootimg_build_legacy(const uint8_t *input, size_t input_size,
                               const bootimg_legacy_fields *fields, const bootimg_region *parts,
                               size_t parts_count, uint32_t limit, uint32_t depth, uint8_t *buffer,
                               size_t buffer_size, bootimg_result *answer);
 
-/* Writes a FIT with these images, each with the SHA-256 of its payload, and one configuration,
- * `conf-1`, which lists the images by their types. The description is that of the tree, of each
- * image and of the configuration. `time` is the time of creation, in seconds since 1970, and `form`
- * BOOTIMG_EMBEDDED or BOOTIMG_EXTERNAL. If a region is not inside the input, or `addresses` is not
- * such a sum, the status is BOOTIMG_WRONG_ARGUMENT. The call fails with TooLarge if there are more
- * images than `limit`; with BadField at 0 if the description has a zero byte; for each image in
- * order, at its index: with BadField if its name is empty or has a zero byte or a `/`, or its type
- * is multi, with NoCodeName if one of its codes has no name, and with DuplicateNode if an earlier
- * image has its name; and with TooLarge if the FIT is longer than `limit`. */
+/* Writes a FIT with these images, the SHA-256 of their payloads, and one configuration, `conf-1`,
+ * which lists the images by their types. The tree, the images and the configuration get the
+ * description. `time` is the time of creation, in seconds since 1970, and `form` BOOTIMG_EMBEDDED
+ * or BOOTIMG_EXTERNAL. If a region is not inside the input, or `addresses` is not such a sum, the
+ * status is BOOTIMG_WRONG_ARGUMENT. The call fails with TooLarge if there are more images than
+ * `limit`; with BadField at 0 if the description contains a zero byte; for the images in order, at
+ * their index: with BadField if the name is empty or contains a zero byte or a `/`, or the type is
+ * multi, with NoCodeName if a code has no name, and with DuplicateNode if an earlier image has its
+ * name; and with TooLarge if the FIT is longer than `limit`. */
 uint32_t bootimg_build_fit(const uint8_t *input, size_t input_size, const uint8_t *description,
                            size_t description_size, uint32_t time,
                            const bootimg_build_image *images, size_t images_count, uint32_t form,
@@ -533,7 +597,7 @@ uint32_t bootimg_cause_name(uint32_t number, uint8_t *buffer, size_t buffer_size
                             bootimg_result *answer);
 
 /* Writes what the cause with the given number means, and what a user can do, as `bootimg explain`
- * does, but without a newline. The status is that of bootimg_cause_name. */
+ * does, but without a newline. The status is as for bootimg_cause_name. */
 uint32_t bootimg_explain(uint32_t number, uint8_t *buffer, size_t buffer_size,
                          bootimg_result *answer);
 

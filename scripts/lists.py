@@ -5,18 +5,21 @@ lists.py          writes each list again
 lists.py --check  prints how each list differs from that of the sources, and fails if one does
 
 The commands and their options are those of the table in crates/bootimg/src/command_line/table.rt, in its order, and `help`. Values that
-have names are the strings of the functions in VALUES. A list stands in its file between a line with `lists.py: begin NAME` and one with
-`lists.py: end`, where NAME is a function of this module.
+have names are the strings of the functions in VALUES. Completions also offer MORE_VALUES, and the names in an image that are in NAMES. A
+list stands in its file between a line with `lists.py: begin NAME` and one with `lists.py: end`, where NAME is a function of this module.
 """
 
 import difflib
 import re
 import sys
+import textwrap
 from pathlib import Path
 
 ROOT = Path(__file__).resolve().parents[1]
 FILES = ["contrib/bootimg.bash", "contrib/_bootimg", "contrib/bootimg.fish", "man/bootimg.1", "README.md"]
 TABLE = "crates/bootimg/src/command_line/table.rt"
+# The most columns of a line of words in the manual page, after its macro.
+WIDTH = 76
 
 # The files and functions whose strings are the values of an option or of an argument.
 VALUES = {
@@ -26,8 +29,23 @@ VALUES = {
     "compression": ["bi_legacy/src/codes.rt: compression_name"],
     "key": ["bi_fit/src/key.rt: name"],
     "allow": ["bi_report/src/check.rt: word"],
+    "as": ["bootimg/src/command_line/get.rt: parse_form"],
     "hash": ["bi_hash/src/algo.rt: name", "bootimg/src/command_line/hashes.rt: parse_hashes"],
-    "cause": ["bi_base/src/fault.rt: name"],
+    "cause": ["bi_base/src/fault.rt: name", "bi_report/src/check.rt: word"],
+}
+
+# The tables whose names, before `invalid`, are more values of an option.
+MORE_VALUES = {name: f"const {name.upper()}_NAMES: " for name in ("os", "arch", "type")}
+MORE_VALUES_FILE = "crates/bi_show/src/show/codes.rt"
+
+# What the completions find for an option or an argument with this name and this name of its value: a part, image or configuration of the
+# image on the line, a path or a property of it, or the name of a --config on the line.
+NAMES = {
+    ("part", "N"): "part",
+    ("image", "NAME"): "image",
+    ("config", "NAME"): "config",
+    ("where", "WHERE"): "where",
+    ("default", "NAME"): "default",
 }
 
 
@@ -41,13 +59,18 @@ class Option:
 
     def __init__(self, name, value_name, help, form, values=()):
         self.name, self.values = name, list(values)
+        # The values that completions offer, and what they find.
+        self.offered = self.values + more_values(name, help, self.values)
+        self.names = NAMES.get((name, value_name))
         self.is_argument = "Positional" in form
-        self.is_repeated = form in ("Positionals", "Repeated")
-        self.is_file = form in ("Positional", "RequiredPositional") and not self.values
+        self.is_repeated = form in ("Positionals", "RequiredPositionals", "Repeated")
+        self.is_part = self.is_argument and "@FILE" in help
+        self.is_file = self.is_argument and not (self.values or self.names or self.is_part)
         self.is_output = "Short" in form
         self.is_list = "," in value_name
         self.flags = [f"-{short}" for short in re.findall(r"Short\('(.)'\)", form)] + [f"--{name}"]
-        self.written = {"Positional": f"[{value_name}]", "Positionals": f"[{value_name}]..."}.get(form, value_name)
+        written = {"Positional": f"[{value_name}]", "Positionals": f"[{value_name}]...", "RequiredPositionals": f"{value_name}..."}
+        self.written = written.get(form, value_name)
         # The name of the value, of a form such as `KIND[,KIND]..` the first words.
         self.value = lower(value_name.split("[")[0])
         # The first words of the help, without a condition.
@@ -84,6 +107,17 @@ def values_of(name):
         yield from strings(body[2])
 
 
+def more_values(name, help, values):
+    """The values of an option that have no place in the manual page: names of U-Boot that no listing prints, and powers of two."""
+    powers = re.search(r"a power of two from (\d+) to (\d+)", help)
+    if powers:
+        return [str(1 << bit) for bit in range(64) if int(powers[1]) <= 1 << bit <= int(powers[2])]
+    if not values or name not in MORE_VALUES:
+        return []
+    table = read(MORE_VALUES_FILE).split(MORE_VALUES[name])[1].split('"invalid"')[0]
+    return [word for word in strings(table) if word not in values]
+
+
 def commands():
     """The commands of the program, each with its options."""
     text = re.sub(r"//.*", "", read(TABLE))
@@ -114,16 +148,30 @@ def bash(all):
     yield ")"
     yield "declare -gA _bootimg_values=("
     for option in distinct(all).values():
-        if option.values and not option.is_argument:
-            yield f'    [--{option.name}]="{"," * option.is_list}{" ".join(option.values)}"'
+        if option.offered and not option.is_argument:
+            yield f'    [--{option.name}]="{"," * option.is_list}{" ".join(option.offered)}"'
     for command in all:
         yield from [f'    [{command.name}]="{" ".join(argument.values)}"' for argument in command.arguments if argument.values]
+    yield ")"
+    yield "declare -gA _bootimg_names=("
+    for command in all:
+        for option in command.by_variable.values():
+            if option.names:
+                yield f"    [{command.name}{'' if option.is_argument else f' --{option.name}'}]={option.names}"
     yield ")"
     names = [name for command in all if any(argument.is_file for argument in command.arguments) for name in command.names]
     yield f'_bootimg_files=" {" ".join(names)} "'
 
 
+def valued(all):
+    """The options that take a value, of commands that read an image."""
+    reading = [command for command in all if any(argument.is_file for argument in command.arguments)]
+    return [flag for option in distinct(reading).values() if option.value and not option.is_argument for flag in option.flags]
+
+
 def zsh(all):
+    yield f"typeset -ga _bootimg_valued=({' '.join(valued(all))})"
+    yield ""
     yield "_bootimg_commands() {"
     yield "    local -a commands=("
     yield from [f"        '{command.name}:{command.about}'" for command in all]
@@ -144,11 +192,13 @@ def zsh(all):
 
 def specification(option):
     """What _arguments of zsh takes for an option or an argument."""
-    words = " ".join(option.values)
+    words = " ".join(option.offered)
     action = "_files" if option.is_file or option.is_output else f"({words})" if words else " "
+    if option.names:
+        action = f" _bootimg_names {option.names}"
     if option.is_list and words:
         action = f" _values -s , {option.value} {words}"
-    if option.is_argument and option.is_repeated:
+    if option.is_part:
         action = "_bootimg_part"
     first, name = "*" * option.is_repeated, option.value.replace(":", "\\:")
     value = f":{name}:{action}" if name else ""
@@ -160,19 +210,24 @@ def specification(option):
 
 
 def fish(all):
+    yield f"set -g __bootimg_valued {' '.join(valued(all))}"
     yield from [f"complete $first -a {command.name} -d '{command.about}'" for command in all]
     for variable, option in distinct(all).items():
-        names = " ".join(name for command in all if variable in command.by_variable for name in command.names)
-        words = " ".join(option.values)
+        having = [command for command in all if variable in command.by_variable]
+        names = " ".join(name for command in having for name in command.names)
+        if option.is_file and any(argument.names for command in having for argument in command.arguments):
+            names += "; and __bootimg_at_first"
+        words = f"(__bootimg_names {option.names})" if option.names else " ".join(option.offered)
         if option.is_list:
             words = f'(__fish_complete_list , "printf %s\\n {words}")' if words else ""
-        elif option.is_argument and option.is_repeated:
+        elif option.is_part:
             words = "(__bootimg_part)"
         flags = "-F" if option.is_file else "-s o -l output -r -F" if option.is_output else ""
         if not flags and not option.is_argument:
             flags = f"-l {option.name}" + " -x" * bool(option.value)
         flags += f" -d '{option.summary}'" * (not option.is_argument) + f" -a '{words}'" * bool(words)
-        yield f"complete -c bootimg -n '__bootimg_is {names}' {flags.strip()}"
+        if flags:
+            yield f"complete -c bootimg -n '__bootimg_is {names}' {flags.strip()}"
 
 
 def mdoc(word):
@@ -200,7 +255,9 @@ def synopsis(all):
 def values(all):
     for option in distinct(all).values():
         if option.values and not option.is_argument:
-            yield from [f".It Ar {option.value}", f".Cm {' , '.join(option.values)}"]
+            yield f".It Ar {option.value}"
+            words = textwrap.wrap(" , ".join(option.values), WIDTH, break_on_hyphens=False)
+            yield from [f".Cm {line}" for line in words]
 
 
 def readme(all):

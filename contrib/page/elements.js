@@ -57,6 +57,34 @@ function tableOf(titles, rows) {
   return element('div', { class: 'scroll' }, table, more > 0 ? element('p', { class: 'quiet' }, `${more} more rows are not shown.`) : '');
 }
 
+/** A text whose lines are elements if `lineOf` returns one for the line and its number, and else text. */
+function textOfLines(text, lineOf) {
+  const parts = [];
+  let plain = '';
+  for (const [at, line] of text.split(/(?<=\n)/).entries()) {
+    const made = lineOf(line, at);
+    if (made === undefined) {
+      plain += line;
+    } else {
+      parts.push(plain, made);
+      plain = '';
+    }
+  }
+  return [...parts, plain];
+}
+
+/** A link to the element with this id, which may be in one that is closed. */
+function linkTo(id, text) {
+  const link = element('a', { href: `#${id}` }, text);
+  link.addEventListener('click', () => {
+    const details = byId(id).closest('details');
+    if (details) {
+      details.open = true;
+    }
+  });
+  return link;
+}
+
 /** A link that saves bytes, which `bytes` returns when it is followed, under a name without characters that a system treats apart. */
 function saveLink(text, name, bytes) {
   const link = element('a', { href: '#', download: name.replace(/[^A-Za-z0-9._+-]/g, '_').replace(/^\./, '_') }, text);

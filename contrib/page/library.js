@@ -122,6 +122,14 @@ class Library {
     return this.write(name, this.place, BigInt(this.file.length), ...numbers, LIMIT, DEPTH);
   }
 
+  /** What differs between what the file and another one mean. */
+  compare(other) {
+    const place = this.put(other);
+    const answer = this.write('compare', this.place, BigInt(this.file.length), place, BigInt(other.length), LIMIT, DEPTH);
+    this.exports.page_free(place);
+    return answer;
+  }
+
   /** Where a part of a legacy image is: `value` and `size` of the answer. */
   findPart(index) {
     return this.ask('extract_part', index);

@@ -6,7 +6,7 @@
 const REPORTS = [
   { call: 'show', shows: 'what the image is', numbers: [0] },
   { call: 'verify', shows: 'the verdict on each checksum and each digest', numbers: [] },
-  { call: 'check', shows: 'what in the image is not protected', numbers: [0] },
+  { call: 'check', shows: 'what in the image is not protected, and what its signatures do not cover', numbers: [0] },
   { call: 'list', shows: 'what the image holds, and where', numbers: [] },
   { call: 'describe', shows: 'what the image means, without the layout of the file', numbers: [] },
 ];
@@ -17,7 +17,7 @@ const MOST_TEXT = 0x40000;
 const MOST_REGIONS = 200;
 const LAST_LINE = 256;
 
-const state = { module: null, turn: 0 };
+const state = { module: null, turn: 0, shown: null };
 
 // The sections of an image that is accepted.
 
@@ -47,11 +47,23 @@ function countLines(output) {
 
 function verifyInWords({ output, problem }) {
   const counts = problem ? [] : countsOf(linesOf(textOf(output.subarray(-LAST_LINE))).at(-1));
-  return problem || counts.map(([verdict, count]) => `${count} ${verdict}`).join(', ') || 'no digests';
+  return problem || (counts.length > 0 ? verdictCells(counts.map(([verdict, count]) => [count, verdict])) : 'no digests');
 }
 
 function checkInWords({ output, problem }) {
-  return problem || (output.length === 0 ? 'no concerns' : inWords(countLines(output), 'concern'));
+  const count = countLines(output);
+  return problem || (count === 0 ? graded('good', 'no concerns') : graded('open', inWords(count, 'concern')));
+}
+
+/** A text in the colour of a grade. What it says does not depend on the colour. */
+function graded(grade, text) {
+  return element('span', { class: grade }, text);
+}
+
+/** Lists of words, each in the colour of the verdict that is its last word. */
+function verdictCells(lists) {
+  const cells = lists.map((words) => graded(gradeOf(words.at(-1)), words.join(' ')));
+  return element('span', {}, ...cells.flatMap((each, at) => (at === 0 ? [each] : [', ', each])));
 }
 
 function summarySection(name, library, lines, reports) {
@@ -99,10 +111,17 @@ function partsSection(library, parts) {
 
 function imagesSection(library, images, reports) {
   const types = typesOf(linesOf(reports.get('describe').text));
+  const addresses = addressesOf(linesOf(reports.get('describe').text));
   const verdicts = verdictsOf(linesOf(reports.get('verify').text));
-  const listed = (found, { name }) => (found.get(name) ?? []).join(', ');
-  const rows = images.map((image) => [image.name, listed(types, image), listed(verdicts, image), ...placeCells(library, image)]);
-  return section('Images', tableOf(['Image', 'Type', 'Digests', '#Size', '#Offset', 'Payload'], rows));
+  const notes = notesOf(linesOf(reports.get('check')?.text ?? ''));
+  const rows = images.map((image) => [
+    image.name,
+    (types.get(image.name) ?? []).join(', '),
+    ...ADDRESSES.map((property) => addresses.get(`${property} ${image.name}`) ?? ''),
+    verdictCells([...(verdicts.get(image.name) ?? []), ...(notes.get(image.name) ?? [])]),
+    ...placeCells(library, image),
+  ]);
+  return section('Images', tableOf(['Image', 'Type', 'Load', 'Entry', 'Digests', '#Size', '#Offset', 'Payload'], rows));
 }
 
 function configurationsSection(configurations, preferred) {
@@ -111,14 +130,48 @@ function configurationsSection(configurations, preferred) {
   return section('Configurations', tableOf(['Configuration', 'Lists'], rows));
 }
 
-function reportSection({ call, shows }, name, { text, output, problem }) {
+/** For each line of the report of `check` the place that it is about: the name of a report and the number of a line, if it is shown. */
+function subjectsOf(reports) {
+  const lines = new Map([...reports].map(([call, { text }]) => [call, text.split('\n')]));
+  const find = ([call, words]) => [call, lines.get(call)?.findIndex((line) => `${line} `.startsWith(`${words} `)) ?? -1];
+  return linesOf(reports.get('check')?.text ?? '').map((concern) => placesOf(concern).map(find).find(([, at]) => at >= 0));
+}
+
+/** The lines of a report: verdicts have their colours, concerns are links, and what these lead to has an id. */
+function reportLines(call, text, subjects) {
+  const ids = new Set(subjects.flatMap((subject) => (subject?.[0] === call ? [subject[1]] : [])));
+  return textOfLines(text, (line, at) => {
+    if (call === 'check') {
+      return subjects[at] ? linkTo(subjects[at].join('-'), line) : undefined;
+    }
+    const [, , , verdict, ...rest] = line.split(' ');
+    const grade = call === 'verify' && rest.length === 1 ? { class: gradeOf(verdict) } : {};
+    const id = ids.has(at) ? { id: `${call}-${at}` } : {};
+    return call === 'verify' || ids.has(at) ? element('span', { ...grade, ...id }, line) : undefined;
+  });
+}
+
+function reportSection({ call, shows }, name, { text, output, problem }, subjects) {
   const isOpen = call !== 'describe';
   const rest = output.length <= MOST_TEXT ? '' : element('p', { class: 'quiet' },
     `The first ${inWords(text.length, 'byte')} of ${output.length}. `, saveLink('Save all', `${name}.${call}.txt`, () => output));
   return element('details', isOpen ? { open: '' } : {},
     element('summary', {}, element('b', {}, call), ` ${shows}`),
-    element('pre', { id: call, tabindex: 0 }, problem || text || '(nothing)'),
+    element('pre', { id: call, tabindex: 0 }, ...(problem || text === '' ? [problem || '(nothing)'] : reportLines(call, text, subjects))),
     rest);
+}
+
+/** What differs between the image that is shown and another one. */
+function comparisonSection(name, other, { text, output, problem, value, file }) {
+  const lines = textOfLines(text, (line) => element('span', { class: line.startsWith('+') ? 'good' : 'bad' }, line));
+  const verdict = value === 1 ? graded('good', 'Both mean the same thing.')
+    : `${inWords(countLines(output), 'line')} differ: those after - are of ${name} only, those after + of ${other} only.`;
+  const rest = text.length < output.length ? saveLink('Save all', `${name}.compare.txt`, () => output) : '';
+  const said = problem ? `${file === 1 ? name : other}: ${problem}` : verdict;
+  const made = section(`Compared with ${other}`, element('p', {}, said, ' ', rest),
+    text === '' ? '' : element('pre', { id: 'compare', tabindex: 0 }, ...lines));
+  made.id = 'comparison';
+  return made;
 }
 
 /** Shows an image that is accepted. If the listing is cut, the end of the last payload is not known. */
@@ -134,7 +187,8 @@ function showAccepted(name, library, reports) {
     show(partsSection(library, contents));
   }
   const shown = REPORTS.filter(({ call }) => reports.has(call));
-  show(section('Reports', ...shown.map((report) => reportSection(report, name, reports.get(report.call)))));
+  const subjects = subjectsOf(reports);
+  show(section('Reports', ...shown.map((report) => reportSection(report, name, reports.get(report.call), subjects))));
 }
 
 /** Shows that an image is refused: the line that the program prints, what it means, and the place in the file. */
@@ -178,10 +232,10 @@ function problemOf(library, answer) {
   return answer.status in problems ? problems[answer.status]() : `status ${answer.status}`;
 }
 
-/** A report: its output, the beginning of it as text, and why there is none if there is none. */
-function reportOf(library, { call, numbers }) {
+/** A report: its output, the beginning of it as text, and why there is none if there is none. `ask` returns the answer of the library. */
+function reportOf(library, ask) {
   try {
-    const answer = library.report(call, ...numbers);
+    const answer = ask();
     return { ...answer, text: beginningOf(answer.output), problem: problemOf(library, answer) };
   } catch (error) {
     return { text: '', output: new Uint8Array(0), problem: messageOf(error) };
@@ -204,7 +258,7 @@ async function examine(name, library, turn) {
     if (turn !== state.turn) {
       return;
     }
-    const answer = reportOf(library, report);
+    const answer = reportOf(library, () => library.report(report.call, ...report.numbers));
     if (report.call === 'list' && answer.problem) {
       say(`${name}: ${answer.status === REFUSED ? inWords(length, 'byte') : answer.problem}`);
       if (answer.status === REFUSED) {
@@ -216,13 +270,40 @@ async function examine(name, library, turn) {
   }
   say('');
   showAccepted(name, library, reports);
+  state.shown = { name, library };
+  byId('other').disabled = false;
+}
+
+/** Compares the image that is shown with another one. */
+async function compareWith(blob, other) {
+  const { turn, shown } = state;
+  if (shown === null) {
+    return;
+  }
+  byId('comparison')?.remove();
+  say(`${other}: compare ..`);
+  await pause();
+  try {
+    const bytes = new Uint8Array(blob.size > LIMIT ? 0 : await blob.arrayBuffer());
+    const { name, library } = shown;
+    const answer = blob.size > LIMIT ? { text: '', output: bytes, problem: `TooLarge at ${LIMIT}` }
+      : reportOf(library, () => library.compare(bytes));
+    if (turn === state.turn) {
+      say('');
+      byId('result').firstElementChild.after(comparisonSection(name, other, answer));
+    }
+  } catch (error) {
+    say(`${other}: ${messageOf(error)}`);
+  }
 }
 
 /** Reads a file and shows what it holds. */
 async function openFile(blob, name) {
   state.turn += 1;
   const { turn } = state;
+  state.shown = null;
   byId('result').replaceChildren();
+  byId('other').disabled = true;
   say(`${name}: ${inWords(blob.size, 'byte')}`);
   if (blob.size > LIMIT) {
     showRefused(`TooLarge at ${LIMIT}`, '', LIMIT, 0);
@@ -251,18 +332,22 @@ function openExample() {
   openFile(new Blob([bytesOf(example)]), example.dataset.name);
 }
 
-function takeFile(file) {
+/** Opens a file, and compares it with the second one if there is one. */
+async function takeFiles([file, other]) {
   if (file) {
-    openFile(file, shownName(file.name));
+    await openFile(file, shownName(file.name));
+  }
+  if (other) {
+    compareWith(other, shownName(other.name));
   }
 }
 
-function listenToInput(input) {
+function listenToInput(input, take) {
   // Without this the same file could not be chosen again.
   input.addEventListener('click', () => {
     input.value = '';
   });
-  input.addEventListener('change', () => takeFile(input.files[0]));
+  input.addEventListener('change', () => take(input.files));
 }
 
 function listenToDrops(area) {
@@ -274,7 +359,7 @@ function listenToDrops(area) {
   document.addEventListener('drop', (event) => {
     event.preventDefault();
     area.classList.remove('over');
-    takeFile(event.dataTransfer.files[0]);
+    takeFiles(event.dataTransfer.files);
   });
 }
 
@@ -286,7 +371,8 @@ function start() {
     say(`This browser does not run the library: ${error.message}`);
     return;
   }
-  listenToInput(byId('file'));
+  listenToInput(byId('file'), takeFiles);
+  listenToInput(byId('other'), ([other]) => other && compareWith(other, shownName(other.name)));
   listenToDrops(byId('drop'));
   byId('show-example').addEventListener('click', openExample);
   byId('file').disabled = false;

@@ -2,7 +2,7 @@
 # Copyright (c) 2026 the bootimg authors
 """Boot images of U-Boot: legacy images and FITs (flattened image trees).
 
-Each function takes the bytes of a file and returns bytes or text. It calls the shared library of
+The functions take the bytes of a file and return bytes or text. They call the shared library of
 bootimg, which is proved: two accepted images of the same kind have the same normal form if and only
 if they mean the same thing. This module itself is tested and not proved. Functions may be called
 from several threads.
@@ -14,16 +14,19 @@ A file is `bytes` or any other object with a contiguous buffer: a `bytearray`, a
 made: 64 to LIMIT. `depth` is the greatest depth of a FIT, including the root: 1 to DEPTH. A call
 raises Refused if a file is refused: with TooLarge for a file that is longer than `limit`, or else
 with the cause of the first check of its format that fails. It raises WrongArgument if a number is
-out of its range or a key or kind is unknown, NotFound if there is nothing to extract, and
+out of its range or a name is unknown, NotFound if there is nothing to extract, and
 OutOfMemory if an allocation fails.
 
 `python3 -m bootimg COMMAND ..` writes what `bootimg COMMAND ..` writes, and ends with the same
-status. It has no `-o`, no `--escaped` and no `--offset`, and its message about wrong arguments is
-different. It also takes names that are not UTF-8. `python3 -m bootimg --help` lists its commands.
+status. It lacks `-o`, `--escaped`, `--offset`, `--align` and `--all`, and its message about wrong
+arguments is different. It also takes names that are not UTF-8. `python3 -m bootimg --help` lists
+its commands.
 
 The module loads the library that the environment variable BOOTIMG_LIBRARY names, if it is set, or
 else libbootimg.so next to this file, if it is there, or else libbootimg.so.0 of the system.
 """
+
+from __future__ import annotations
 
 import argparse
 import contextlib
@@ -33,14 +36,16 @@ import mmap
 import os
 import re
 import sys
-from typing import Any, Iterable, Iterator, NamedTuple, TypeVar
+from typing import Any, Iterable, Iterator, NamedTuple, TypeVar, overload
 
-__version__ = "0.3.0"
+__version__ = "0.4.0"
 __all__ = [
     "Buffer",
     "BuildImage",
     "BootimgError",
+    "CODES",
     "CONCERNS",
+    "Code",
     "Comparison",
     "Concern",
     "Configuration",
@@ -60,7 +65,9 @@ __all__ = [
     "Refused",
     "Report",
     "Reservation",
+    "VALUE_FORMS",
     "VERDICTS",
+    "Value",
     "Verification",
     "WrongArgument",
     "build_fit",
@@ -68,6 +75,8 @@ __all__ = [
     "cause_name",
     "check",
     "check_json",
+    "code_name",
+    "code_number",
     "compare",
     "compare_json",
     "convert",
@@ -77,6 +86,7 @@ __all__ = [
     "extract_config",
     "extract_image",
     "extract_part",
+    "get",
     "kind",
     "listing",
     "listing_json",
@@ -97,7 +107,23 @@ Buffer = bytes | bytearray | memoryview | mmap.mmap
 
 LIMIT = 0x7FFFFFFF
 DEPTH = 64
-CONCERNS = ("bad-hash", "unhashed", "weak-hash", "bad-list", "missing", "bad-default", "trailing")
+CONCERNS = (
+    "bad-hash",
+    "unhashed",
+    "weak-hash",
+    "bad-list",
+    "missing",
+    "bad-default",
+    "trailing",
+    "skipped-hash",
+    "unsigned",
+    "no-nodes",
+    "no-images",
+    "uncovered",
+    "foreign",
+    "strings",
+    "unit-address",
+)
 VERDICTS = ("good", "bad", "unknown-algorithm", "no-payload", "malformed")
 KEYS = ("kernel", "fdt", "ramdisk", "firmware", "loadables", "script")
 REASONS = (
@@ -112,10 +138,14 @@ REASONS = (
     "no payload",
     "no such node",
     "no such property",
+    "no text",
+    "no number",
 )
+VALUE_FORMS = ("shown", "text", "number", "raw")
 
 _OK, _REFUSED, _OUT_OF_MEMORY, _NO_ROOM, _WRONG_ARGUMENT, _NOT_FOUND = range(6)
 _MISSING = 7
+_SIGNED = 32768
 
 
 class BootimgError(Exception):
@@ -144,12 +174,12 @@ class OutOfMemory(BootimgError, MemoryError):
 
 
 class WrongArgument(BootimgError, ValueError):
-    """A number is out of the range of its argument, or a key or a kind is unknown."""
+    """A number is out of the range of its argument, or a name is unknown."""
 
 
 class NotFound(BootimgError, LookupError):
-    """There is nothing to extract. `reason` is one of REASONS. `index` is None, or for "missing
-    image" the index of the first name that no image has, counted from 0."""
+    """What a call looks for is not there. `reason` is one of REASONS. `index` is None, or for
+    "missing image" the index of the first name that no image has, counted from 0."""
 
     def __init__(self, reason: str, index: int | None) -> None:
         super().__init__(reason if index is None else f"{reason} {index}")
@@ -158,7 +188,7 @@ class NotFound(BootimgError, LookupError):
 
 
 class Report(NamedTuple):
-    """The report on the checksums and digests of a file, and whether each verdict in it is good,
+    """The report on the checksums and digests of a file, and whether all verdicts in it are good,
     even if there is none."""
 
     text: str
@@ -264,6 +294,7 @@ _CALLS = {
     "children": _FILE * 2 + _NUMBER * 2 + _BUFFER,
     "properties": _FILE * 2 + _NUMBER * 2 + _BUFFER,
     "property_value": _FILE * 3 + _NUMBER * 2,
+    "get": _FILE * 3 + _NUMBER * 3 + _BUFFER,
     "verify": _FILE + _NUMBER * 2 + _BUFFER,
     "verify_json": _FILE + _NUMBER * 2 + _BUFFER,
     "check": _FILE + _NUMBER * 3 + _BUFFER,
@@ -304,7 +335,7 @@ def _number(number: int) -> int:
 def _index_of(name: str, names: tuple[str, ...]) -> int:
     """Returns the number of a name that C passes as a number."""
     if name not in names:
-        raise WrongArgument("wrong argument")
+        raise WrongArgument(f"wrong argument: {name!r}")
     return names.index(name)
 
 
@@ -537,8 +568,8 @@ def _text(name: str, files: tuple[Buffer, ...], *numbers: int) -> tuple[str, int
 
 
 def listing(file: Buffer, limit: int = LIMIT, depth: int = DEPTH) -> str:
-    """Returns the listing of a file: what the image holds, and the size and offset of each part or
-    payload."""
+    """Returns the listing of a file: what the image holds, and the sizes and offsets of parts or
+    payloads."""
     return _text("list", (file,), _number(limit), _number(depth))[0]
 
 
@@ -560,14 +591,30 @@ def describe_json(file: Buffer, limit: int = LIMIT, depth: int = DEPTH) -> str:
     return _text("describe_json", (file,), _number(limit), _number(depth))[0]
 
 
+def get(
+    file: Buffer,
+    place: bytes | str,
+    name: bytes | str = "",
+    form: str = "shown",
+    limit: int = LIMIT,
+    depth: int = DEPTH,
+) -> bytes:
+    """Returns a single value, as the command `get` prints it: the property with a name of the node
+    at a path, both as `describe` prints them, or, without `name`, a field of a legacy image. `form`
+    is one of VALUE_FORMS. Raises WrongArgument if the words do not name one value, and NotFound if
+    it is not there, or not in the form."""
+    files = (file, _name_of(place), _name_of(name))
+    number = _index_of(form, VALUE_FORMS)
+    return _fill("get", 256, files, number, _number(limit), _number(depth))[0]
+
+
 def show(
     file: Buffer, layout: bool = False, limit: int = LIMIT, depth: int = DEPTH
 ) -> str:
     """Returns the page of a file, for a person: tables of what it is, of its images or parts, with
-    the verdict on each hash node, of its configurations and signature nodes, and the lines of
-    `check`. With `layout`, it has the regions of the file by their offsets. Its form may change
-    with the version. Raises Refused with TooLarge if the payloads together are longer than
-    `limit`."""
+    the verdicts on hash nodes, of its configurations, of its signature nodes with what they cover,
+    and the lines of `check`. With `layout`, it shows the regions of the file by their offsets. Its
+    form may change with the version. Raises Refused with TooLarge as `check` does."""
     return _text("show", (file,), int(layout), _number(limit), _number(depth))[0]
 
 
@@ -584,25 +631,40 @@ def verify_json(file: Buffer, limit: int = LIMIT, depth: int = DEPTH) -> Report:
 
 
 def check(
-    file: Buffer, allow: Iterable[str] = (), limit: int = LIMIT, depth: int = DEPTH
+    file: Buffer,
+    allow: Iterable[str] = (),
+    limit: int = LIMIT,
+    depth: int = DEPTH,
+    *,
+    signed: bool = False,
 ) -> str:
-    """Returns a line for each concern about a file: each thing in it that is not protected. The
+    """Returns a line for every concern about a file: everything in it that is not protected. The
     text is empty if there is no concern. Lines of the kinds in `allow`, of CONCERNS, are left out.
-    Raises Refused with TooLarge if the payloads together are longer than `limit`."""
-    return _text("check", (file,), _kinds_of(allow), _number(limit), _number(depth))[0]
+    With `signed`, configurations without a signature get a line. No signature is verified. Raises
+    Refused with TooLarge if the payloads together, or the paths that signatures must cover, are
+    longer than `limit`."""
+    number = _policy_number(allow, signed)
+    return _text("check", (file,), number, _number(limit), _number(depth))[0]
 
 
 def check_json(
-    file: Buffer, allow: Iterable[str] = (), limit: int = LIMIT, depth: int = DEPTH
+    file: Buffer,
+    allow: Iterable[str] = (),
+    limit: int = LIMIT,
+    depth: int = DEPTH,
+    *,
+    signed: bool = False,
 ) -> str:
     """Returns what `check` says as one JSON text in ASCII and a newline, even if there is no
     concern."""
-    return _text("check_json", (file,), _kinds_of(allow), _number(limit), _number(depth))[0]
+    number = _policy_number(allow, signed)
+    return _text("check_json", (file,), number, _number(limit), _number(depth))[0]
 
 
-def _kinds_of(allow: Iterable[str]) -> int:
-    """Returns the number of a choice of kinds of concerns."""
-    return sum(1 << _index_of(kind, CONCERNS) for kind in set(allow))
+def _policy_number(allow: Iterable[str], signed: bool) -> int:
+    """Returns the number of a choice of kinds of concerns, and of whether signatures are asked
+    for."""
+    return sum(1 << _index_of(kind, CONCERNS) for kind in set(allow)) + _SIGNED * signed
 
 
 def convert(file: Buffer, limit: int = LIMIT, depth: int = DEPTH) -> bytes:
@@ -612,55 +674,113 @@ def convert(file: Buffer, limit: int = LIMIT, depth: int = DEPTH) -> bytes:
     return _fill("convert", _size_of(file) + 4096, (file,), _number(limit), _number(depth))[0]
 
 
+@overload
 def build_legacy(
-    parts: Iterable[Buffer],
-    name: bytes | str = b"",
+    parts: Iterable[Buffer | Part],
+    name: bytes | str | None = None,
     *,
-    os: int,
-    arch: int,
-    type: int,
-    compression: int = 0,
-    time: int = 0,
-    load: int = 0,
-    entry: int = 0,
+    os: Code,
+    arch: Code,
+    type: Code,
+    compression: Code | None = None,
+    time: int | None = None,
+    load: int | None = None,
+    entry: int | None = None,
+    limit: int = LIMIT,
+    depth: int = DEPTH,
+) -> bytes: ...
+@overload
+def build_legacy(
+    parts: Iterable[Buffer | Part],
+    name: bytes | str | None = None,
+    *,
+    header: LegacyHeader | FitHeader,
+    os: Code | None = None,
+    arch: Code | None = None,
+    type: Code | None = None,
+    compression: Code | None = None,
+    time: int | None = None,
+    load: int | None = None,
+    entry: int | None = None,
+    limit: int = LIMIT,
+    depth: int = DEPTH,
+) -> bytes: ...
+def build_legacy(
+    parts: Iterable[Buffer | Part],
+    name: bytes | str | None = None,
+    *,
+    header: LegacyHeader | FitHeader | None = None,
+    os: Code | None = None,
+    arch: Code | None = None,
+    type: Code | None = None,
+    compression: Code | None = None,
+    time: int | None = None,
+    load: int | None = None,
+    entry: int | None = None,
     limit: int = LIMIT,
     depth: int = DEPTH,
 ) -> bytes:
-    """Returns the legacy image with these fields and parts. `os`, `arch`, `type` and `compression`
-    are codes of U-Boot. Raises Refused, with the offset in the image, with BadField for a name of
-    more than 32 bytes or with a zero byte, and if there is not exactly one part and the type is
-    neither multi (4) nor script (6), with EmptyPart for an empty part of those, and with TooLarge
-    if the image is longer than `limit`. The parts are copied.
+    """Returns the legacy image with these fields and parts, which are copied. A field that is not
+    given is that of `header`, the header of an image that `open` returned. Without `header`, `os`,
+    `arch` and `type` must be given; the other fields are then empty, "none" or 0. A code of U-Boot
+    is its name, one of CODES, or its number.
+
+    Raises WrongArgument for an unknown code and for the header of a FIT. Raises Refused, with the
+    offset in the image, with BadField for a name of more than 32 bytes or with a zero byte, and if
+    there is not exactly one part and the type is neither multi nor script, with EmptyPart for an
+    empty part of those, and with TooLarge if the image is longer than `limit`.
 
     >>> import bootimg
-    >>> kernel = bootimg.build_legacy([b"a kernel"], "Linux", os=5, arch=22, type=2)
-    >>> bootimg.open(kernel).header.name, bytes(bootimg.extract_part(kernel))
+    >>> linux = {"os": "linux", "arch": "arm64", "type": "kernel"}
+    >>> image = bootimg.open(bootimg.build_legacy([b"a kernel"], "Linux", **linux))
+    >>> image.header.name, bytes(image.parts[0].payload)
     ('Linux', b'a kernel')
+    >>> later = bootimg.build_legacy(image.parts, header=image.header, load=0x80080000)
+    >>> hex(bootimg.open(later).header.load)
+    '0x80080000'
     """
-    pieces = [_name_of(name), *map(bytes, parts)]
+    if header is None:
+        if os is None or arch is None or type is None:
+            raise TypeError("build_legacy() needs header, or os, arch and type")
+        header = LegacyHeader("", 0, 0, 0, os, arch, type, "none")
+    if isinstance(header, FitHeader):
+        raise WrongArgument("wrong argument: the header of a FIT")
+    pieces = [_name_of(header.name if name is None else name), *map(_bytes_of, parts)]
     regions, offset = [], 0
     for piece in pieces:
         regions.append(_Region(offset, len(piece)))
         offset += len(piece)
-    codes = (os, arch, type, compression)
-    if not all(0 <= code <= 255 for code in codes):
-        raise WrongArgument("wrong argument")
-    numbers = (_number(time), _number(load), _number(entry))
+    codes = (
+        code_number("os", header.os if os is None else os),
+        code_number("arch", header.arch if arch is None else arch),
+        code_number("type", header.type if type is None else type),
+        code_number("compression", header.compression if compression is None else compression),
+    )
+    numbers = (
+        _number(header.time if time is None else time),
+        _number(header.load if load is None else load),
+        _number(header.entry if entry is None else entry),
+    )
     fields = _LegacyFields(regions[0], *numbers, *codes)
     array = (_Region * len(regions[1:]))(*regions[1:])
     rest = (ctypes.byref(fields), array, len(array), _number(limit), _number(depth))
     return _fill("build_legacy", offset + 4096, (b"".join(pieces),), *rest)[0]
 
 
+def _bytes_of(part: Buffer | Part) -> bytes:
+    return bytes(part.payload if isinstance(part, Part) else part)
+
+
 class BuildImage(NamedTuple):
-    """An image of a FIT to be built. `os`, `arch`, `type` and `compression` are codes of U-Boot."""
+    """An image of a FIT to be built. `os`, `arch`, `type` and `compression` are codes of U-Boot:
+    names, which are in CODES, or numbers."""
 
     name: bytes | str
     payload: Buffer
-    os: int
-    arch: int
-    type: int
-    compression: int = 0
+    os: Code
+    arch: Code
+    type: Code
+    compression: Code = "none"
     load: int | None = None
     entry: int | None = None
 
@@ -673,13 +793,14 @@ def build_fit(
     limit: int = LIMIT,
     depth: int = DEPTH,
 ) -> bytes:
-    """Returns a FIT with these images, each with the SHA-256 of its payload, and one configuration,
+    """Returns a FIT with these images, the SHA-256 of their payloads, and one configuration,
     `conf-1`, which lists the images by their types. Raises Refused, with the index of the image or
     0, with BadField, NoCodeName or DuplicateNode for what cannot be written, and with TooLarge if
     the FIT is longer than `limit`. The payloads are copied.
 
     >>> import bootimg
-    >>> kernel = bootimg.BuildImage("kernel-1", b"a kernel", os=5, arch=22, type=2, load=0x80000)
+    >>> codes = ("linux", "arm64", "kernel")
+    >>> kernel = bootimg.BuildImage("kernel-1", b"a kernel", *codes, load=0x80000)
     >>> fit = bootimg.open(bootimg.build_fit([kernel], "board", time=1700000000))
     >>> [(one.name, bytes(one.payload), one.hashes[0].verdict) for one in fit.images]
     [('kernel-1', b'a kernel', 'good')]
@@ -692,9 +813,7 @@ def build_fit(
         for piece in (_name_of(image.name), bytes(image.payload)):
             regions.append(_Region(len(memory), len(piece)))
             memory += piece
-        codes = (image.os, image.arch, image.type, image.compression)
-        if not all(0 <= code <= 255 for code in codes):
-            raise WrongArgument("wrong argument")
+        codes = [code_number(field, getattr(image, field)) for field in CODES]
         addresses = int(image.load is not None) + 2 * int(image.entry is not None)
         load, entry = _number(image.load or 0), _number(image.entry or 0)
         elements.append(_BuildElement(*regions, load, entry, addresses, *codes))
@@ -730,6 +849,7 @@ def compare_json(
 
 
 # These use what is above.
+from bootimg.codes import CODES, Code, code_name, code_number  # noqa: E402
 from bootimg.image import (  # noqa: E402
     Concern,
     Configuration,
@@ -741,6 +861,7 @@ from bootimg.image import (  # noqa: E402
     Node,
     Part,
     Reservation,
+    Value,
     Verification,
     open,
 )
@@ -805,6 +926,7 @@ def _parser() -> argparse.ArgumentParser:
             command.add_argument("--json", action="store_true")
         if name == "check":
             command.add_argument("--allow", type=_kinds, default=[], metavar="KINDS")
+            command.add_argument("--signed", action="store_true")
         if name == "compare":
             command.add_argument("--quiet", action="store_true")
             command.add_argument("files", nargs=2, metavar="IMAGE")
@@ -875,7 +997,7 @@ def _printed(options: argparse.Namespace, file: bytes) -> tuple[str, int]:
         return report.text, int(not report.all_good)
     if options.command == "check":
         call, none = (check_json, '{"concerns":[]}\n') if options.json else (check, "")
-        concerns = call(file, options.allow, limit)
+        concerns = call(file, options.allow, limit, signed=options.signed)
         return concerns, int(concerns != none)
     if options.command == "show":
         return show(file, options.layout, limit), 0

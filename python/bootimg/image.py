@@ -1,18 +1,20 @@
 # SPDX-License-Identifier: MIT
 # Copyright (c) 2026 the bootimg authors
-"""Boot images as objects: what `bootimg.open` returns, and what it has.
+"""Boot images as objects: what `bootimg.open` returns, and what is in it.
 
 A name is a string of its bytes in UTF-8. Bytes that are not UTF-8 become lone surrogates, as in the
-names of files of `os.fsdecode`, so that each name can be given back to a call.
+names of files of `os.fsdecode`, and a call accepts every name that another returned.
 """
 
 from __future__ import annotations
 
+import contextlib
 import functools
 import io
 import json
 import os
 import urllib.parse
+import weakref
 from dataclasses import dataclass, field, fields
 from typing import Any, Iterable
 
@@ -22,22 +24,73 @@ import bootimg
 _PLACING = ("data", "data-size", "data-offset", "data-position")
 
 
+class Value(bytes):
+    """The value of a property: its bytes, and what they mean if they are numbers or texts. Every
+    member raises NotFound for a value of another form, with "no number" or "no text".
+
+    >>> import bootimg
+    >>> kernel = bootimg.open("examples/board.itb").image("kernel-1").properties
+    >>> hex(kernel["load"].u32), kernel["type"].texts
+    ('0x80080000', ('kernel',))
+    >>> kernel["type"].number
+    Traceback (most recent call last):
+        ...
+    bootimg.NotFound: no number
+    """
+
+    __slots__ = ()
+
+    @property
+    def u32(self) -> int:
+        """The number of a value of four bytes, the highest byte first."""
+        return self._number_of(4)
+
+    @property
+    def u64(self) -> int:
+        """The number of a value of eight bytes, the highest byte first."""
+        return self._number_of(8)
+
+    @property
+    def number(self) -> int:
+        """The number of a value of four or eight bytes: what `bootimg.get` returns as "number"."""
+        return self._number_of(4, 8)
+
+    def _number_of(self, *sizes: int) -> int:
+        if len(self) not in sizes:
+            raise bootimg.NotFound("no number", None)
+        return int.from_bytes(self, "big")
+
+    @property
+    def texts(self) -> tuple[str, ...]:
+        """The texts of a value of one or more texts, which are not empty and are printable ASCII,
+        with a zero byte after each of them: what `bootimg.get` returns as "text"."""
+        *texts, rest = self.split(b"\0")
+        if rest or not texts or not all(_is_printable(text) for text in texts):
+            raise bootimg.NotFound("no text", None)
+        return tuple(text.decode("ascii") for text in texts)
+
+
+def _is_printable(text: bytes) -> bool:
+    """Returns whether a text is not empty and printable ASCII."""
+    return text != b"" and all(0x20 <= byte <= 0x7E for byte in text)
+
+
 @dataclass(frozen=True, slots=True)
 class LegacyHeader:
     """The fields of the header of a legacy image.
 
-    `time` is in seconds since 1970, and `load` and `entry` are addresses. A code of U-Boot is the
-    name that it has, or else the number.
+    `time` is in seconds since 1970, and `load` and `entry` are addresses. A code of U-Boot is its
+    name, or else its number.
     """
 
     name: str
     time: int
     load: int
     entry: int
-    os: str | int
-    arch: str | int
-    type: str | int
-    compression: str | int
+    os: bootimg.Code
+    arch: bootimg.Code
+    type: bootimg.Code
+    compression: bootimg.Code
 
 
 @dataclass(frozen=True, slots=True)
@@ -50,8 +103,8 @@ class Reservation:
 
 @dataclass(frozen=True, slots=True)
 class FitHeader:
-    """What a FIT has beside its tree: the number of the boot processor, the size of its blob in
-    bytes, and its memory reservations."""
+    """What a FIT contains besides its tree: the number of the boot processor, the size of its blob
+    in bytes, and its memory reservations."""
 
     boot_cpu: int
     total_size: int
@@ -71,7 +124,7 @@ class Part:
 @dataclass(frozen=True, slots=True)
 class Hash:
     """The verdict on a hash node: the names of the image and of the node, the algorithm and the
-    value, or None if the node does not have them, and the verdict, one of VERDICTS."""
+    value, or None if the node lacks them, and the verdict, one of VERDICTS."""
 
     image: str
     node: str
@@ -103,7 +156,7 @@ class Node:
     _file: Image = field(repr=False)
 
     @functools.cached_property
-    def properties(self) -> dict[str, bytes]:
+    def properties(self) -> dict[str, Value]:
         """The values of all properties of the node by their names, in their order."""
         return self._file.properties(self.path)
 
@@ -139,7 +192,7 @@ class FitImage:
     _file: Image = field(repr=False)
 
     @property
-    def properties(self) -> dict[str, bytes]:
+    def properties(self) -> dict[str, Value]:
         """The values of the properties of the image by their names, but for those that place the
         payload. They are read at each use."""
         found = self._file.properties("/images/" + self.name)
@@ -154,7 +207,7 @@ class FitImage:
 
 @dataclass(frozen=True, slots=True)
 class Configuration:
-    """A configuration of a FIT: its name, and the keys of KEYS that it has."""
+    """A configuration of a FIT: its name, and which keys of KEYS it contains."""
 
     name: str
     keys: tuple[str, ...]
@@ -172,7 +225,7 @@ class Configuration:
 @dataclass(frozen=True, slots=True)
 class Verification:
     """The verdicts on the hash nodes of a FIT, in order, and whether all of them are good. A legacy
-    image has no hash nodes: a file whose checksums are wrong is refused."""
+    image contains no hash nodes: a file whose checksums are wrong is refused."""
 
     hashes: tuple[Hash, ...]
     all_good: bool
@@ -181,7 +234,7 @@ class Verification:
 @dataclass(frozen=True, slots=True, repr=False)
 class Concern:
     """A thing in a file that is not protected. `kind` is one of CONCERNS. The other members are
-    None, unless a concern of this kind has them."""
+    None, unless this kind uses them."""
 
     kind: str
     image: str | None = None
@@ -194,6 +247,8 @@ class Concern:
     index: int | None = None
     default: str | None = None
     size: int | None = None
+    signature: str | None = None
+    path: str | None = None
 
     def __repr__(self) -> str:
         members = [(member.name, getattr(self, member.name)) for member in fields(self)]
@@ -206,22 +261,37 @@ class Image:
     - `file` is a view of its file, and `kind` is "legacy" or "fit"
     - `header` is a LegacyHeader or a FitHeader
     - `parts` are the parts of a legacy image, and `unused` is the number of bytes of the file after
-      them. A FIT has none, and 0
-    - `images` and `configurations` are those of a FIT, and `default` is the name of the default
-      configuration, or None. A legacy image has none
+      them. For a FIT, empty and 0
+    - `images` and `configurations` are in a FIT, and `default` is the name of the default
+      configuration, or None. For a legacy image, empty and None
 
     The file is read once. Its bytes must not change as long as the image is used.
+
+    An image is a context manager: at the end of `with`, `close` is called.
+
+    >>> import bootimg, io, mmap
+    >>> with io.open("examples/board.itb", "rb") as file:
+    ...     mapped = mmap.mmap(file.fileno(), 0, access=mmap.ACCESS_READ)
+    >>> with mapped, bootimg.open(mapped) as board:
+    ...     print(board.image("fdt-1").payload[:4].hex())
+    d00dfeed
     """
 
     def __init__(
         self, file: bootimg.Buffer, limit: int = bootimg.LIMIT, depth: int = bootimg.DEPTH
     ) -> None:
         """Reads a file in memory, which is not copied unless it is a view that is not contiguous.
-        Raises Refused as each call does."""
-        view = memoryview(file)
-        self.file = view.cast("B") if view.c_contiguous else memoryview(view.tobytes())
+        Raises Refused as all calls do."""
+        with memoryview(file) as view:
+            self.file = view.cast("B") if view.c_contiguous else memoryview(view.tobytes())
+        self._size = self.file.nbytes
         self._bounds = (limit, depth)
-        listed = json.loads(bootimg.listing_json(self.file, limit, depth))
+        self._values: weakref.WeakValueDictionary[int, memoryview] = weakref.WeakValueDictionary()
+        try:
+            listed = json.loads(bootimg.listing_json(self.file, limit, depth))
+        except bootimg.BootimgError:
+            self.file.release()
+            raise
         self.kind: str = listed["kind"]
         self.header = _header_of(listed)
         self.parts = tuple(self._part(part) for part in listed.get("parts", ()))
@@ -230,6 +300,34 @@ class Image:
         self._images = {image.name: image for image in self.images}
         self.configurations = tuple(map(self._configuration, listed.get("configurations", ())))
         self.default = _optional_name(listed.get("default"))
+
+    def __enter__(self) -> Image:
+        return self
+
+    def __exit__(self, *_: object) -> None:
+        self.close()
+
+    def close(self) -> None:
+        """Releases all views of the file that the image returned: `file`, payloads and values. The
+        buffer under them, such as an `mmap`, can then be closed. A released view raises ValueError
+        when it is used, and so do most methods of the image. Views that a caller made of these,
+        such as slices, stay valid and hold the buffer. Closing an image again does nothing."""
+        parts = [part.payload for part in self.parts]
+        payloads = [image.payload for image in self.images]
+        for view in (*parts, *payloads, *self._values.values(), self.file):
+            # A view is kept as long as another object, such as an array, uses it.
+            with contextlib.suppress(BufferError):
+                if view is not None:
+                    view.release()
+
+    @property
+    def extent(self) -> int:
+        """The length of the image in the file, in bytes, as `bootimg scan` prints it: a FIT ends
+        with its blob, or with the payload that ends last."""
+        if isinstance(self.header, LegacyHeader):
+            return self._size - self.unused
+        ends = ((one.offset or 0) + (one.size or 0) for one in self.images)
+        return max(self.header.total_size, *ends) if self.images else self.header.total_size
 
     def _part(self, part: dict[str, int]) -> Part:
         offset, size = part["offset"], part["size"]
@@ -277,19 +375,22 @@ class Image:
         self._require_fit()
         return Node("", "/", self)
 
-    def properties(self, path: bytes | str) -> dict[str, bytes]:
+    def properties(self, path: bytes | str) -> dict[str, Value]:
         """Returns the values of all properties of the node of a FIT at a path, such as
         "/images/kernel-1", by their names. The path of the root is "/". Raises NotFound with "no
         such node" if there is none, and with the first of REASONS for a legacy image."""
         elements = self._elements_at("properties", bootimg._PropertyElement, path)
-        return {_decoded(self._bytes(one.name)): self._bytes(one.value) for one in elements}
+        return {_decoded(self._bytes(one.name)): Value(self._view(one.value)) for one in elements}
 
     def property_value(self, path: bytes | str, name: bytes | str) -> memoryview:
-        """Returns the value of one property of the node of a FIT at a path, as a view of the file.
-        Raises NotFound as `properties` does, or with "no such property"."""
+        """Returns the value of one property of the node of a FIT at a path, as a view of the file,
+        which is not copied; `Value` makes a value of it. Raises NotFound as `properties` does, or
+        with "no such property"."""
         self._require_fit()
         names = (bootimg._name_of(path), bootimg._name_of(name))
-        return bootimg._region("property_value", (self.file, *names), *self._bounds)
+        value = bootimg._region("property_value", (self.file, *names), *self._bounds)
+        self._values[id(value)] = value
+        return value
 
     def children(self, path: bytes | str) -> tuple[str, ...]:
         """Returns the names of the children of the node of a FIT at a path, in their order. Raises
@@ -310,7 +411,7 @@ class Image:
             raise bootimg.NotFound(bootimg.REASONS[0], None)
 
     def verify(self) -> Verification:
-        """Returns the verdict on each hash node. The digests are computed once."""
+        """Returns the verdicts on hash nodes. The digests are computed once."""
         return self._verification
 
     @functools.cached_property
@@ -330,8 +431,11 @@ class Image:
             self._optional_bytes(element.value),
         )
 
+    def _view(self, region: bootimg._Region) -> memoryview:
+        return self.file[region.offset : region.offset + region.size]
+
     def _bytes(self, region: bootimg._Region) -> bytes:
-        return bytes(self.file[region.offset : region.offset + region.size])
+        return bytes(self._view(region))
 
     def _optional_bytes(self, region: bootimg._Region) -> bytes | None:
         return self._bytes(region) if region.offset else None
@@ -340,13 +444,20 @@ class Image:
         text = self._optional_bytes(region)
         return None if text is None else _decoded(text)
 
-    def check(self, allow: Iterable[str] = ()) -> tuple[Concern, ...]:
-        """Returns the concerns about the file, except those of the kinds in `allow`, of
-        CONCERNS. Raises Refused with TooLarge if the payloads together are longer than the
-        limit."""
-        numbers = (bootimg._kinds_of(allow), *self._bounds)
+    def check(self, allow: Iterable[str] = (), *, signed: bool = False) -> tuple[Concern, ...]:
+        """Returns the concerns about the file, except those of the kinds in `allow`, of CONCERNS.
+        With `signed`, a configuration without a signature is one. Raises Refused with TooLarge as
+        `bootimg.check` does."""
+        kinds = tuple(allow)
+        numbers = (bootimg._policy_number(kinds, signed), *self._bounds)
         elements = bootimg._elements("concerns", bootimg._ConcernElement, (self.file,), *numbers)
-        return tuple(map(self._concern, elements))
+        if not any(_is_of_line(element) for element in elements):
+            return tuple(map(self._concern, elements))
+        lines = bootimg.check(self.file, kinds, *self._bounds, signed=signed).splitlines()
+        return tuple(
+            _concern_of_line(line) if _is_of_line(element) else self._concern(element)
+            for element, line in zip(elements, lines)
+        )
 
     def _concern(self, element: bootimg._ConcernElement) -> Concern:
         kind = bootimg.CONCERNS[element.kind.bit_length() - 1]
@@ -354,6 +465,8 @@ class Image:
         if kind == "bad-hash":
             node, algorithm = map(self._optional_text, (element.node, element.algorithm))
             return Concern(kind, name, node, algorithm, bootimg.VERDICTS[element.verdict])
+        if kind == "skipped-hash":
+            return Concern(kind, name, self._optional_text(element.node))
         if kind == "weak-hash":
             return Concern(kind, name, algorithms=tuple(self._good_algorithms[name]))
         if kind == "bad-list":
@@ -367,10 +480,13 @@ class Image:
 
     @functools.cached_property
     def _good_algorithms(self) -> dict[str | None, list[str]]:
-        """The algorithms of the hash nodes whose verdict is good, by the name of their image."""
+        """The algorithms of the hash nodes whose verdict is good and that U-Boot does not skip, by
+        the name of their image."""
+        others = (kind for kind in bootimg.CONCERNS if kind != "skipped-hash")
+        skipped = {(one.image, one.node) for one in self.check(others)}
         algorithms: dict[str | None, list[str]] = {}
         for one in self.verify().hashes:
-            if one.verdict == "good":
+            if one.verdict == "good" and (one.image, one.node) not in skipped:
                 algorithms.setdefault(one.image, []).append(one.algorithm or "")
         return algorithms
 
@@ -396,18 +512,22 @@ class Image:
         """Returns the description of what the file means, as `bootimg.describe` does."""
         return bootimg.describe(self.file, *self._bounds)
 
+    def get(self, place: bytes | str, name: bytes | str = "", form: str = "shown") -> bytes:
+        """Returns a single value, as `bootimg.get` does."""
+        return bootimg.get(self.file, place, name, form, *self._bounds)
+
     def show(self, layout: bool = False) -> str:
         """Returns the page of the file, for a person, as `bootimg.show` does."""
         return bootimg.show(self.file, layout, *self._bounds)
 
     def compare(self, other: Image | bootimg.Buffer) -> bootimg.Comparison:
         """Returns what differs between what two files mean, as `bootimg.compare` does. The limits
-        are those of this image."""
+        of this image apply."""
         file = other.file if isinstance(other, Image) else other
         return bootimg.compare(self.file, file, *self._bounds)
 
     def __repr__(self) -> str:
-        return f"<{self.kind} image of {self.file.nbytes} bytes>"
+        return f"<{self.kind} image of {self._size} bytes>"
 
 
 def open(
@@ -416,7 +536,8 @@ def open(
     depth: int = bootimg.DEPTH,
 ) -> Image:
     """Returns the boot image in a file. `source` is the path of the file, which is read as a whole
-    to memory, or its bytes, which are not copied.
+    to memory, or its bytes, which are not copied. The image is a context manager, which releases
+    its views.
 
     >>> import bootimg
     >>> board = bootimg.open("examples/board.itb")
@@ -431,6 +552,8 @@ def open(
     b'flat_dt\\x00'
     >>> bytes(board.property_value("/configurations", "default"))
     b'conf-1\\x00'
+    >>> board.get("/images/kernel-1", "load", "number")
+    b'0x80080000\\n'
     >>> board.children("/images")
     ('kernel-1', 'ramdisk-1', 'fdt-1')
     >>> [(one.node, one.algorithm, one.verdict) for one in board.image("fdt-1").hashes]
@@ -447,6 +570,24 @@ def open(
             # One byte more than the limit is enough for the file to be refused.
             return Image(file.read(limit + 1), limit, depth)
     return Image(source, limit, depth)
+
+
+def _is_of_line(element: bootimg._ConcernElement) -> bool:
+    """Returns whether only the line of a concern gives its names."""
+    return bool(element.kind > 1 << bootimg.CONCERNS.index("skipped-hash"))
+
+
+def _concern_of_line(line: str) -> Concern:
+    """Returns the concern of a line about signatures or unit addresses."""
+    kind, *shown = line.split(" ")
+    names = [_name_of(name) for name in shown]
+    if kind == "unsigned":
+        return Concern(kind, configuration=names[0] or None)
+    if kind == "unit-address":
+        return Concern(kind, path=names[0])
+    configuration, signature, *paths = names
+    path = paths[0] if paths else None
+    return Concern(kind, configuration=configuration, signature=signature, path=path)
 
 
 def _decoded(name: bytes) -> str:

@@ -2,7 +2,8 @@
 //! digits. `tests/tools/c_library/structure.py` compares the lines.
 
 use bootimg::{
-    concerns, Concern, Concerns, Error, Fit, FitImage, Key, Legacy, Limits, Place, Verdict,
+    check, concerns, Concern, Concerns, Error, Fit, FitImage, Key, Legacy, Limits, Place, Policy,
+    Verdict,
 };
 
 /// The calls that refuse a file that is not a FIT.
@@ -36,8 +37,22 @@ fn main() -> Result<(), Box<dyn std::error::Error>> {
             Ok(concerns) => concerns.iter().for_each(print_concern),
             Err(error) => print_error(&["concerns"], error),
         }
+        for signed in [false, true] {
+            has_lines(&file, signed);
+        }
     }
     Ok(())
+}
+
+/// The text of each concern about a file is its line of `check`.
+fn has_lines(file: &[u8], signed: bool) {
+    let policy = Policy {
+        signed,
+        ..Policy::default()
+    };
+    let texts = concerns(file, policy, Limits::default())
+        .map(|concerns| concerns.iter().map(|one| format!("{one}\n")).collect());
+    assert_eq!(texts, check(file, policy, Limits::default()));
 }
 
 fn print_error(calls: &[&str], error: Error) {
@@ -130,8 +145,13 @@ fn number_of(verdict: Verdict) -> u32 {
     }
 }
 
-/// Prints the number of the kind of a concern, the names that it has, its numbers, and the
-/// algorithms of a weak hash.
+/// Returns the line of a concern of a kind of which the call for C has no names.
+fn kind_alone(kind: u32) -> String {
+    format!("{kind} none none none 0 0 0 0")
+}
+
+/// Prints the number of the kind of a concern, the names that the call for C has of it, its
+/// numbers, and the algorithms of a weak hash.
 fn print_concern(concern: &Concern) {
     let words = match concern {
         Concern::BadHash {
@@ -174,6 +194,16 @@ fn print_concern(concern: &Concern) {
             format!("32 {} none none 0 0 0 0", or_none(*default))
         }
         Concern::Trailing { size, .. } => format!("64 none none none 0 {size} 0 0"),
+        Concern::SkippedHash { image, node, .. } => {
+            format!("128 {} {} none 0 0 0 0", digits(image), digits(node))
+        }
+        Concern::Unsigned { .. } => kind_alone(256),
+        Concern::NoNodes { .. } => kind_alone(512),
+        Concern::NoImages { .. } => kind_alone(1024),
+        Concern::Uncovered { .. } => kind_alone(2048),
+        Concern::Foreign { .. } => kind_alone(4096),
+        Concern::Strings { .. } => kind_alone(8192),
+        Concern::UnitAddress { .. } => kind_alone(16384),
         other => panic!("{other:?}"),
     };
     println!("concern {words}");
@@ -195,7 +225,7 @@ fn print_node(fit: &Fit, path: &[u8]) -> Result<(), Error> {
         let above = path.strip_suffix(b"/").unwrap_or(path);
         print_node(fit, &[above, b"/", name].concat())?;
     }
-    assert_eq!(fit.children(&[path, b"/"].concat()), Err(Error::NoNode));
+    assert_eq!(fit.children([path, b"/"].concat()), Err(Error::NoNode));
     Ok(())
 }
 

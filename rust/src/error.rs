@@ -108,6 +108,14 @@ pub struct Refusal {
     pub file: u32,
 }
 
+impl fmt::Display for Refusal {
+    fn fmt(&self, formatter: &mut fmt::Formatter<'_>) -> fmt::Result {
+        write!(formatter, "{} at {}", self.cause, self.offset)
+    }
+}
+
+impl std::error::Error for Refusal {}
+
 /// Why a call fails.
 #[derive(Clone, Copy, Debug, PartialEq, Eq)]
 #[non_exhaustive]
@@ -130,6 +138,12 @@ pub enum Error {
     NoNode,
     /// The node has no property with the name.
     NoProperty,
+    /// A field is named of a FIT, or a property of a legacy image.
+    WrongKind,
+    /// The value is not one or more texts.
+    NoText,
+    /// The value is not a number.
+    NoNumber,
     /// A status of a later version of the library.
     Unknown,
 }
@@ -137,7 +151,7 @@ pub enum Error {
 impl fmt::Display for Error {
     fn fmt(&self, formatter: &mut fmt::Formatter<'_>) -> fmt::Result {
         match self {
-            Error::Refused(refusal) => write!(formatter, "{} at {}", refusal.cause, refusal.offset),
+            Error::Refused(refusal) => refusal.fmt(formatter),
             Error::OutOfMemory => formatter.write_str("out of memory"),
             Error::WrongArgument => formatter.write_str("wrong argument"),
             Error::NoConfiguration => formatter.write_str("no such configuration"),
@@ -146,12 +160,21 @@ impl fmt::Display for Error {
             Error::MissingImage(index) => write!(formatter, "missing image {index}"),
             Error::NoNode => formatter.write_str("no such node"),
             Error::NoProperty => formatter.write_str("no such property"),
+            Error::WrongKind => formatter.write_str("another kind of image"),
+            Error::NoText => formatter.write_str("no text"),
+            Error::NoNumber => formatter.write_str("no number"),
             Error::Unknown => formatter.write_str("unknown status"),
         }
     }
 }
 
 impl std::error::Error for Error {}
+
+impl From<Refusal> for Error {
+    fn from(refusal: Refusal) -> Error {
+        Error::Refused(refusal)
+    }
+}
 
 /// Returns the error of a call that failed with this status.
 pub(crate) fn failure(status: u32, answer: &sys::Answer) -> Error {
@@ -163,12 +186,15 @@ pub(crate) fn failure(status: u32, answer: &sys::Answer) -> Error {
         }),
         (sys::OUT_OF_MEMORY, _) => Error::OutOfMemory,
         (sys::WRONG_ARGUMENT, _) => Error::WrongArgument,
+        (_, 1) => Error::WrongKind,
         (_, 4) => Error::NoConfiguration,
         (_, 5) => Error::NoKey,
         (_, 6) => Error::BadList,
         (_, 7) => Error::MissingImage(answer.value),
         (_, 10) => Error::NoNode,
         (_, 11) => Error::NoProperty,
+        (_, 12) => Error::NoText,
+        (_, 13) => Error::NoNumber,
         _ => Error::Unknown,
     }
 }

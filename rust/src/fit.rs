@@ -103,12 +103,14 @@ impl<'a> Fit<'a> {
     }
 
     /// Returns the image with the given name.
-    pub fn image(&self, name: &[u8]) -> Option<&FitImage<'a>> {
+    pub fn image(&self, name: impl AsRef<[u8]>) -> Option<&FitImage<'a>> {
+        let name = name.as_ref();
         self.images.iter().find(|image| image.name == name)
     }
 
     /// Returns the configuration with the given name.
-    pub fn configuration(&self, name: &[u8]) -> Option<&Configuration<'a>> {
+    pub fn configuration(&self, name: impl AsRef<[u8]>) -> Option<&Configuration<'a>> {
+        let name = name.as_ref();
         self.configurations
             .iter()
             .find(|configuration| configuration.name == name)

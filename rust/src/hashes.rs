@@ -2,6 +2,7 @@
 
 use crate::calls::{bytes_of, fill_of, found};
 use crate::{sys, Error, Fit};
+use std::fmt;
 
 /// The verdict on a hash node.
 #[derive(Clone, Copy, Debug, PartialEq, Eq)]
@@ -32,6 +33,20 @@ impl Verdict {
             4 => Verdict::Malformed,
             _ => Verdict::Unknown,
         }
+    }
+}
+
+impl fmt::Display for Verdict {
+    /// Writes the word of the verdict in a report of `verify`.
+    fn fmt(&self, formatter: &mut fmt::Formatter<'_>) -> fmt::Result {
+        formatter.pad(match self {
+            Verdict::Good => "good",
+            Verdict::Bad => "bad",
+            Verdict::UnknownAlgorithm => "unknown-algorithm",
+            Verdict::NoPayload => "no-payload",
+            Verdict::Malformed => "malformed",
+            Verdict::Unknown => "unknown",
+        })
     }
 }
 

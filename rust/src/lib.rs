@@ -24,9 +24,11 @@ mod error;
 mod fit;
 mod hashes;
 mod legacy;
+mod names;
 mod nodes;
 mod sys;
 mod texts;
+mod values;
 
 pub use building::{build_fit, build_legacy, BuildImage};
 pub use concerns::{concerns, Concern};
@@ -38,10 +40,12 @@ pub use nodes::Property;
 pub use texts::{
     check, check_json, compare, compare_json, convert, describe, describe_json, listing,
     listing_json, normalise, same_meaning, show, update, verify, verify_json, Changes, Comparison,
-    Concerns, Form, NormalForm, Report,
+    Concerns, Form, NormalForm, Policy, Report,
 };
+pub use values::{get, Value, ValueForm};
 
 use calls::{answer_of, fill, text_of};
+use std::fmt;
 
 /// The limits of a call.
 #[derive(Clone, Copy, Debug, PartialEq, Eq)]
@@ -72,6 +76,16 @@ pub enum Kind {
     Fit,
 }
 
+impl fmt::Display for Kind {
+    /// Writes the word of the kind in a listing.
+    fn fmt(&self, formatter: &mut fmt::Formatter<'_>) -> fmt::Result {
+        formatter.pad(match self {
+            Kind::Legacy => "legacy",
+            Kind::Fit => "fit",
+        })
+    }
+}
+
 /// A key of a configuration: a property that lists images.
 #[derive(Clone, Copy, Debug, PartialEq, Eq)]
 #[allow(missing_docs)]
@@ -94,6 +108,20 @@ impl Key {
         Key::Loadables,
         Key::Script,
     ];
+}
+
+impl fmt::Display for Key {
+    /// Writes the name of the property.
+    fn fmt(&self, formatter: &mut fmt::Formatter<'_>) -> fmt::Result {
+        formatter.pad(match self {
+            Key::Kernel => "kernel",
+            Key::Fdt => "fdt",
+            Key::Ramdisk => "ramdisk",
+            Key::Firmware => "firmware",
+            Key::Loadables => "loadables",
+            Key::Script => "script",
+        })
+    }
 }
 
 /// Returns the kind of a file by its first four bytes.

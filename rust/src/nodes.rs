@@ -14,15 +14,23 @@ pub struct Property<'a> {
 }
 
 /// The path of a node is `/` for the root, and else a `/` before the name of each node from a child
-/// of the root down to it, for example `/images/kernel-1`. Each call reads the file again.
+/// of the root down to it, for example `/images/kernel-1`. Paths and names are bytes or text. Each
+/// call reads the file again.
+///
+/// ```
+/// # let file = std::fs::read(concat!(env!("CARGO_MANIFEST_DIR"), "/../examples/board.itb"))?;
+/// let board = bootimg::Fit::read(&file, bootimg::Limits::default())?;
+/// assert_eq!(board.property("/images/kernel-1", "type")?, b"kernel\0");
+/// # Ok::<(), Box<dyn std::error::Error>>(())
+/// ```
 impl<'a> Fit<'a> {
     /// Returns the names of the children of the node at a path, in their order.
     ///
     /// # Errors
     ///
     /// `NoNode` if no node has the path. `OutOfMemory`.
-    pub fn children(&self, path: &[u8]) -> Result<Vec<&'a [u8]>, Error> {
-        let names = self.elements_at(sys::bootimg_children, path)?;
+    pub fn children(&self, path: impl AsRef<[u8]>) -> Result<Vec<&'a [u8]>, Error> {
+        let names = self.elements_at(sys::bootimg_children, path.as_ref())?;
         Ok(names
             .iter()
             .map(|&name| bytes_of(self.file, name))
@@ -34,8 +42,8 @@ impl<'a> Fit<'a> {
     /// # Errors
     ///
     /// `NoNode` if no node has the path. `OutOfMemory`.
-    pub fn properties(&self, path: &[u8]) -> Result<Vec<Property<'a>>, Error> {
-        let properties = self.elements_at(sys::bootimg_properties, path)?;
+    pub fn properties(&self, path: impl AsRef<[u8]>) -> Result<Vec<Property<'a>>, Error> {
+        let properties = self.elements_at(sys::bootimg_properties, path.as_ref())?;
         let property = |one: &sys::Property| Property {
             name: bytes_of(self.file, one.name),
             value: bytes_of(self.file, one.value),
@@ -49,7 +57,12 @@ impl<'a> Fit<'a> {
     ///
     /// `NoNode` if no node has the path, or `NoProperty` if the node has no such property.
     /// `OutOfMemory`.
-    pub fn property(&self, path: &[u8], name: &[u8]) -> Result<&'a [u8], Error> {
+    pub fn property(
+        &self,
+        path: impl AsRef<[u8]>,
+        name: impl AsRef<[u8]>,
+    ) -> Result<&'a [u8], Error> {
+        let (path, name) = (path.as_ref(), name.as_ref());
         let answer = answer_of(|answer| {
             // Safety: the file, the path and the name are as long as their lengths, and `answer_of`
             // passes a struct of the library's.

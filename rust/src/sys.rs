@@ -122,6 +122,10 @@ pub const CONCERN_BAD_LIST: u32 = 8;
 pub const CONCERN_MISSING: u32 = 16;
 pub const CONCERN_BAD_DEFAULT: u32 = 32;
 pub const CONCERN_TRAILING: u32 = 64;
+pub const CONCERN_SKIPPED_HASH: u32 = 128;
+pub const SIGNED: u32 = 32768;
+/// Each kind of concerns is allowed but that of skipped hash nodes.
+pub const SKIPPED_ALONE: u32 = (SIGNED - 1) ^ CONCERN_SKIPPED_HASH;
 
 /// The first byte of a file, a name or a path.
 pub type Bytes = *const u8;
@@ -166,6 +170,7 @@ declare! {
     bootimg_children(Bytes, usize, Bytes, usize, u32, u32, *mut Region, usize);
     bootimg_properties(Bytes, usize, Bytes, usize, u32, u32, *mut Property, usize);
     bootimg_property_value(Bytes, usize, Bytes, usize, Bytes, usize, u32, u32);
+    bootimg_get(Bytes, usize, Bytes, usize, Bytes, usize, u32, u32, u32, *mut u8, usize);
     bootimg_same_meaning(Bytes, usize, Bytes, usize, u32, u32);
     bootimg_list(Bytes, usize, u32, u32, *mut u8, usize);
     bootimg_describe(Bytes, usize, u32, u32, *mut u8, usize);

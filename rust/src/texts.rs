@@ -31,6 +31,18 @@ pub struct NormalForm {
     pub signatures: usize,
 }
 
+impl AsRef<[u8]> for NormalForm {
+    fn as_ref(&self) -> &[u8] {
+        &self.image
+    }
+}
+
+impl From<NormalForm> for Vec<u8> {
+    fn from(normal: NormalForm) -> Vec<u8> {
+        normal.image
+    }
+}
+
 /// A report on the checksums and digests of a file.
 #[derive(Clone, Debug, PartialEq, Eq)]
 pub struct Report {
@@ -60,11 +72,46 @@ pub struct Concerns {
     pub missing: bool,
     pub bad_default: bool,
     pub trailing: bool,
+    pub skipped_hash: bool,
+    pub unsigned: bool,
+    pub no_nodes: bool,
+    pub no_images: bool,
+    pub uncovered: bool,
+    pub foreign: bool,
+    pub strings: bool,
+    pub unit_address: bool,
+}
+
+/// What is asked of a file, and what is not.
+#[derive(Clone, Copy, Debug, Default, PartialEq, Eq)]
+pub struct Policy {
+    /// The kinds of concerns that are left out.
+    pub allowed: Concerns,
+    /// Whether there must be a configuration, and a signature in each.
+    pub signed: bool,
+}
+
+impl From<Concerns> for Policy {
+    /// Returns the policy that leaves out these kinds, and asks for no signature.
+    fn from(allowed: Concerns) -> Policy {
+        Policy {
+            allowed,
+            signed: false,
+        }
+    }
+}
+
+impl Policy {
+    /// Returns the bits of the policy.
+    pub(crate) fn bits(self) -> u32 {
+        let signed = if self.signed { sys::SIGNED } else { 0 };
+        self.allowed.bits() | signed
+    }
 }
 
 impl Concerns {
     /// Returns a bit for each kind that is left out.
-    pub(crate) fn bits(self) -> u32 {
+    fn bits(self) -> u32 {
         [
             self.bad_hash,
             self.unhashed,
@@ -73,6 +120,14 @@ impl Concerns {
             self.missing,
             self.bad_default,
             self.trailing,
+            self.skipped_hash,
+            self.unsigned,
+            self.no_nodes,
+            self.no_images,
+            self.uncovered,
+            self.foreign,
+            self.strings,
+            self.unit_address,
         ]
         .iter()
         .enumerate()
@@ -211,13 +266,14 @@ fn text_with_number(
 }
 
 /// Returns a line for each concern about a file: each thing in it that is not protected. Lines of
-/// allowed kinds are left out.
+/// allowed kinds are left out. No signature is verified.
 ///
 /// # Errors
 ///
-/// Those of reading the file, and TooLarge if the payloads together are longer than the limit.
-pub fn check(file: &[u8], allowed: Concerns, limits: Limits) -> Result<String, Error> {
-    text_with_number(sys::bootimg_check, file, allowed.bits(), limits)
+/// Those of reading the file, and TooLarge if the payloads together, or the paths that signatures
+/// must cover, are longer than the limit.
+pub fn check(file: &[u8], policy: impl Into<Policy>, limits: Limits) -> Result<String, Error> {
+    text_with_number(sys::bootimg_check, file, policy.into().bits(), limits)
 }
 
 /// Returns what `check` says as one JSON text and a newline, even if there is no concern.
@@ -225,8 +281,8 @@ pub fn check(file: &[u8], allowed: Concerns, limits: Limits) -> Result<String, E
 /// # Errors
 ///
 /// Those of `check`.
-pub fn check_json(file: &[u8], allowed: Concerns, limits: Limits) -> Result<String, Error> {
-    text_with_number(sys::bootimg_check_json, file, allowed.bits(), limits)
+pub fn check_json(file: &[u8], policy: impl Into<Policy>, limits: Limits) -> Result<String, Error> {
+    text_with_number(sys::bootimg_check_json, file, policy.into().bits(), limits)
 }
 
 /// Returns the page of a file, for a person: tables of what it is, of its images or parts with the

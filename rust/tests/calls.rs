@@ -2,9 +2,9 @@
 
 use bootimg::{
     build_fit, build_legacy, check, check_json, compare, compare_json, concerns, convert, describe,
-    describe_json, kind, listing, listing_json, normalise, same_meaning, show, update, verify,
+    describe_json, get, kind, listing, listing_json, normalise, same_meaning, show, update, verify,
     verify_json, version, BuildImage, Cause, Changes, Concern, Concerns, Error, Fit, Form, Header,
-    Key, Kind, Legacy, Limits, Place, Refusal, Verdict,
+    Key, Kind, Legacy, Limits, Place, Policy, Refusal, Value, ValueForm, Verdict,
 };
 
 const ALL: Limits = Limits {
@@ -231,6 +231,24 @@ fn texts() {
         show(&board, true, ALL).unwrap(),
     );
     assert!(page.ends_with("weak-hash ramdisk-1 crc32\n") && with_layout.len() > page.len());
+    let load = Value::Property("/images/kernel-1", "load");
+    assert_eq!(
+        get(&board, load, ValueForm::Number, ALL).unwrap(),
+        b"0x80080000\n"
+    );
+    assert_eq!(
+        get(&kernel, Value::Field("os"), ValueForm::Raw, ALL).unwrap(),
+        [5]
+    );
+    assert_eq!(get(&board, load, ValueForm::Text, ALL), Err(Error::NoText));
+    assert_eq!(
+        get(&board, Value::Field("os"), ValueForm::Shown, ALL),
+        Err(Error::WrongKind)
+    );
+    assert_eq!(
+        get(&board, Value::Field("size"), ValueForm::Shown, ALL),
+        Err(Error::WrongArgument)
+    );
     assert!(verify(&board, ALL).unwrap().all_good && verify_json(&board, ALL).unwrap().all_good);
     assert_eq!(
         verify(&kernel, ALL).unwrap().text,
@@ -270,6 +288,34 @@ fn concerns_about_files() {
         ..Concerns::default()
     };
     assert_eq!(concerns(&board, allowed, ALL), Ok(Vec::new()));
+    let policy = Policy {
+        allowed,
+        signed: true,
+    };
+    assert_eq!(
+        check(&board, policy, ALL).unwrap(),
+        "unsigned conf-1\nunsigned conf-2\n"
+    );
+    let found = concerns(&board, policy, ALL).unwrap();
+    let [Concern::Unsigned {
+        configuration: Some(one),
+        ..
+    }, Concern::Unsigned {
+        configuration: Some(other),
+        ..
+    }] = &found[..]
+    else {
+        panic!("{found:?}");
+    };
+    assert_eq!((&one[..], &other[..]), (&b"conf-1"[..], &b"conf-2"[..]));
+    let found = concerns(&kernel, policy, ALL).unwrap();
+    let [Concern::Unsigned {
+        configuration: None,
+        ..
+    }] = &found[..]
+    else {
+        panic!("{found:?}");
+    };
     let offset = Fit::read(&board, ALL)
         .unwrap()
         .image(b"fdt-1")
@@ -299,6 +345,54 @@ fn concerns_about_files() {
         concerns(b"", Concerns::default(), ALL),
         Err(refusal(Cause::Truncated, 0, 1))
     );
+}
+
+#[test]
+fn names_are_bytes_or_text() {
+    let file = example("board.itb");
+    let fit = Fit::read(&file, ALL).unwrap();
+    assert_eq!(fit.image("fdt-1"), fit.image(b"fdt-1"));
+    assert_eq!(
+        fit.configuration(String::from("conf-2")).unwrap().name,
+        b"conf-2"
+    );
+    assert_eq!(
+        fit.property("/images/fdt-1", b"type"),
+        Ok(&b"flat_dt\0"[..])
+    );
+    assert_eq!(fit.children("/images"), fit.children(b"/images"));
+    assert_eq!(
+        fit.properties(Vec::from("/images/fdt-1")).unwrap()[0].name,
+        b"description"
+    );
+    let normal = normalise(&file, Form::External, ALL).unwrap();
+    assert_eq!(same_meaning(normal.as_ref(), &file, ALL), Ok(true));
+    assert_eq!(Vec::from(normal.clone()), normal.image);
+}
+
+#[test]
+fn words() {
+    assert_eq!(
+        format!("{:>4} {} {}", Kind::Fit, Kind::Legacy, Key::Loadables),
+        " fit legacy loadables"
+    );
+    let verdicts = [
+        Verdict::Good,
+        Verdict::Bad,
+        Verdict::UnknownAlgorithm,
+        Verdict::NoPayload,
+        Verdict::Malformed,
+    ];
+    assert_eq!(
+        verdicts.map(|verdict| verdict.to_string()).join(" "),
+        "good bad unknown-algorithm no-payload malformed"
+    );
+    let Err(Error::Refused(refused)) = kind(b"") else {
+        panic!();
+    };
+    let error: Box<dyn std::error::Error> = Box::new(refused);
+    assert_eq!(error.to_string(), "Truncated at 0");
+    assert_eq!(Error::from(refused).to_string(), "Truncated at 0");
 }
 
 #[test]

@@ -10,14 +10,16 @@ from vectors import LEGACY_MAGIC, Run
 
 # Each command that reads an image and needs no option, and some with options.
 COMMANDS = (
-    *sorted(set(reference.COMMANDS) - {"compare", "update", "extract", "build-legacy", "build-fit"}),
+    *sorted(set(reference.COMMANDS) - {"compare", "update", "get", "extract", "build-legacy", "build-fit"}),
     "normalise --external", "normalise --limit 200", "normalise --external --limit 300",
     "extract --part 0", "extract --image a", "extract --config conf-1", "extract --default", "describe --limit 400",
-    "check --limit 200", "check --allow unhashed,trailing", "update --time 5", "update --time 5 --limit 200",
+    "check --limit 200", "check --allow unhashed,trailing", "check --signed", "check --signed --json --limit 500",
+    "update --time 5", "update --time 5 --limit 200",
     "update --hashes", "update --hashes --external --limit 400", "update --hashes --time 0x10 --external",
     "scan --limit 200", "list --offset 1", "check --offset 64 --limit 500", "normalise --offset 0x40", "list --json --offset 73",
     "list --json", "verify --json", "describe --json", "describe --json --limit 400", "check --json", "check --json --allow unhashed",
     "show --layout", "show --layout --limit 200",
+    "get - time", "get - / description", "get --as number - /images/a load", "get --as text - /images/a type /configurations default",
     "normalise --external --align 8", "normalise --external --align 64 --limit 500", "update --hashes --external --align 16",
     "update --time 5 --external --align 0x100 --limit 800",
 )

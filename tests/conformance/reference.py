@@ -52,7 +52,11 @@ DIGESTS = {
 }
 VERDICTS = ("good", "bad", "unknown-algorithm", "no-payload", "malformed")
 STRONG = (b"sha256", b"sha384", b"sha512")
-CONCERNS = ("bad-hash", "unhashed", "weak-hash", "bad-list", "missing", "bad-default", "trailing")
+CONCERNS = (
+    "bad-hash", "skipped-hash", "unhashed", "weak-hash", "bad-list", "missing", "unsigned", "no-nodes", "no-images", "uncovered",
+    "foreign", "strings", "unit-address", "bad-default", "trailing")
+# The properties of a configuration that name no image.
+NO_REFERENCES = (b"description", b"compatible", b"default")
 # How many fields of a line of a description are its key; those of a line of another kind is its first.
 FIELDS_OF_KEY = {"property": 3, "node": 2, "payload": 2, "part": 2, "reservation": 3}
 
@@ -146,11 +150,14 @@ class Legacy:
     def meaning(self):
         return self.time, self.load, self.entry, self.codes, self.name, self.payloads()
 
-    def scan_word(self):
-        return shown(self.name)
+    def scan_member(self):
+        return {"name": shown(self.name)}
 
     def check_payloads(self, limit):
         """The parts are never longer than a limit that the file is within."""
+
+    def check_paths(self, limit):
+        """A legacy image has no signatures."""
 
 
 def legacy_text(time, load, entry, codes, name, parts, limit):
@@ -367,8 +374,8 @@ class Fit:
     def payloads(self):
         return [payload for _, payload, _, _ in self.images]
 
-    def scan_word(self):
-        return str(len(self.images))
+    def scan_member(self):
+        return {"images": len(self.images)}
 
     def check_payloads(self, limit):
         """Refuses payloads that together are longer than the limit. Each image counts, also where several share bytes."""
@@ -393,9 +400,80 @@ class Fit:
                 name = algo.split(b"\0")[0] if algo is not None and b"\0" in algo else None
                 yield child, name, judged(name, value, payload), value
 
+    def needed(self, configuration):
+        """What a signature of a configuration must cover: the path of each node with those below it that are needed together with it."""
+        images, names = {node.name: node for node, _, _, _ in self.images}, []
+        for name, value in sorted(configuration.properties.items()):
+            if name not in NO_REFERENCES:
+                names += [one for one in names_of(value) or [] if one in images]
+        yield path_of(), []
+        yield path_of(b"configurations", configuration.name), []
+        for name in dict.fromkeys(names):
+            covered = [child.name for child in images[name].children if child.name.startswith(b"hash")]
+            covered += [b"cipher"] * bool(images[name].child(b"cipher"))
+            yield path_of(b"images", name), [path_of(b"images", name, child) for child in covered]
+
+    def check_paths(self, limit):
+        """Refuses paths that together are longer than the limit: for each signed node those that it must cover."""
+        length = 0
+        for configuration in self.configurations.children:
+            paths = [path for node, below in self.needed(configuration) for path in (node, *below)]
+            length += len(signed_nodes(configuration)) * sum(map(len, paths))
+        if length > limit:
+            refuse("TooLarge", limit)
+
+    def nodes(self):
+        """Each node with the names on its path, a node before those below it."""
+        def below(node, names):
+            yield node, names
+            for child in node.children:
+                yield from below(child, (*names, child.name))
+        return below(self.blob.root, ())
+
+    def strings_end(self, recorded):
+        """Where the last name ends of the properties of the nodes with these paths. Those that give payloads do not count."""
+        places = [
+            (name, place) for node, names in self.nodes() if path_of(*names) in recorded
+            for name, place in node.places.items() if name not in PLACES]
+        return max((cell_at(self.blob.file, place + 8) + len(name) + 1 for name, place in places), default=0)
+
+    def signature_concerns(self, configuration, signature):
+        """The concerns about a signed node: the kind of each, and a path."""
+        recorded = names_of(signature.properties.get(b"hashed-nodes", b""))
+        if recorded is None:
+            return [("no-nodes",)]
+        parts = list(self.needed(configuration))
+        found = [("no-images",)] if len(parts) == 2 else []
+        found += [("uncovered", node) for node, below in parts if not {node, *below} <= set(recorded)]
+        needed = {path for node, below in parts for path in (node, *below)}
+        found += [("foreign", path) for path in dict.fromkeys(recorded) if path not in needed]
+        strings = signature.properties.get(b"hashed-strings", b"")
+        if len(strings) != 8 or cell_at(strings, 4) < self.strings_end(recorded):
+            found.append(("strings",))
+        return found
+
     def signatures(self):
         nodes = [node for node, _, _, _ in self.images] + self.configurations.children
         return sum(child.name.startswith(b"signature") for node in nodes for child in node.children)
+
+
+def names_of(value):
+    """The names that a value lists, or None if it is no list of names."""
+    return value[:-1].split(b"\0") if value.endswith(b"\0") else None
+
+
+def path_of(*names):
+    return b"".join(b"/" + name for name in names) or b"/"
+
+
+def signed_nodes(configuration):
+    return [child for child in configuration.children if child.name.startswith(b"signature") and child.properties.get(b"value")]
+
+
+def is_skipped(hash):
+    """Whether U-Boot skips a hash node."""
+    value = hash.properties.get(b"uboot-ignore", b"")
+    return len(value) == 4 and any(value)
 
 
 def fit_text(cpu, reservations, root, payloads, options):
@@ -553,8 +631,7 @@ def reservation_objects(fit):
 def fit_listing_object(fit):
     images = []
     for node, payload, given, place in fit.images:
-        placed = None if payload is None else {"property": given.decode(), "offset": place, "size": len(payload)}
-        images.append({"name": shown(node.name), "payload": placed})
+        images.append({"name": shown(node.name), "payload": place_object(payload, given, place)})
     configurations = [
         {"name": shown(node.name), "keys": [key_object(fit, node, key) for key in KEYS if key.encode() in node.properties]}
         for node in fit.configurations.children
@@ -563,6 +640,10 @@ def fit_listing_object(fit):
         "kind": "fit", "boot_cpu": fit.blob.cpu, "total_size": fit.blob.total, "reservations": reservation_objects(fit),
         "images": images, "configurations": configurations, "default": name_or_null(fit.default()),
     }
+
+
+def place_object(payload, given, place):
+    return None if payload is None else {"property": given.decode(), "offset": place, "size": len(payload)}
 
 
 def key_object(fit, configuration, key):
@@ -654,6 +735,48 @@ def extract(file, options):
     if found[0] is None:
         raise Refused("no payload")
     return found[0]
+
+
+def get(file, options):
+    image = read(file, options["limit"])
+    return b"".join(value_of(image, place, options.get("as")) for place in options["places"])
+
+
+def value_of(image, place, form):
+    """What is written for a place: a field, or the path of a node and the name of a property."""
+    if isinstance(image, Legacy) != (len(place) == 1):
+        raise Refused("the selection does not fit this kind of image")
+    return field_value(image, *place, form) if len(place) == 1 else property_value(image, *place, form)
+
+
+def field_value(image, field, form):
+    size = 1 if field in FIELDS else 4
+    value = image.name if field == "name" else image.codes[field] if size == 1 else getattr(image, field)
+    if form == "number" and field == "name":
+        raise Refused("no number name")
+    if form == "number":
+        return text_of([f"0x{value:0{2 * size}x}"])
+    if form == "raw":
+        return value if field == "name" else value.to_bytes(size, "big")
+    return text_of([dict(line.split(" ", 1) for line in fields_of(image))[field]])
+
+
+def property_value(fit, path, name, form):
+    node = fit.blob.root
+    for step in path[1:].split("/") if path != "/" else []:
+        node = next((child for child in node.children if shown(child.name) == step), Node(b""))
+    value = {shown(known): value for known, value in fit.properties(node)}.get(name)
+    if value is None:
+        raise Refused(f"no such property {path} {name}")
+    if form == "text" and not is_texts(value):
+        raise Refused(f"no text {path} {name}")
+    if form == "number" and len(value) not in (4, 8):
+        raise Refused(f"no number {path} {name}")
+    if form == "text":
+        return value.replace(b"\0", b"\n")
+    if form == "number":
+        return text_of([f"0x{value.hex()}"])
+    return value if form == "raw" else text_of([" ".join(value_text(value))])
 
 
 def configured(fit, options):
@@ -796,9 +919,13 @@ def describe_fit(fit):
 
 def value_text(value):
     """The text of a value in a list, which is empty if the value is."""
-    if re.fullmatch(rb"([\x20-\x7e]+\0)+", value):
+    if is_texts(value):
         return [quoted(text) for text in value[:-1].split(b"\0")]
     return ["0x" + value.hex()] if value else []
+
+
+def is_texts(value):
+    return re.fullmatch(rb"([\x20-\x7e]+\0)+", value) is not None
 
 
 def compare(files, options):
@@ -857,7 +984,8 @@ def differences(lines, others):
 def check(file, options):
     image = read(file, options["limit"])
     image.check_payloads(options["limit"])
-    concerns = [concern for concern in concerns_of(image) if concern["concern"] not in options.get("allow", [])]
+    image.check_paths(options["limit"])
+    concerns = [concern for concern in concerns_of(image, options["signed"]) if concern["concern"] not in options.get("allow", [])]
     output = json_of({"concerns": concerns}) if options["json"] else text_of(map(concern_line, concerns))
     return int(bool(concerns)), output, b""
 
@@ -870,22 +998,26 @@ def concern_line(concern):
     return " ".join(words)
 
 
-def concerns_of(image):
+def concerns_of(image, signed=False):
     if isinstance(image, Fit):
-        yield from concerns_of_fit(image)
+        yield from concerns_of_fit(image, signed)
+    elif signed:
+        yield {"concern": "unsigned", "configuration": None}
     if image.after.strip(b"\0"):
         yield {"concern": "trailing", "size": len(image.after)}
 
 
-def concerns_of_fit(fit):
+def concerns_of_fit(fit, signed):
     """The concerns about the images and the configurations."""
     for node, payload, _, _ in fit.images:
         good = []
         for child, name, found, _ in fit.verdicts(node, payload):
-            if found == "good":
-                good.append(name)
-            else:
+            if found != "good":
                 yield {"concern": "bad-hash"} | hash_object(node, child, name, found)
+            if is_skipped(child):
+                yield {"concern": "skipped-hash", "image": shown(node.name), "node": shown(child.name)}
+            elif found == "good":
+                good.append(name)
         if payload is not None and not good:
             yield {"concern": "unhashed", "image": shown(node.name)}
         elif payload is not None and not set(good) & set(STRONG):
@@ -898,6 +1030,19 @@ def concerns_of_fit(fit):
             elif reason:
                 index = int(reason.removeprefix("missing image "))
                 yield {"concern": "missing", "configuration": shown(node.name), "key": key, "index": index}
+    if signed and not fit.configurations.children:
+        yield {"concern": "unsigned", "configuration": None}
+    for node in fit.configurations.children:
+        if signed and not signed_nodes(node):
+            yield {"concern": "unsigned", "configuration": shown(node.name)}
+        for signature in signed_nodes(node):
+            for kind, *path in fit.signature_concerns(node, signature):
+                concern = {"concern": kind, "configuration": shown(node.name), "signature": shown(signature.name)}
+                yield concern | {"path": shown(one) for one in path}
+    if any(map(signed_nodes, fit.configurations.children)):
+        for node, names in fit.nodes():
+            if b"@" in node.name:
+                yield {"concern": "unit-address", "path": "".join(f"/{shown(name)}" for name in names)}
     name = fit.default()
     if fit.configurations.children and not fit.configurations.child(name):
         yield {"concern": "bad-default", "default": name_or_null(name)}
@@ -909,6 +1054,9 @@ def concerns_of_fit(fit):
 def show(file, options):
     image = read(file, options["limit"])
     image.check_payloads(options["limit"])
+    image.check_paths(options["limit"])
+    if options["json"]:
+        return json_of(shown_legacy_object(image) if isinstance(image, Legacy) else shown_fit_object(image))
     tables = list(tables_of_legacy(image, file) if isinstance(image, Legacy) else tables_of_fit(image, file))
     if options["layout"]:
         tables.append(layout(image, file))
@@ -925,9 +1073,13 @@ def table_text(rows):
     return "\n".join([*lines, "", ""])
 
 
+def shown_code(image, field):
+    """The name of a code, among all that `show` has, or the code itself."""
+    return (CODES[field] | MORE_CODES[field]).get(image.codes[field], image.codes[field])
+
+
 def tables_of_legacy(image, file):
-    names = {field: CODES[field] | MORE_CODES[field] for field in FIELDS}
-    codes = [(field, names[field].get(image.codes[field], str(image.codes[field]))) for field in ("type", "os", "arch", "compression")]
+    codes = [(field, str(shown_code(image, field))) for field in ("type", "os", "arch", "compression")]
     yield [
         ("kind", "legacy image"), ("name", text_cell(image.name)), ("date", date_of(image.time)), ("size", f"{len(file)} bytes"), *codes,
         ("load", f"0x{image.load:08x}"), ("entry", f"0x{image.entry:08x}"), ("header crc32", "good"), ("data crc32", "good")]
@@ -949,13 +1101,24 @@ def tables_of_fit(fit, file):
     yield [("configuration", *keys, "compatible"), *rows]
     parents = [("images", [image[0] for image in fit.images]), ("configurations", nodes)]
     signed = [(parent, node, child) for parent, nodes in parents for node in nodes for child in node.children]
-    yield [("signature", "algorithm", "key", "verdict"), *[
-        (f"/{parent}/{shown(node.name)}/{shown(child.name)}", cell_of(child, "algo"), cell_of(child, "key-name-hint"), "not verified")
+    yield [("signature", "algorithm", "key", "verdict", "covers"), *[
+        (f"/{parent}/{shown(node.name)}/{shown(child.name)}", cell_of(child, "algo"), cell_of(child, "key-name-hint"), "not verified",
+            coverage_cell(fit, parent, node, child))
         for parent, node, child in signed if child.name.startswith(b"signature")]]
 
 
+def coverage_cell(fit, parent, node, signature):
+    """What a signature node covers, if it is valid."""
+    if not signature.properties.get(b"value"):
+        return "nothing"
+    if parent == "images":
+        return "payload"
+    return "not the whole configuration" if fit.signature_concerns(node, signature) else "whole configuration"
+
+
 def row_of_image(fit, node, payload, _, place):
-    hashes = [f"{name_or_hyphen(name)}:{found}" for _, name, found, _ in fit.verdicts(node, payload)]
+    marks = {True: ":skipped", False: ""}
+    hashes = [f"{name_or_hyphen(name)}:{found}{marks[is_skipped(child)]}" for child, name, found, _ in fit.verdicts(node, payload)]
     words = [cell_of(node, name) for name in ("type", "os", "arch", "compression")]
     placed = ("-", "-") if payload is None else (str(len(payload)), str(place))
     return (shown(node.name), *words, *placed, cell_of(node, "load", address_cell), cell_of(node, "entry", address_cell),
@@ -1005,6 +1168,73 @@ def names_cell(value):
 
 def time_cell(value):
     return date_of(cell_at(value, 0)) if len(value) == 4 else value_cell(value)
+
+
+# The page as JSON.
+
+
+def shown_legacy_object(image):
+    codes = {field: shown_code(image, field) for field in FIELDS}
+    return legacy_listing_object(image) | codes | {"concerns": list(concerns_of(image))}
+
+
+def shown_fit_object(fit):
+    root = fit.blob.root
+    return {
+        "kind": "fit", "description": text_or_null(root, "description"), "timestamp": number_or_null(root, "timestamp"),
+        "total_size": fit.blob.total, "boot_cpu": fit.blob.cpu, "default": name_or_null(fit.default()),
+        "reservations": reservation_objects(fit), "images": [shown_image_object(fit, *image) for image in fit.images],
+        "configurations": [shown_configuration_object(fit, node) for node in fit.configurations.children],
+        "concerns": list(concerns_of(fit)),
+    }
+
+
+def shown_image_object(fit, node, payload, given, place):
+    hashes = [
+        {"node": shown(child.name), "algorithm": name_or_null(name), "verdict": found, "skipped": is_skipped(child)}
+        for child, name, found, _ in fit.verdicts(node, payload)
+    ]
+    texts = {name: text_or_null(node, name) for name in ("description", "type", "os", "arch", "compression")}
+    numbers = {name: number_or_null(node, name) for name in ("load", "entry")}
+    return {"name": shown(node.name), **texts, **numbers, "payload": place_object(payload, given, place), "hashes": hashes}
+
+
+def shown_configuration_object(fit, node):
+    signatures = [
+        {
+            "node": shown(child.name), "algorithm": name_or_null(before_nul(child.properties.get(b"algo"))),
+            "key": name_or_null(before_nul(child.properties.get(b"key-name-hint"))), "covered": not fit.signature_concerns(node, child),
+        }
+        for child in signed_nodes(node)
+    ]
+    return {
+        "name": shown(node.name), "description": text_or_null(node, "description"), "compatible": texts_in(node, "compatible"),
+        "keys": [key_object(fit, node, key) for key in KEYS if key.encode() in node.properties], "signatures": signatures,
+    }
+
+
+def before_nul(value):
+    """What is before the first zero byte of a value, if it has one."""
+    return value.split(b"\0")[0] if value and b"\0" in value else None
+
+
+def texts_in(node, name):
+    """The texts in a property, if it has nothing but texts."""
+    value = node.properties.get(name.encode(), b"")
+    return value.decode()[:-1].split("\0") if is_texts(value) else []
+
+
+def text_or_null(node, name):
+    texts = texts_in(node, name)
+    return texts[0] if len(texts) == 1 else None
+
+
+def number_or_null(node, name):
+    value = node.properties.get(name.encode(), b"")
+    return int.from_bytes(value, "big") if len(value) in (4, 8) else None
+
+
+# The layout of a file.
 
 
 def layout(image, file):
@@ -1060,12 +1290,13 @@ def scan(file, options):
     places = [at for at in range(len(file)) if file[at:at + 4] in (b"\x27\x05\x19\x56", b"\xd0\x0d\xfe\xed")]
     if sum(claim(file[at:]) for at in places) > limit:
         refuse("TooLarge", limit)
-    lines = []
+    images = []
     for at in places:
         with contextlib.suppress(Refused):
             image = read(file[at:], limit)
-            lines.append(f"{at} {image.kind} {image.extent} {image.scan_word()}")
-    return int(not lines), text_of(lines), b""
+            images.append({"offset": at, "kind": image.kind, "size": image.extent, **image.scan_member()})
+    lines = [" ".join(map(str, image.values())) for image in images]
+    return int(not images), json_of({"images": images}) if options["json"] else text_of(lines), b""
 
 
 def convert(file, options):
@@ -1221,6 +1452,31 @@ def name_of(text, is_escaped):
     return name
 
 
+def form_of(text):
+    if text not in ("text", "number", "raw"):
+        raise Refused("usage: bad value")
+    return text
+
+
+def places_of(words, form):
+    """The places that the words name: fields, or pairs of the path of a node and the name of a property."""
+    places, words = [], list(words)
+    while words:
+        word = words.pop(0)
+        is_path = word.startswith("/")
+        if not is_path and word not in ("name", "time", "load", "entry", *FIELDS) or is_path and not words:
+            raise Refused("usage: bad value")
+        steps = [name_of(step, True) for step in word[1:].split("/")] if is_path and word != "/" else []
+        place = (word, words.pop(0)) if is_path else (word,)
+        names = steps + [name_of(name, True) for name in place[1:]]
+        if len(steps) > 63 or not all(names) or b"\0" in b"".join(names) or b"/" in b"".join(steps):
+            raise Refused("usage: bad value")
+        places.append(place)
+    if form == "raw" and len(places) > 1:
+        raise Refused("usage: bad value")
+    return places
+
+
 def length_of(text):
     """The length of a part, or the name of its file."""
     return text[1:] if text.startswith("@") else number(text)
@@ -1261,10 +1517,11 @@ COMMANDS = {
     "describe": (of_image(describe), {"json": FLAG, **OFFSET}),
     "compare": (compare, {"quiet": FLAG, "json": FLAG}),
     "verify": (of_image(verify), {"json": FLAG, **OFFSET}),
-    "check": (of_image(check), {"allow": (kinds, ()), "json": FLAG, **OFFSET}),
-    "show": (of_image(show), {"layout": FLAG}),
-    "scan": (of_image(scan), {}),
+    "check": (of_image(check), {"allow": (kinds, ()), "signed": FLAG, "json": FLAG, **OFFSET}),
+    "show": (of_image(show), {"layout": FLAG, "json": FLAG, **OFFSET}),
+    "scan": (of_image(scan), {"json": FLAG, **OFFSET}),
     "update": (of_image(update), {"time": (number, ()), "hashes": FLAG, **EXTERNAL, **OFFSET}),
+    "get": (of_image(get), {"as": (form_of, ()), **OFFSET}),
     "extract": (of_image(extract), {
         "part": (number, ()), "image": (str, ()), "config": (str, ()), "default": FLAG, "key": (key, "kernel"), "index": (number, "0"),
         "escaped": FLAG, **OFFSET}),
@@ -1297,7 +1554,9 @@ def split_arguments(name, options, arguments):
                 raise Unusable(f"no value for {word}")
             text = arguments.pop(0)
         given[option] = given.get(option, []) + [text] if is_repeated else text
-    if name == "compare" and len(words) != 2 or len(words) > 1 and not name.startswith(("build-", "compare")):
+    if name == "compare" and len(words) != 2 or name == "get" and len(words) < 2:
+        raise Unusable("wrong number of arguments")
+    if len(words) > 1 and not name.startswith(("build-", "compare", "get")):
         raise Unusable("wrong number of arguments")
     return given, words
 
@@ -1326,9 +1585,13 @@ def parse(arguments):
             values[option] = how[0](given.get(option, how[1]))
     if "align" in values and not values["external"]:
         raise Refused("usage: bad value")
+    if name == "show" and values["json"] and values["layout"]:
+        raise Refused("usage: bad value")
     if name == "extract":
         for option in {"image", "config"} & set(values):
             values[option] = name_of(values[option], values["escaped"])
+    if name == "get":
+        values["places"] = places_of(words[1:], values.get("as"))
     if name == "build-legacy":
         values["words"] = [length_of(word) for word in words]
     if name == "build-fit":

@@ -8,8 +8,8 @@ root=$(cd "$(dirname "$0")/../.." && pwd)
 . "$root/tests/setup"
 
 need python3 python3
-passes python3 "$root/tests/fast/build_times.py" "$root"
 work_in_new_directory
+passes python3 "$root/tests/fast/build_times.py" "$root"
 copy_here crates.txt scripts/estimate.py tests/fast/build_times
 sed -i 's/^MOST_CREDIT = .*/MOST_CREDIT = 0/' copy/scripts/estimate.py
 check "an estimate that counts nothing of the crates that are being proved is found" sh -c 'python3 "$1" copy |

@@ -4,7 +4,8 @@ if there is one. `english.py ROOT --counts` prints how often each pattern is the
 - README.md has at most 150 lines and 1,200 words;
 - no line of a document, of the header for C, of the module for Python or of the manual page has more than 100 columns;
 - a page of more than 2,000 words has a table of contents: a link to each of its headings of the second level, before the first of them;
-- patterns that read as translated are rare in the prose of all of these together, which is without code and code spans.
+- patterns that read as translated are rare in the prose of all of these together, which is without code and code spans;
+- words that are frequent in translated texts are not too frequent in it.
 """
 
 import glob
@@ -97,8 +98,8 @@ def counts(root, paths):
         yield pattern, most, better, {path: count for path, count in found.items() if count}
 
 
-# Words that are frequent in texts that read as translated, and how often they may be there: twice as often as in git's manual pages. They
-# are only counted.
+# Words that are frequent in texts that read as translated, and how often they may be there for 1,000 words: twice as often as in git's
+# manual pages.
 FREQUENT = [
     (r"\b(?:has|have)\b", 5.6, "contains, gives, an active verb"),
     (r"\beach\b", 2.2, "the plural, every"),
@@ -119,6 +120,9 @@ def wrong_words(root):
         if sum(found.values()) > most:
             places = ", ".join(f"{path} {count}" for path, count in found.items())
             yield f"'{pattern}' is there {sum(found.values())} times, and {most} are allowed (write: {better}): {places}"
+    for pattern, most, better, rate in rates(root, documents(root) + others(root)):
+        if rate > most:
+            yield f"'{pattern}' is there {rate:.1f} times in 1,000 words, and {most} are allowed (write: {better})"
 
 
 def main(root, *words):

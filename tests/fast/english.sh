@@ -1,7 +1,7 @@
 #!/bin/sh
 # Checks the form and the English of the documents, the header, the module for Python and the manual page: lengths, columns, tables of
-# contents, and patterns that must be rare. tests/fast/english.py does this. Then breaks each rule in a copy, and shows that this is
-# found. It needs python3, and installs Debian's if it is missing and the script runs as root.
+# contents, patterns that must be rare, and words that must not be frequent. tests/fast/english.py does this. Then breaks each rule in a
+# copy, and shows that this is found. It needs python3, and installs Debian's if it is missing and the script runs as root.
 set -u
 
 root=$(cd "$(dirname "$0")/../.." && pwd)
@@ -37,6 +37,8 @@ other byte' "'every other byte' is there 1 times"
 check "a word of the header is found" is_found include/bootimg.h 's/mean the same thing/mean the same/' "'means? the same"
 check "a word of the module is found" is_found python/bootimg/__init__.py 's/mean the same thing/mean the same/' "'means? the same"
 check "a word of the manual page is found" is_found man/bootimg.1 's/they mean the same thing/they mean the same/' "'means? the same"
+check "a word that is too frequent is found" is_found docs/FAQ.md "\$a $(seq -f 'each %g' 200 | paste -sd ' ')" "'.beach.b' is there [3-9]"
+check "other frequent words are found" is_found docs/FAQ.md "\$a $(seq -f 'those of %g' 50 | paste -sd ' ')" "'.b(?:that|those) of.b' is there"
 check "code is not read as prose" sh -c '
     printf "\140every other byte\140\n" >> copy/docs/FAQ.md
     python3 "$1/tests/fast/english.py" copy' sh "$root"

@@ -14,8 +14,8 @@ Each function that a library exports, and each of its labels, has to be in a row
 a docstring. A wrong definition, in tests/prover/wrong_definitions.md, has the item `Refused by:`, and each function that this names is a
 public one of the crate. Each item of
 both lists has these items and no other. In docs/PROMISES.md the reading order names the files of definitions that the contract of
-`normalise` leads to, and no other, and each line of the blocks of code with a contract or a definition is in the sources, and so is the one
-of README.md.
+`normalise` leads to, and no other, each function that a library exports and that requires something is named, and each line of the blocks
+of code with a contract or a definition is in the sources, and so is the one of README.md.
 
 promises.py ROOT --definitions: prints each definition of specs/, with the comment before it.
 """
@@ -105,6 +105,7 @@ class Crate:
         self.members = {}  # type or trait: [(what names mean, text of its ghost members)]
         self.exported = set()  # the keys of those functions that a library exports
         self.documented = set()  # the keys of those functions that have a docstring
+        self.required = set()  # the keys of those functions that have a `requires`
         self.definitions = {}  # (module, name): (what names mean, text, comment)
         self.read_exports()
         for path, module in files_of(root, name, "src"):
@@ -130,7 +131,8 @@ class Crate:
         for match in FUNCTION.finditer(source):
             inside = [block for block in blocks if block[0] < match.start() < block[1]]
             owner, of_trait = (inside[0][2], inside[0][4]) if inside else ("", False)
-            clauses = {label: (uses, text) for kind, label, text in clauses_after(source, match.end()) if kind == "ensures"}
+            found = list(clauses_after(source, match.end()))
+            clauses = {label: (uses, text) for kind, label, text in found if kind == "ensures"}
             if not (clauses or of_trait) or not (of_trait or match["pub"] == "pub "):
                 continue
             key = module, owner, match["name"]
@@ -141,6 +143,8 @@ class Crate:
             in_public_module = module.split(".")[0] in self.public_modules
             if clauses and (match["export"] or (owner or match["name"]) in self.public_names or in_public_module):
                 self.exported.add(key)
+            if any(kind == "requires" for kind, _, _ in found):
+                self.required.add(key)
 
     def read_definitions(self, path, module):
         text = without_mutual(read(path))
@@ -276,6 +280,17 @@ def check_reading_order(crates, text):
         yield f"the reading order {'lacks' if (crate, module) in found else 'has'} crates/{crate}/specs/{module}.antt"
 
 
+def check_requirements(crates, text):
+    """Yields the calls that a library exports and that require something, but that the page does not name."""
+    section = re.search(r"^## What a caller must meet\n.*?^(?=Three more)", text, re.M | re.S)[0]
+    named = set(re.findall(r"`([\w:]+)`", section))
+    for crate in crates.values():
+        for _, owner, name in sorted(crate.required & crate.exported):
+            function = "::".join([owner] * bool(owner) + [name])
+            if function not in named:
+                yield f"it does not say what `{function}` of {crate.name} requires"
+
+
 def check_quotes(crates, text, count):
     """Yields the lines of a contract or a definition that the page quotes and the sources do not have, if it does not quote this many."""
     blocks = re.findall(r"^```(rust|text)\n(.*?)^```$", text, re.M | re.S)
@@ -300,6 +315,7 @@ def check(root):
     for number, crate, cells in rows_of(read(f"{root}/tests/prover/wrong_definitions.md"), WRONG):
         wrong += [f"tests/prover/wrong_definitions.md:{number}: {reason}" for reason in check_wrong_row(crates, crate, cells)]
     wrong += [f"docs/PROMISES.md: {reason}" for reason in [*check_reading_order(crates, page), *check_quotes(crates, page, 2)]]
+    wrong += [f"docs/PROMISES.md: {reason}" for reason in check_requirements(crates, page)]
     wrong += [f"README.md: {reason}" for reason in check_quotes(crates, read(f"{root}/README.md"), 1)]
     for crate in crates.values():
         for key in sorted(crate.exported):

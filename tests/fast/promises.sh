@@ -1,7 +1,8 @@
 #!/bin/sh
 # Checks docs/dev/PROMISE_TABLES.md: each function, clause and definition that a row names is in the sources, the clauses of a row lead to its
 # definitions, and each function that a library exports is in a row, with each of its clauses. Checks docs/PROMISES.md: the reading order
-# names the files of definitions that the contract of `normalise` leads to, and the claim is quoted there and in README.md as it is in the sources.
+# names the files of definitions that the contract of `normalise` leads to, the calls that require something are named, and the claim is
+# quoted there and in README.md as it is in the sources.
 # tests/fast/promises.py does this. Then breaks a page, a contract or a definition in a copy, in each way in turn, and shows that this is
 # found. The script needs no prover. It needs python3, and installs Debian's if it is missing and the script runs as root.
 #
@@ -72,6 +73,8 @@ check "a file that the reading order lacks is found" \
     is_found docs/PROMISES.md '`Strings.antt`: the bytes' 'The bytes' 'the reading order lacks crates/bi_base/specs/Strings.antt'
 check "a file that it has for no reason is found" \
     is_found docs/PROMISES.md '`Crc.antt`' '`Crc.antt` and `CrcTables.antt`' 'the reading order has crates/bi_base/specs/CrcTables.antt'
+check "a call that requires something and is not named is found" \
+    is_found docs/PROMISES.md '`Tree::new`' 'A new tree' 'it does not say what `Tree::new` of bi_tree requires'
 check "a definition that is quoted wrongly is found" \
     is_found docs/PROMISES.md '(normal_text form other ≡ text)' '(normal_text form other ≡ file)' 'this line is not in the sources: → (normal'
 check "a claim of README that is quoted wrongly is found" \

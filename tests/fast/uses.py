@@ -1,6 +1,6 @@
 """Prints each `use` line of the crates of a workspace that names what its file may not cite, and fails if there is one.
 
-uses.py ROOT: ROOT/crates.txt names the crates, which are in ROOT/crates. docs/dev/DECISIONS.md states the rule:
+uses.py ROOT: ROOT/crates.txt names the crates, which are in ROOT/crates. docs/dev/PROOFS.md states the rule:
 
 - sources and specs/ cite no lemma of the workspace, so no module of proofs/;
 - of another crate a file cites no private type, no module of specs/ that uses a private type of its crate, no proof of a function,

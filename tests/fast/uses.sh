@@ -1,6 +1,6 @@
 #!/bin/sh
 # Reads the `use` lines of all sources, definitions and proofs, and checks that each file cites only what it may of its own crate and
-# of the crates below: docs/dev/DECISIONS.md states the rule, and tests/fast/uses.py checks it. Then breaks the rule in a copy of the crates, in
+# of the crates below: docs/dev/PROOFS.md states the rule, and tests/fast/uses.py checks it. Then breaks the rule in a copy of the crates, in
 # each way in turn, and shows that this is found. The script needs no prover. It needs python3, and installs Debian's if it is missing
 # and the script runs as root.
 set -u

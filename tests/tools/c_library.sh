@@ -5,9 +5,9 @@
 # vectors of tests/conformance, it and the module do what the program does. The module takes files in any buffer, without a copy
 # (tests/tools/c_library/buffers.py), what `bootimg.open` returns is what the vectors say (tests/tools/c_library/objects.py), and what the
 # calls for C that take images apart return is the same (tests/tools/c_library/structure.c). mypy finds nothing wrong in its types. The
-# programs in docs/LIBRARY.md print what the document shows; that in Rust is left out without cargo. The script needs gcc, g++, clang, nm,
-# pkg-config and python3, and installs Debian's if one is missing and it runs as root, and so it does mypy, without which it leaves out the
-# types.
+# programs in docs/LIBRARY.md print what the document shows, of FITs of 8 MiB; that in Rust is left out without cargo. The script needs gcc,
+# g++, clang, nm, pkg-config, python3, mkimage and dtc, and installs Debian's if one is missing and it runs as root, and so it does mypy,
+# without which it leaves out the types.
 set -u
 
 root=$(cd "$(dirname "$0")/../.." && pwd)
@@ -25,6 +25,8 @@ need clang clang clang++
 need binutils nm
 need python3 python3
 need pkg-config pkg-config
+need u-boot-tools mkimage
+need device-tree-compiler dtc
 need_program
 need_c_library
 work_in_new_directory
@@ -79,7 +81,8 @@ check "another limit is found" is_found "BOOTIMG_LIMIT 0x7fffffffu" "BOOTIMG_LIM
 check "a constant that the library has not is found" is_found "#define BOOTIMG_FDT 1u" "&\\n#define BOOTIMG_TEE 6u"
 check "another version is found" is_found 'BOOTIMG_VERSION "0' 'BOOTIMG_VERSION "9'
 check "exchanged keys of the module are found" is_found '"kernel", "fdt"' '"fdt", "kernel"'
-check "exchanged concerns of the module are found" is_found '"unhashed", "weak-hash"' '"weak-hash", "unhashed"'
+check "exchanged concerns of the module are found" is_found '^    "unhashed",' \
+    '    "exchanged",/; s/^    "weak-hash",/    "unhashed",/; s/^    "exchanged",/    "weak-hash",'
 check "exchanged statuses of the module are found" is_found "_OK, _REFUSED" "_REFUSED, _OK"
 check "another depth of the module is found" is_found "DEPTH = 64" "DEPTH = 63"
 check "a missing function is found" is_found "^uint32_t bootimg_kind" "int32_t bootimg_kind"
@@ -173,7 +176,7 @@ for compiler in gcc clang; do
     done
     check "$compiler: what the causes mean is what explain prints" sh -c 'for number in $(seq 26); do
         ./calls cause --number "$number" && printf ": " && ./calls sentence --number "$number" && echo || exit
-    done > output && "$1" explain | diff output -' sh "$program"
+    done > output && "$1" explain | head -n 26 | diff output -' sh "$program"
     ./calls version > output
     echo >> output
     check "$compiler: the version is that of the header" cmp output wanted
@@ -190,9 +193,18 @@ for image in "$examples"/*.itb "$examples"/*.uimage "$examples"/boot.scr; do
     check "each allocation fails in turn, $(basename "$image")" sh -c '[ "$(./memory "$1")" -gt 10 ]' sh "$image"
 done
 
-# The programs of docs/LIBRARY.md, over the library as ./install installs it: each ```c, ```python and ```rust block is run, and the ```text
-# block after it is what it prints. The one in Rattle is proved first.
+# The programs of docs/LIBRARY.md, over the library as ./install installs it: each ```c, ```python and ```rust block is run by the command
+# in the ```text block after it, which also has what it prints. The one in Rattle is proved first.
 check "the library is installed" "$root/install" --prefix "$work/installed"
+mkdir programs
+cd programs || exit 2
+check "the releases are made" "$root/tests/tools/c_library/releases.sh" "$program"
 check "the programs of docs/LIBRARY.md" python3 "$root/tests/tools/c_library/document.py" "$root/docs/LIBRARY.md" "$work/installed" \
-    "$examples/kernel.uimage" "$root/tests/tools/c_library.sh" build
+    "$root/tests/tools/c_library.sh" build
+check "what is carved out is what was there" sh -c 'cmp image-65536 "$1/kernel.uimage" && cmp image-1048576 releases/1.itb &&
+    [ "$(ls image-* | wc -l)" = 2 ]' sh "$examples"
+check "what differs is the devicetree" cmp changed-2 b.dtb
+if is_installed mypy mypy; then
+    check "the types of those in Python" env MYPYPATH="$root/python" mypy --strict --cache-dir mypy ./*.py
+fi
 finish

@@ -106,6 +106,11 @@ check "bytes that are allowed" writes '' 0 check --allow trailing,trailing "$exa
 check "a legacy image with nothing after it" writes '' 0 check "$kernel"
 "$root/bootimg" convert "$examples/two-parts.uimage" > converted.itb
 check "what is converted is protected" writes '' 0 check converted.itb
+check "what is converted is not signed" writes 'unsigned conf-1\n' 1 check --signed converted.itb
+check "a legacy image is not signed" writes 'unsigned -\n' 1 check --signed "$kernel"
+check "no signature that is allowed" writes '' 0 check --signed --allow unsigned "$kernel"
+check "a kind of concerns is explained" sh -c '"$1" explain uncovered | grep -q "^A signature of a configuration does not cover"' \
+    sh "$root/bootimg"
 check "an unknown kind" says "usage: bad value" check --allow weak-hash,good converted.itb
 check "no kind" says "usage: bad value" check --allow= converted.itb
 
@@ -187,7 +192,7 @@ for command in $commands; do
     check "help of $command has an example" prints "Example: bootimg $command" 0 "$command" --help
     case $command in
     build-*) input="from standard input, one after another" ;;
-    compare) input="standard input if it is -" ;;
+    compare | get) input="standard input if it is -" ;;
     *) input="Without IMAGE, or if it is -, standard input is read" ;;
     esac
     check "help of $command says what it reads" prints "$input" 0 "$command" --help

@@ -1,7 +1,7 @@
 #!/bin/sh
 # Compares descriptions of images that mkimage and dtc make with what other tools print: each property has the value that fdtget
 # prints, and each payload, inside the blob or after it, the size and the SHA-256 of the file that it was made of. Then tries
-# compare on the images, and two examples of README.md and of the manual page: git diff over descriptions, and a loop over a
+# compare on the images, and two examples of the manual page: git diff over descriptions, and a loop over a
 # directory. It needs Debian's u-boot-tools, device-tree-compiler, python3 and git, and installs them if one is missing and it runs
 # as root.
 set -u
@@ -187,10 +187,10 @@ echo "-payload /images/kernel-1 size 70001 sha256 $before
 +property /images/kernel-1/hash-1 value 0x$after" > wanted
 check "the differences of a changed payload" differs yesterday.itb today.itb
 
-# git diff over descriptions, set up by the two commands of README.md, which are indented there or not.
+# git diff over descriptions, set up by the two commands of the manual page.
 export GIT_CONFIG_GLOBAL=/dev/null GIT_CONFIG_SYSTEM=/dev/null
-grep -e '^ *git config diff\.' -e ' >> \.gitattributes$' "$root/README.md" > setup
-check "README.md has two commands for git" test "$(wc -l < setup)" = 2
+grep -e '^git config diff\.' -e ' >> \.gitattributes$' "$root/man/bootimg.1" > setup
+check "the manual page has two commands for git" test "$(wc -l < setup)" = 2
 mkdir repository
 cp inside.itb changed.itb repository
 cp yesterday.itb repository/board.itb

@@ -1,8 +1,9 @@
 #!/bin/sh
 # Tries --json of list, describe, verify, check and compare on the files of tests/conformance (tests/tools/json/suite.py): the status and
 # standard error are those without --json, and of the JSON the lines are made again that the command writes without it. jq and python3 read
-# the JSON and print the same bytes. tests/conformance/vectors/json.txt has the known JSON. Programs with one fault each have to fail. The
-# script needs python3 and Debian's jq, and installs them if one is missing and it runs as root.
+# the JSON and print the same bytes, but jq rounds a number of more than 15 digits. What show and scan write with --json is that of the
+# reference. tests/conformance/vectors/json.txt has the known JSON. Programs with one fault each have to fail. The script needs python3
+# and Debian's jq, and installs them if one is missing and it runs as root.
 #
 # json.sh [PROGRAM]: tries this program, and builds none.
 set -u
@@ -21,8 +22,9 @@ work_in_new_directory
 
 passes "$root/tests/conformance/run" --only 'json: ' "$program"
 passes python3 "$suite" --outputs json "$program"
-check "there is JSON of each kind" sh -c '[ "$(cut -d "\"" -f 2 json | sort -u | tr "\n" " ")" = "concerns kind same " ]'
-check "jq reads the JSON, and prints the same bytes" sh -c 'jq -c . json | cmp - json'
+check "there is JSON of each kind" sh -c '[ "$(cut -d "\"" -f 2 json | sort -u | tr "\n" " ")" = "concerns images kind same " ]'
+grep -vE ':[0-9]{16}' json > exact
+check "jq reads the JSON, and prints the same bytes" sh -c 'jq -c . exact | cmp - exact'
 
 # names_members PAGE: the page has the members of the JSON, and no others.
 names_members() {

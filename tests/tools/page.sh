@@ -53,6 +53,29 @@ refusal() {
     printf '%s%s' "$line" "$("$program" explain "${cause%% *}")"
 }
 
+# opens_two NAME IMAGE OTHER: the same with a script in the page, which chooses OTHER to be compared, and then follows the first concern.
+opens_two() {
+    python3 "$assemble" page module.wasm "$2" one.html &&
+        python3 "$root/tests/tools/page/add_script.py" one.html "$root/tests/tools/page/two_files.js" "$3" "$1.html" &&
+        chromium_on "$1.html" --dump-dom > "$1.dom" && ! grep CONSOLE errors
+}
+
+# has_text NAME ID TEXT: the text of this element of the page NAME has this text.
+has_text() {
+    python3 "$dom" text "$2" < "$1.dom" > found && grep -Fq -e "$3" found || { cat found; false; }
+}
+
+# signed: a FIT with a signature that covers only the root, and a load address that describe prints as text.
+signed() {
+    python_with_blobs -c 'import sys
+from blobs import blob_of, node
+image = node(b"k", [(b"data", b"abc"), (b"load", b"  \40\0"), (b"entry", b"\0\0\0\1\0\0\0\0")])
+signature = node(b"signature-1", [(b"value", b"abcd"), (b"hashed-nodes", b"/\0")])
+configuration = node(b"c", [(b"kernel", b"k\0")], [signature])
+lists = node(b"configurations", [(b"default", b"c\0")], [configuration])
+sys.stdout.buffer.write(blob_of(node(b"", [], [node(b"images", [], [image]), lists])))'
+}
+
 # odd_names: a flattened image tree whose images have names that look like HTML, and other bytes.
 odd_names() {
     python_with_blobs -c 'import sys
@@ -93,6 +116,24 @@ try_in_chromium() {
     head -c 1000 "$examples/kernel.uimage" > short
     check "Chromium opens the page with a file that is refused" opens refused short
     check "it shows the line of the program" shows refused refusal refusal short
+    # Another byte of the kernel.
+    cp "$examples/board.itb" bad.itb
+    printf x | dd of=bad.itb bs=1 seek=200 conv=notrunc 2> errors
+    check "Chromium opens the page with two images" opens_two two bad.itb "$examples/board.itb"
+    check "it shows the output of compare" shows two compare "$program" compare bad.itb "$examples/board.itb"
+    row='kernel-1kernel, arm64, linux, none0x800800000x80080000sha256 bad, unhashed468184Extract'
+    check "it shows load addresses, entry points and concerns" has_text two result "$row"
+    check "a bad verdict has its colour" has_text two bad '1 bad'
+    check "a good one has another" has_text two good '2 good'
+    check "a concern leads to its line" shows two status sh -c '"$0" verify bad.itb | head -n 1' "$program"
+    check "two images are equal" opens_two equal "$examples/board.itb" "$examples/board-external.itb"
+    check "it says so" has_text equal comparison "Compared with board-external.itbBoth mean the same thing."
+    check "an image that is refused is compared" opens_two compared "$examples/board.itb" short
+    check "it shows the line of the program" has_text compared comparison "Compared with shortshort: Truncated at 12"
+    signed > signed.itb
+    check "Chromium opens the page with a signed image" opens_two signed signed.itb signed.itb
+    check "it shows addresses as numbers" has_text signed result "k0x202020000x0000000100000000unhashed3"
+    check "a concern leads to a line that was not shown" shows signed status echo "node /images/k"
     odd_names > names.itb
     check "Chromium opens the page with odd names" opens names names.itb
     check "it shows them as the program prints them" shows names list "$program" list names.itb
@@ -110,7 +151,7 @@ check "no page is made of a module with imports" refuses_imports
 check "no page is made of an example that is not there" fails "page: none is not a file" page.html none
 case ${1-} in
 --screenshot)
-    chromium_on page.html --screenshot=picture.png --window-size=1040,1222 --hide-scrollbars
+    chromium_on page.html --screenshot=picture.png --window-size=1040,1690 --hide-scrollbars
     cd - > /dev/null && mv "$work/picture.png" "$2"
     exit
     ;;

@@ -161,7 +161,7 @@ check "another date is found" is_found 'mkimage-fit: show' 's/22:13:20/22:13:21/
 check "another image of a configuration is found" is_found 'converted: show' \
     's/^(conf-1 +kernel-1 +)ramdisk-1/\1ramdisk-2/' 'ramdisk of conf-1'
 check "a signature that is left out is found" is_found 'signed: show' '/^signature/,/^$/d' 'the signatures on the page'
-check "that a signature is verified is found" is_found 'signed: show' 's/not verified/verified/' 'the signatures on the page'
+check "that a signature is verified is found" is_found 'signed: show' 's/not verified/verified/' 'is wanted, not'
 check "a concern that is left out is found" is_found 'verdicts: show' '/^unhashed/d' 'the concerns on the page'
 check "no concerns instead of some are found" is_found 'hash-short: show' '/^concerns/,$d' 'is wanted, not'
 check "a region that is left out is found" is_found 'converted: show --layout' '/^strings/d' 'the end of the regions'

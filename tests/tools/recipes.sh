@@ -1,9 +1,11 @@
 #!/bin/sh
 # Runs every command in a ```console block of README.md, of examples/README.md and of the pages in docs/ but CONFORMANCE.md, whose
 # commands conformance.sh runs, from the top of the checkout, and compares what it prints with what the block shows. The commands
-# of a file share one shell. A command that ends with a backslash continues in the next line. At the end nothing is untracked in the
-# checkout that was not so before. It needs python3 and, for the examples and the tutorial, Debian's u-boot-tools, device-tree-compiler,
-# openssl, git and jq, and installs them if one is missing and it runs as root. In the locale C, cmp has another text than elsewhere.
+# of a file share one shell. A command that ends with a backslash continues in the next line. The commands for a service in SECURITY.md
+# and those for pieces of a flash memory in the tutorial are run over small files, too. At the end nothing is untracked in the checkout
+# that was not so before. It needs python3 and, for the examples and the tutorial, Debian's u-boot-tools, device-tree-compiler,
+# openssl, git, jq and parallel, and installs them if one is missing and it runs as root. In the locale C, cmp has another text than
+# elsewhere.
 set -u
 
 root=$(cd "$(dirname "$0")/../.." && pwd)
@@ -14,6 +16,7 @@ need device-tree-compiler fdtget fdtput
 need openssl openssl
 need git git
 need jq jq
+need parallel parallel
 need python3 python3
 need_program
 work_in_new_directory
@@ -72,4 +75,36 @@ else:
     print(f"FAILED: the recipes leave something in the checkout:\n{untracked(root)}")
 print(f"{passed} passed, {failed} failed")
 END
+
+# block_of PAGE WORD: the block of commands in this page that has this word, and shows no output.
+block_of() {
+    python3 - "$root/$1" "$2" << 'END'
+import re
+import sys
+
+with open(sys.argv[1]) as page:
+    blocks = re.findall(r"^```sh\n(.*?)^```$", page.read(), re.M | re.S)
+print(next(block for block in blocks if sys.argv[2] in block), end="")
+END
+}
+
+# judged FILE: what the commands of SECURITY.md for a service print of a file, and their status.
+judged() {
+    file=$1 sh ./service
+    echo "status $?"
+}
+mkdir programs
+ln -s "$root/crates/bootimg/out/bootimg" programs/bootimg
+PATH=$work/programs:$PATH
+block_of SECURITY.md ulimit > service
+check "a service is told of concerns" test "$(judged "$root/examples/board.itb")" = "the image has concerns:
+weak-hash ramdisk-1 crc32
+status 1"
+check "a service is told that a file is refused" test "$(judged "$root/README.md")" = "not accepted:
+bootimg: BadMagic at 0
+status 1"
+check "a service is told that there is no file" test "$(judged missing)" = "status 3"
+{ head -c 512 /dev/zero && cat "$root/examples/board.itb"; } > emmc
+block_of docs/TUTORIAL.md emmc > pieces
+check "the images in a flash memory, piece by piece" test "$(sh ./pieces 2> /dev/null)" = "0 GiB and 512 fit 2628 3"
 finish

@@ -1,8 +1,8 @@
 #!/bin/sh
 # Builds and tests the crate for Rust (rust/) over the library for C: its own tests, its examples and lints, and that it returns of the
-# vectors of tests/conformance what the module for Python returns (tests/tools/c_library/structure.py). The crate has no dependency. The
-# script needs cargo 1.70 or later, without which it leaves out everything, gcc and python3, and installs Debian's gcc and python3 if one
-# is missing and it runs as root.
+# vectors of tests/conformance what the module for Python returns (tests/tools/c_library/structure.py), with the lines of `check` as the
+# texts of concerns. The crate has no dependency. The script needs cargo 1.70 or later, without which it leaves out everything, gcc and
+# python3, and installs Debian's gcc and python3 if one is missing and it runs as root.
 set -u
 
 root=$(cd "$(dirname "$0")/../.." && pwd)

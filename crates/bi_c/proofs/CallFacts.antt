@@ -43,12 +43,15 @@ use Rattle.bi_c.specs.declared.failure.Failure.TheVariants.{Refused, NotFound, O
 pub concern_elements_are_known : ConcernElementsAreKnown
 concern_elements_are_known = record {
   bad_hash = λ image hash. (refl, refl, refl, refl);
+  skipped_hash = λ image hash. refl;
   unhashed = λ node. refl;
   weak = λ node hashes. refl;
   bad_list = λ node. refl;
   missing = λ node. refl;
   bad_default = λ property. refl;
   trailing = refl;
+  unsigned = refl;
+  uncovered = refl;
 }
 
 pub concern_texts_are_known : ConcernTextsAreKnown
@@ -62,6 +65,9 @@ concern_texts_are_known = record {
   default = refl;
   no_default = refl;
   rest = refl;
+  skipped = refl;
+  skipped_node = refl;
+  signed_node = refl;
   no_node = refl;
   no_algorithm = refl;
   element = λ file element is. (is.index, is.kind, is.key, is.size);
@@ -272,6 +278,7 @@ argument_bounds_are_known = record {
   changes = λ form changes has. (omega (arith, has.is_form), omega (arith, has.are_changes));
   kinds = λ kinds has. omega (arith, has.are_kinds);
   checker = refl;
+  signed = refl;
   no_limit = λ has. omega (arith, has.limits.0);
 }
 

@@ -1,5 +1,6 @@
 use Rattle.std.proofs.Common.{◌≡◌, ◌++◌, ◌-◌, ℕ, Bool, true, false, not, List, [], ◌∷◌, Option, Some, None, option_and_then, map, filter}
 use Rattle.std.proofs.Common.{flat_map, drop, length, ◌==◌, refl, sym, ap, subst, ◌∙◌, if◌then◌else◌}
+use Rattle.std.specs.Bool.{⊤}
 use Rattle.std.specs.List.{AllByRecursion, AllZip, list_all, list_any}
 use Rattle.std.specs.Option.{option_map}
 use Rattle.bi_base.specs.declared.fault.Error.TheVariants as error
@@ -10,7 +11,7 @@ use Rattle.bi_blob.specs.Lookups.{Sibling, node_named, property_named, siblings,
 use Rattle.bi_blob.specs.Tree.{Nodes, none, node, FileNode, Root, names, properties_of}
 use Rattle.bi_fdt.specs.Content.{root_of}
 use Rattle.bi_fit.specs.Content.{FitModel, ImageModel, tree_of}
-use Rattle.bi_fit.specs.HashNodes.{file_configurations, file_hash, file_hashes, file_images, file_listed}
+use Rattle.bi_fit.specs.HashNodes.{file_configurations, file_hash, file_images, file_listed}
 use Rattle.bi_fit.specs.ImageTree.{children_of, nodes_or_none}
 use Rattle.bi_fit.specs.Judgement.{CheckedHash, ListResult, NoConfig, NoKey, BadList, Missing, ListedImages, configuration_nodes}
 use Rattle.bi_fit.specs.Judgement.{default_of}
@@ -20,14 +21,19 @@ use Rattle.bi_fit.proofs.FileConfigurations.{default_is}
 use Rattle.bi_report.specs.declared.check.Allowed.{Allowed}
 use Rattle.bi_norm.proofs.NormalForms.{needs_memory}
 use Rattle.bi_report.specs.CheckedFiles.{IsCheckError}
-use Rattle.bi_report.specs.Checking.{BadDefault, TrailingBytes, UnhashedImage, WeakHash, BadHash, allows, default_concerns, is_good}
+use Rattle.bi_report.specs.Checking.{BadDefault, BadKey, Concern, MissingImage, OfSignature, SkippedHash, TrailingBytes, UnhashedImage, UnitAddress}
+use Rattle.bi_report.specs.Checking.{Unsigned, WeakHash, BadHash, absence_concerns, address_concerns, allows, coverage_concerns}
+use Rattle.bi_report.specs.Checking.{default_concerns, is_good, signature_concerns, unsigned_concerns}
 use Rattle.bi_report.specs.Checking.{is_strong, kept_concerns, kind_of, list_concerns, names_one_of, payload_concerns}
 use Rattle.bi_report.specs.FoundConcerns.{AreFound, Default, FoundConcern, HasConcerns, HashOf, InImageTree, InLegacyImage, NodeItself}
 use Rattle.bi_report.specs.FoundConcerns.{Rest, concerns_about, concerns_in, default_property, found_in_configuration, found_in_default}
-use Rattle.bi_report.specs.FoundConcerns.{found_in_hash, found_in_image, found_in_key, found_in_rest, kept_found}
+use Rattle.bi_report.specs.FoundConcerns.{NamedNodes, found_in_addresses, found_in_coverage, found_in_hash, found_in_image, found_in_key}
+use Rattle.bi_report.specs.FoundConcerns.{found_in_rest, found_in_signatures, is_skipped, kept_found, used_found}
+use Rattle.bi_report.specs.SignedTrees.{is_any_signed, unit_addresses}
+use Rattle.bi_coverage.specs.Coverage.{ConfigurationCoverage, SignatureConcern, SignatureCoverage, coverage_of}
 use Rattle.bi_common.specs.HashedImages.{found_hashes, hashed_image, hashed_images, images_of_blob}
 use Rattle.bi_report.specs.ReadChecking.{end_of_read_payloads}
-use Rattle.bi_c.specs.Arguments.{allowed_of, bounds}
+use Rattle.bi_c.specs.Arguments.{allowed_by, bounds}
 use Rattle.bi_c.specs.Calls.{HasKinds}
 use Rattle.bi_c.specs.ConcernElements.{AreConcernElements, IsConcernElement, concern_element}
 use Rattle.bi_c.specs.ImageElements.{HasPayloadBytes}
@@ -55,26 +61,43 @@ each_given P f (x ∷ xs) holds = each-append P (f x) (flat_map f xs) (holds x) 
 hash_there : (file : List ℕ) (image : Sibling FileNode) (payload : Option (List ℕ)) (hash : Sibling FileNode) → HasNameBytes file image →
     HasNameBytes file hash → AllByRecursion (HasPropertyBytes file) hash.own.properties →
     AllByRecursion (HasItsTexts file) (found_in_hash image (record { node = hash; checked = file_hash image.name payload hash }))
-hash_there file image payload hash image_there hash_name have = by (is_good (file_hash image.name payload hash))
+hash_there file image payload hash image_there hash_name have = by (is_good (file_hash image.name payload hash)) (is_skipped hash)
   where
-    by : (good : Bool) →
+    bad : HasItsTexts file (record { concern = BadHash (file_hash image.name payload hash); subject = HashOf image hash })
+    bad =
+        let is = is_element file image payload hash image_there hash_name have in
+        record {
+          name = image_there;
+          node = hash_name;
+          algorithm = is.algorithm;
+          index = refl;
+          size = refl;
+          kind = refl;
+          verdict = refl;
+          key = refl;
+        }
+
+    skipped : HasItsTexts file (record { concern = SkippedHash image.name hash.name; subject = HashOf image hash })
+    skipped = record {
+      name = image_there;
+      node = hash_name;
+      algorithm = tt;
+      index = refl;
+      size = refl;
+      kind = refl;
+      verdict = refl;
+      key = refl;
+    }
+
+    by : (good skips : Bool) →
         AllByRecursion (HasItsTexts file)
-        (concerns_about (HashOf image hash) (if good then [] else BadHash (file_hash image.name payload hash) ∷ []))
-    by true = tt
-    by false =
-        let is = is_element file image payload hash image_there hash_name have in (
-          record {
-            name = image_there;
-            node = hash_name;
-            algorithm = is.algorithm;
-            index = refl;
-            size = refl;
-            kind = refl;
-            verdict = refl;
-            key = refl;
-          },
-          tt,
-        )
+        (concerns_about (HashOf image hash)
+        ((if good then [] else BadHash (file_hash image.name payload hash) ∷ [])
+        ++ (if skips then SkippedHash image.name hash.name ∷ [] else [])))
+    by true false = tt
+    by true true = (skipped, tt)
+    by false false = (bad, tt)
+    by false true = (bad, (skipped, tt))
 
 -- Those about the hash nodes among the children of an image.
 hashes_there : (file : List ℕ) (image : Sibling FileNode) (payload : Option (List ℕ)) (children : Nodes FileNode) →
@@ -129,7 +152,7 @@ images_there file (node name own inner later) (image ∷ images) have =
     each-append (HasItsTexts file) (found_in_image (hashed_image this image))
     (flat_map found_in_image (hashed_images (siblings later) images))
     (each-append (HasItsTexts file) hashes
-    (concerns_about (NodeItself this) (payload_concerns name image.payload (file_hashes name image.payload (siblings inner))))
+    (concerns_about (NodeItself this) (payload_concerns name image.payload (used_found (found_hashes name image.payload (siblings inner)))))
     (hashes_there file this image.payload inner have.0 have.2) (payload_there file this image.payload _ have.0))
     (images_there file later images have.3)
 
@@ -183,6 +206,78 @@ default_there file content there = by (names (configuration_nodes (tree_of conte
           tt,
         )
 
+-- ---- signatures
+
+-- The names that a concern has are in its line alone.
+abbrev IsNamed : Concern → Type 0
+IsNamed (Unsigned configuration) = ⊤
+IsNamed (OfSignature configuration signature concern) = ⊤
+IsNamed (UnitAddress names) = ⊤
+IsNamed other = ⊥
+
+named_there : (file : List ℕ) (concern : Concern) → IsNamed concern → HasItsTexts file (record { concern = concern; subject = NamedNodes })
+named_there file (Unsigned configuration) is =
+    record { name = tt; node = tt; algorithm = tt; index = refl; size = refl; kind = refl; verdict = refl; key = refl }
+named_there file (OfSignature configuration signature concern) is =
+    record { name = tt; node = tt; algorithm = tt; index = refl; size = refl; kind = refl; verdict = refl; key = refl }
+named_there file (UnitAddress names) is =
+    record { name = tt; node = tt; algorithm = tt; index = refl; size = refl; kind = refl; verdict = refl; key = refl }
+named_there file (BadHash hash) is = absurd is
+named_there file (SkippedHash image hash) is = absurd is
+named_there file (UnhashedImage image) is = absurd is
+named_there file (WeakHash image good) is = absurd is
+named_there file (BadKey configuration key) is = absurd is
+named_there file (MissingImage configuration key index) is = absurd is
+named_there file (BadDefault default) is = absurd is
+named_there file (TrailingBytes count) is = absurd is
+
+all_named_there : (file : List ℕ) (concerns : List Concern) → AllByRecursion IsNamed concerns →
+    AllByRecursion (HasItsTexts file) (concerns_about NamedNodes concerns)
+all_named_there file [] are = tt
+all_named_there file (concern ∷ later) are = (named_there file concern are.0, all_named_there file later are.1)
+
+absence_named : (coverage : List ConfigurationCoverage) → AllByRecursion IsNamed (absence_concerns coverage)
+absence_named [] = (tt, tt)
+absence_named (first ∷ later) = tt
+
+unsigned_named : (configuration : List ℕ) (signatures : List SignatureCoverage) →
+    AllByRecursion IsNamed (unsigned_concerns configuration signatures)
+unsigned_named configuration [] = (tt, tt)
+unsigned_named configuration (first ∷ later) = tt
+
+signature_named : (configuration signature : List ℕ) (concerns : List SignatureConcern) →
+    AllByRecursion IsNamed (map (OfSignature configuration signature) concerns)
+signature_named configuration signature [] = tt
+signature_named configuration signature (concern ∷ later) = (tt, signature_named configuration signature later)
+
+coverage_named : (configuration : ConfigurationCoverage) → AllByRecursion IsNamed (coverage_concerns configuration)
+coverage_named configuration =
+    each-append IsNamed (unsigned_concerns configuration.name configuration.signatures)
+    (flat_map (signature_concerns configuration.name) configuration.signatures)
+    (unsigned_named configuration.name configuration.signatures)
+    (each_given IsNamed (signature_concerns configuration.name) configuration.signatures
+    (λ signature. signature_named configuration.name signature.name signature.concerns))
+
+address_named : (coverage : List ConfigurationCoverage) (paths : List (List (List ℕ))) →
+    AllByRecursion IsNamed (address_concerns coverage paths)
+address_named coverage paths = by (is_any_signed coverage)
+  where
+    each : (paths : List (List (List ℕ))) → AllByRecursion IsNamed (map UnitAddress paths)
+    each [] = tt
+    each (first ∷ later) = (tt, each later)
+
+    by : (signed : Bool) → AllByRecursion IsNamed (if signed then map UnitAddress paths else [])
+    by true = each paths
+    by false = tt
+
+signatures_there : (file : List ℕ) (coverage : List ConfigurationCoverage) →
+    AllByRecursion (HasItsTexts file) (found_in_signatures coverage)
+signatures_there file coverage =
+    each-append (HasItsTexts file) (concerns_about NamedNodes (absence_concerns coverage)) (flat_map found_in_coverage coverage)
+    (all_named_there file (absence_concerns coverage) (absence_named coverage))
+    (each_given (HasItsTexts file) found_in_coverage coverage
+    (λ configuration. all_named_there file (coverage_concerns configuration) (coverage_named configuration)))
+
 -- ---- the rest
 
 -- The concern about the bytes after the image.
@@ -230,7 +325,8 @@ default_text file content have =
 each_there : (limits : Limits) (file : List ℕ) (found : List FoundConcern) → AreFound limits file found →
     AllByRecursion (HasItsTexts file) found
 each_there limits file found (InLegacyImage image read same) =
-    subst (AllByRecursion (HasItsTexts file)) (sym same) (rest_there file (drop (length file - image.unused) file))
+    subst (AllByRecursion (HasItsTexts file)) (sym same)
+    (named_there file (Unsigned None) tt, rest_there file (drop (length file - image.unused) file))
 each_there limits file found (InImageTree content read same) =
     let is = read.means.is_file in
     let have : HaveBytes file (root_of content.blob).children =
@@ -238,18 +334,23 @@ each_there limits file found (InImageTree content read same) =
     (root_bytes file content.blob.cpu content.blob.reservations is.root is.blob).1 in
     let images = flat_map found_in_image (images_of_blob content) in
     let lists = flat_map (found_in_configuration content.images) (siblings (file_configurations content.blob)) in
+    let signatures = found_in_signatures (coverage_of content) in
+    let addresses = found_in_addresses (coverage_of content) (unit_addresses (root_of content.blob)) in
     let default = found_in_default content in
     let rest = found_in_rest (drop (end_of_read_payloads content.blob.total_size content.images) file) in
     subst (AllByRecursion (HasItsTexts file)) (sym same)
-    (each-append (HasItsTexts file) images (lists ++ (default ++ rest))
+    (each-append (HasItsTexts file) images (lists ++ (signatures ++ (addresses ++ (default ++ rest))))
     (images_there file (file_images content.blob) content.images
     (inner_bytes file images_name (root_of content.blob).children have))
-    (each-append (HasItsTexts file) lists (default ++ rest)
+    (each-append (HasItsTexts file) lists (signatures ++ (addresses ++ (default ++ rest)))
     (configurations_there file content.images (siblings (file_configurations content.blob))
     (each_name file (file_configurations content.blob)
     (inner_bytes file configurations_name (root_of content.blob).children have)))
+    (each-append (HasItsTexts file) signatures (addresses ++ (default ++ rest)) (signatures_there file (coverage_of content))
+    (each-append (HasItsTexts file) addresses (default ++ rest)
+    (all_named_there file _ (address_named (coverage_of content) (unit_addresses (root_of content.blob))))
     (each-append (HasItsTexts file) default rest (default_there file content (default_text file content have))
-    (rest_there file (drop (end_of_read_payloads content.blob.total_size content.images) file)))))
+    (rest_there file (drop (end_of_read_payloads content.blob.total_size content.images) file)))))))
 
 -- So does each of those that are kept.
 kept_there : (file : List ℕ) (allowed : Allowed) (found : List FoundConcern) → AllByRecursion (HasItsTexts file) found →
@@ -267,7 +368,7 @@ kept_there file allowed (one ∷ later) each =
 
 -- The elements of the concerns about a file that are not allowed.
 pub are_concern_elements : (limit depth kinds : ℕ) (file : List ℕ) (limits : Limits) (allowed : Allowed) (found : List FoundConcern)
-    (elements : List ConcernElement) → HasKinds limit depth kinds → limits ≡ bounds limit depth → allowed ≡ allowed_of kinds →
+    (elements : List ConcernElement) → HasKinds limit depth kinds → limits ≡ bounds limit depth → allowed ≡ allowed_by kinds →
     HasConcerns limits file found → elements ≡ map concern_element (kept_found allowed found) →
     AreConcernElements limit depth kinds file elements 0
 are_concern_elements limit depth kinds file limits allowed found elements valid same_limits same_allowed has are =
@@ -278,8 +379,8 @@ are_concern_elements limit depth kinds file limits allowed found elements valid 
       has_concerns = subst (λ (l : Limits). HasConcerns l file found) same_limits has;
       are_elements = are_elements;
       are_concerns = subst
-          (λ (l : List ConcernElement). AllZip (IsConcernElement file) l (kept_concerns (allowed_of kinds) (concerns_in found)))
-          (sym are_elements) (kept_there file (allowed_of kinds) found (each_there limits file found has.are_found));
+          (λ (l : List ConcernElement). AllZip (IsConcernElement file) l (kept_concerns (allowed_by kinds) (concerns_in found)))
+          (sym are_elements) (kept_there file (allowed_by kinds) found (each_there limits file found has.are_found));
       no_value = refl;
     }
 

@@ -1,5 +1,5 @@
 use Rattle.std.proofs.Common.{◌≡◌, ◌∙◌, ◌↔◌, ◌≤◌, ◌⊎◌, ◌++◌, ◌-◌, ℕ, Bool, true, false, IsTrue, List, [], ◌∷◌, codes, drop, length}
-use Rattle.std.proofs.Common.{map, inl, inr, ap, refl, sym, subst, lit<, lit≤, arith}
+use Rattle.std.proofs.Common.{None, map, inl, inr, ap, refl, sym, subst, lit<, lit≤, arith}
 use Rattle.std.specs.Fmt.{digits}
 use Rattle.bi_base.specs.Cells.{cell, u32_at}
 use Rattle.bi_base.specs.declared.fault.Cause.TheVariants.{BadDataCrc, NoImages, Truncated}
@@ -10,7 +10,6 @@ use Rattle.bi_base.specs.Limits.{IsInRange, Limits, widest}
 use Rattle.bi_base.specs.Reading.{too_large}
 use Rattle.bi_common.specs.declared.format.Format.{Format}
 use Rattle.bi_common.specs.declared.format.Format.TheVariants.{Lines, Json}
-use Rattle.bi_common.specs.PayloadBounds.{IsOverPayloadBound}
 use Rattle.bi_commands.specs.declared.extract.Select.{Select}
 use Rattle.bi_commands.specs.declared.extract.Select.TheVariants.{Part}
 use Rattle.bi_commands.specs.Extracting.{Choice, Chosen, MeansSuch, NoSuchPart, OfOtherKind, choice_of}
@@ -45,14 +44,15 @@ use Rattle.bi_norm.proofs.KindLaws.{one_file_fault, one_file_meaning, one_kind}
 use Rattle.bi_norm.proofs.NormalFormFacts.{normal_forms_are_known}
 use Rattle.bi_report.specs.declared.check.Allowed.{Allowed}
 use Rattle.bi_report.specs.CheckedFiles.{HoldsTooMuch, IsCheckError, IsCheckOutput, concerns_text}
-use Rattle.bi_report.specs.Checking.{Concern, TrailingBytes, kept_concerns}
-use Rattle.bi_report.specs.FoundConcerns.{AreFound, FoundConcern, InImageTree, InLegacyImage, Rest, found_in_rest, kept_found}
+use Rattle.bi_report.specs.Checking.{Concern, TrailingBytes, Unsigned, kept_concerns}
+use Rattle.bi_report.specs.SignedTrees.{IsOverCheckBound}
+use Rattle.bi_report.specs.FoundConcerns.{AreFound, FoundConcern, InImageTree, InLegacyImage, NamedNodes, Rest, found_in_rest, kept_found}
 use Rattle.bi_report.proofs.LegacyConcernFacts.{legacy_concerns_are_known}
 use Rattle.bi_show.specs.KnownPages.{PagesAreKnown}
 use Rattle.bi_show.specs.ShownFiles.{IsPage, OfLegacyImage, OfImageTree}
 use Rattle.bi_c.specs.Answers.{Answers, IsFailure, Returned, Failed, Sets, WasSet, WasNotSet}
 use Rattle.bi_c.specs.Answers.{answer_of, answer_of_failure}
-use Rattle.bi_c.specs.Arguments.{HasChanges, HasForm, HasLayout, allowed_of, changes_of}
+use Rattle.bi_c.specs.Arguments.{HasChanges, HasForm, HasLayout, allowed_by, changes_of}
 use Rattle.bi_c.specs.Calls.{HasKinds, IsCheckText, IsFailureOfOne, IsKindFailure, IsKindNumber, IsNormaliseFailure, IsNormalised}
 use Rattle.bi_c.specs.Calls.{IsPageFailure, IsPageText, IsUpdateFailure, IsUpdatedText, flag}
 use Rattle.bi_c.specs.ConcernElements.{AreConcernElements, concern_element}
@@ -239,7 +239,7 @@ module _ (one_legacy : OneLegacyMeaning) where
 
   -- The concerns of the file with seven bytes after the image.
   abbrev the_concerns : List Concern
-  the_concerns = TrailingBytes 7 ∷ []
+  the_concerns = Unsigned None ∷ TrailingBytes 7 ∷ []
 
   module _ (format : Format) (allowed : Allowed) (clean : Bool) (text : List ℕ)
       (is : IsCheckOutput format allowed widest clean kernel_file_with_rest text) where
@@ -252,8 +252,12 @@ module _ (one_legacy : OneLegacyMeaning) where
     is_clean : IsTrue clean ↔ (kept_concerns allowed the_concerns ≡ [])
     is_clean = subst (λ concerns. IsTrue clean ↔ (kept_concerns allowed concerns ≡ [])) are_these is.is_empty
 
+  -- If signatures are not asked for, the rest alone is kept.
+  abbrev one_concern : List Concern
+  one_concern = TrailingBytes 7 ∷ []
+
   -- It is clean if and only if nothing is kept.
-  with_lines : (clean : Bool) → IsTrue clean ↔ (the_concerns ≡ []) → clean ≡ false
+  with_lines : (clean : Bool) → IsTrue clean ↔ (one_concern ≡ []) → clean ≡ false
   with_lines true is = absurd (omega (arith, ap length (is.0 refl)))
   with_lines false is = refl
 
@@ -271,8 +275,9 @@ module _ (one_legacy : OneLegacyMeaning) where
       (no_read_error kernel_file_with_rest (OfLegacy kernel_image) kernel_with_rest_means (HoldsTooMuch widest kernel_file_with_rest)
       (λ over. within over.meaning over.means over.is_over))
     where
-      within : (meaning : Meaning) → Means widest kernel_file_with_rest meaning → ¬ (IsOverPayloadBound widest meaning)
-      within (OfLegacy image) means over = over
+      within : (meaning : Meaning) → Means widest kernel_file_with_rest meaning → ¬ (IsOverCheckBound widest meaning)
+      within (OfLegacy image) means (inl over) = over
+      within (OfLegacy image) means (inr over) = over
       within (OfFit tree) means over =
           means_tree widest kernel_file_with_rest tree means
           (means_legacy widest kernel_file_with_rest kernel_image kernel_with_rest_means)
@@ -286,8 +291,8 @@ module _ (one_legacy : OneLegacyMeaning) where
       always_fills (IsCheckText Lines 0x7fffffff 64 0 kernel_file_with_rest)
       (IsFailure (HasKinds 0x7fffffff 64 0) (IsCheckError widest kernel_file_with_rest)) before (codes "trailing 7\n") 11 0
       (λ text value is. (
-        text_is Lines (allowed_of 0) is.is.clean text is.is.is,
-        is.is.number ∙ ap flag (with_lines is.is.clean (is_clean Lines (allowed_of 0) is.is.clean text is.is.is)),
+        text_is Lines (allowed_by 0) is.is.clean text is.is.is,
+        is.is.number ∙ ap flag (with_lines is.is.clean (is_clean Lines (allowed_by 0) is.is.clean text is.is.is)),
       ))
       (check_errors 0 (record { limits = widest_is_in_range; are_kinds = lit< tt })) refl room
 
@@ -301,8 +306,8 @@ module _ (one_legacy : OneLegacyMeaning) where
       (IsFailure (HasKinds 0x7fffffff 64 0) (IsCheckError widest kernel_file_with_rest)) before
       (codes "{\"concerns\":[{\"concern\":\"trailing\",\"size\":7}]}\n") 47 0
       (λ text value is. (
-        text_is Json (allowed_of 0) is.is.clean text is.is.is,
-        is.is.number ∙ ap flag (with_lines is.is.clean (is_clean Json (allowed_of 0) is.is.clean text is.is.is)),
+        text_is Json (allowed_by 0) is.is.clean text is.is.is,
+        is.is.number ∙ ap flag (with_lines is.is.clean (is_clean Json (allowed_by 0) is.is.clean text is.is.is)),
       ))
       (check_errors 0 (record { limits = widest_is_in_range; are_kinds = lit< tt })) refl room
 
@@ -314,8 +319,8 @@ module _ (one_legacy : OneLegacyMeaning) where
       always_fills (IsCheckText Lines 0x7fffffff 64 64 kernel_file_with_rest)
       (IsFailure (HasKinds 0x7fffffff 64 64) (IsCheckError widest kernel_file_with_rest)) before [] 0 1
       (λ text value is. (
-        text_is Lines (allowed_of 64) is.is.clean text is.is.is,
-        is.is.number ∙ ap flag (without_lines is.is.clean (is_clean Lines (allowed_of 64) is.is.clean text is.is.is)),
+        text_is Lines (allowed_by 64) is.is.clean text is.is.is,
+        is.is.number ∙ ap flag (without_lines is.is.clean (is_clean Lines (allowed_by 64) is.is.clean text is.is.is)),
       ))
       (check_errors 64 (record { limits = widest_is_in_range; are_kinds = lit< tt })) refl (omega arith)
 
@@ -352,10 +357,12 @@ module _ (one_legacy : OneLegacyMeaning) where
       omega (arith, ap (λ (i : LegacyImage). parts_end i.image_type i.parts) same, read.unused)
 
   found_is : (found : List FoundConcern) → AreFound widest kernel_file_with_rest found →
-      found ≡ record { concern = TrailingBytes 7; subject = Rest } ∷ []
+      found
+      ≡ record { concern = Unsigned None; subject = NamedNodes } ∷ record { concern = TrailingBytes 7; subject = Rest } ∷ []
   unfolding header cell
   found_is found (InLegacyImage image read is) =
-      is ∙ ap (λ n. found_in_rest (drop (length kernel_file_with_rest - n) kernel_file_with_rest)) (seven_unused image read)
+      is
+      ∙ ap (λ n. record { concern = Unsigned None; subject = NamedNodes } ∷ found_in_rest (drop (length kernel_file_with_rest - n) kernel_file_with_rest)) (seven_unused image read)
   found_is found (InImageTree content read is) =
       absurd (one_kind kernel_file_with_rest kernel_image (tree_of content) kernel_with_rest_means.is_file read.means.is_file)
 
@@ -368,7 +375,7 @@ module _ (one_legacy : OneLegacyMeaning) where
       (IsFailure (HasKinds 0x7fffffff 64 0) (IsCheckError widest kernel_file_with_rest)) before
       (record no_concern { size = 7; kind = 64 } ∷ []) 1 0
       (λ elements value is. (
-        is.are_elements ∙ ap (λ found. map concern_element (kept_found (allowed_of 0) found)) (found_is is.found is.has_concerns.are_found),
+        is.are_elements ∙ ap (λ found. map concern_element (kept_found (allowed_by 0) found)) (found_is is.found is.has_concerns.are_found),
         is.no_value,
       ))
       (check_errors 0 (record { limits = widest_is_in_range; are_kinds = lit< tt })) refl room

@@ -25,5 +25,7 @@ pub mod SliceWriting
 pub mod TreeBuilding
 pub mod TreeCallFacts
 pub mod TreeRegions
+pub mod ValueCallAnswers
+pub mod ValueCallFacts
 pub mod VerdictElements
 pub mod VerdictFiles

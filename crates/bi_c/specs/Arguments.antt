@@ -3,6 +3,8 @@ use Rattle.bi_base.specs.Limits.{Limits, IsInRange}
 use Rattle.bi_common.specs.declared.format.Format.{Format}
 use Rattle.bi_report.specs.declared.check.Allowed.{Allowed}
 use Rattle.bi_report.specs.declared.check.Checker.{Checker}
+use Rattle.bi_report.specs.declared.check.Policy.{Policy}
+use Rattle.bi_report.specs.Checking.{allowed_under}
 use Rattle.bi_fit.specs.declared.changes.Changes.{Changes}
 use Rattle.bi_fit.specs.declared.form.Form.{Form}
 use Rattle.bi_fit.specs.declared.form.Form.TheVariants.{Embedded, External}
@@ -42,17 +44,33 @@ has_bit mask number = (number / mask) % 2 == 1
 abbrev pub allowed_of : ℕ → Allowed
 allowed_of kinds = record {
   bad_hash = has_bit 1 kinds;
+  skipped_hash = has_bit 128 kinds;
   unhashed = has_bit 2 kinds;
   weak_hash = has_bit 4 kinds;
   bad_list = has_bit 8 kinds;
   missing = has_bit 16 kinds;
+  unsigned = has_bit 256 kinds;
+  no_nodes = has_bit 512 kinds;
+  no_images = has_bit 1024 kinds;
+  uncovered = has_bit 2048 kinds;
+  foreign = has_bit 4096 kinds;
+  strings = has_bit 8192 kinds;
+  unit_address = has_bit 16384 kinds;
   bad_default = has_bit 32 kinds;
   trailing = has_bit 64 kinds;
 }
 
--- The checker that leaves out these kinds, and writes in a form.
+-- What is asked of an image: the next bit asks for signatures.
+abbrev pub policy_of : ℕ → Policy
+policy_of kinds = record { allowed = allowed_of kinds; signed = has_bit 32768 kinds }
+
+-- The kinds whose lines and elements are left out.
+abbrev pub allowed_by : ℕ → Allowed
+allowed_by kinds = allowed_under (policy_of kinds)
+
+-- The checker that has this policy, and writes in a form.
 abbrev pub checker_of : Format → ℕ → Checker
-checker_of format kinds = record { allowed = allowed_of kinds; format = format }
+checker_of format kinds = record { policy = policy_of kinds; format = format }
 
 -- The changes of an update: bit 1 sets the time, bit 2 computes the digests again.
 abbrev pub changes_of : (changes time : ℕ) → Changes

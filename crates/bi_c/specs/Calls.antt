@@ -12,6 +12,7 @@ use Rattle.bi_norm.specs.Kinds.{BeginsAs, IsKindFault}
 use Rattle.bi_norm.specs.NormalForm.{IsNormaliseOutput, IsNormaliseError}
 use Rattle.bi_common.specs.declared.format.Format.{Format}
 use Rattle.bi_report.specs.declared.check.Checker.{Checker}
+use Rattle.bi_report.specs.Checking.{allowed_under}
 use Rattle.bi_report.specs.CheckedFiles.{IsCheckError, IsCheckOutput}
 use Rattle.bi_describe.specs.declared.compare.CompareError.{CompareError}
 use Rattle.bi_describe.specs.declared.compare.CompareError.TheVariants as compare
@@ -119,7 +120,7 @@ failure_of_compare_error compare.OutOfMemory = OutOfMemory
 
 -- The version of the library, which is that of the program.
 pub record IsVersion (text : List ℕ) (value : ℕ) : Type 0 where
-  pub is_version : text ≡ codes "0.3.0"
+  pub is_version : text ≡ codes "0.4.0"
   pub no_value : value ≡ 0
 
 -- The output of a call on files, which returns no number. Its limits must be in range.
@@ -155,10 +156,10 @@ IsTreeFailure AreValid limits file IsReason (NotFound reason index) =
 IsTreeFailure AreValid limits file IsReason other =
     IsFailure AreValid (IsFitReadError limits file) other
 
--- The limits are in range, and the number is that of a choice of kinds of concerns.
+-- The limits are in range, and the number is that of a policy.
 pub record HasKinds (limit depth kinds : ℕ) : Type 0 where
   pub limits : IsInRange limit depth
-  pub are_kinds : kinds < 128
+  pub are_kinds : kinds < 65536
 
 -- The text of the concerns that a checker finds in a file, and whether there are none.
 pub record IsConcernsText (checker : Checker) (limits : Limits) (file text : List ℕ) (value : ℕ)
@@ -166,9 +167,9 @@ pub record IsConcernsText (checker : Checker) (limits : Limits) (file text : Lis
   where
     pub clean : Bool
     pub number : value ≡ flag clean
-    pub is : IsCheckOutput checker.format checker.allowed limits clean file text
+    pub is : IsCheckOutput checker.format (allowed_under checker.policy) limits clean file text
 
--- The text of the concerns about the file, except those of allowed kinds, in a form, and whether
+-- The text of the concerns about the file that a policy does not allow, in a form, and whether
 -- there are none.
 pub record IsCheckText (format : Format) (limit depth kinds : ℕ) (file text : List ℕ) (value : ℕ)
     : Type 0

@@ -3,16 +3,16 @@ use Rattle.std.specs.List.{AllZip}
 use Rattle.bi_blob.specs.Lookups.{property_named}
 use Rattle.bi_report.specs.declared.check.ConcernKind.{ConcernKind}
 use Rattle.bi_report.specs.declared.check.ConcernKind.TheVariants as kind
-use Rattle.bi_report.specs.Checking.{Concern, BadHash, UnhashedImage, WeakHash, BadKey}
+use Rattle.bi_report.specs.Checking.{Concern, BadHash, SkippedHash, UnhashedImage, WeakHash, BadKey}
 use Rattle.bi_report.specs.Checking.{MissingImage, BadDefault, TrailingBytes, kept_concerns}
 use Rattle.bi_report.specs.Checking.{kind_of}
 use Rattle.bi_report.specs.FoundConcerns.{FoundConcern, Subject, HashOf, NodeItself, Default}
-use Rattle.bi_report.specs.FoundConcerns.{Rest, HasConcerns, concerns_in, kept_found}
+use Rattle.bi_report.specs.FoundConcerns.{NamedNodes, Rest, HasConcerns, concerns_in, kept_found}
 use Rattle.bi_fit.specs.Names.{algo_name}
 use Rattle.bi_fit.specs.declared.key.Key.{Key}
 use Rattle.bi_fit.specs.declared.key.Key.TheVariants.{Kernel, Fdt, Ramdisk, Firmware, Loadables}
 use Rattle.bi_fit.specs.declared.key.Key.TheVariants.{Script}
-use Rattle.bi_c.specs.Arguments.{allowed_of, bounds}
+use Rattle.bi_c.specs.Arguments.{allowed_by, bounds}
 use Rattle.bi_c.specs.Calls.{HasKinds}
 use Rattle.bi_c.specs.ImageElements.{HasPayloadBytes}
 use Rattle.bi_c.specs.TreeRegions.{name_region_of}
@@ -27,10 +27,18 @@ use Rattle.bi_c.specs.declared.region.Region.{Region}
 -- The number of a kind of concerns, which is also the bit that allows it.
 abbrev pub concern_number : ConcernKind → ℕ
 concern_number kind.BadHash = 1
+concern_number kind.SkippedHash = 128
 concern_number kind.Unhashed = 2
 concern_number kind.WeakHash = 4
 concern_number kind.BadList = 8
 concern_number kind.Missing = 16
+concern_number kind.Unsigned = 256
+concern_number kind.NoNodes = 512
+concern_number kind.NoImages = 1024
+concern_number kind.Uncovered = 2048
+concern_number kind.Foreign = 4096
+concern_number kind.Strings = 8192
+concern_number kind.UnitAddress = 16384
 concern_number kind.BadDefault = 32
 concern_number kind.Trailing = 64
 
@@ -66,22 +74,25 @@ size_in other = 0
 
 -- ---- texts
 
--- The name in a concern: that of an image, that of a configuration, or the default.
+-- The name in a concern: that of an image, that of a configuration, or the default. One about
+-- signatures is without names: its line has them.
 abbrev pub name_in : Concern → Option (List ℕ)
 name_in (BadHash hash) = Some hash.image
+name_in (SkippedHash image hash) = Some image
 name_in (UnhashedImage image) = Some image
 name_in (WeakHash image good) = Some image
 name_in (BadKey configuration key) = Some configuration
 name_in (MissingImage configuration key index) = Some configuration
 name_in (BadDefault default) = default
-name_in (TrailingBytes count) = None
+name_in other = None
 
 -- The name of the hash node that a concern is about.
 abbrev pub hash_name_in : Concern → Option (List ℕ)
 hash_name_in (BadHash hash) = Some hash.node_name
+hash_name_in (SkippedHash image hash) = Some hash
 hash_name_in other = None
 
--- The algorithm of the hash node that a concern is about.
+-- The algorithm of the hash node whose verdict is not good.
 abbrev pub algorithm_in : Concern → Option (List ℕ)
 algorithm_in (BadHash hash) = hash.algo
 algorithm_in other = None
@@ -93,6 +104,7 @@ abbrev pub name_place : Subject → Region
 name_place (HashOf image hash) = name_region_of image
 name_place (NodeItself node) = name_region_of node
 name_place (Default property) = found_text_region property
+name_place NamedNodes = nowhere
 name_place Rest = nowhere
 
 -- Where the name of the hash node is, if a concern is about one.
@@ -100,11 +112,11 @@ abbrev pub hash_name_place : Subject → Region
 hash_name_place (HashOf image hash) = name_region_of hash
 hash_name_place other = nowhere
 
--- Where the name of its algorithm is, if it has one.
-abbrev pub algorithm_place : Subject → Region
-algorithm_place (HashOf image hash) =
-    found_text_region (property_named hash.own.properties algo_name)
-algorithm_place other = nowhere
+-- Where the name of its algorithm is, if its verdict is not good and it has one.
+abbrev pub algorithm_place : Concern → Subject → Region
+algorithm_place (BadHash hash) (HashOf image node) =
+    found_text_region (property_named node.own.properties algo_name)
+algorithm_place concern subject = nowhere
 
 -- ---- elements
 
@@ -113,7 +125,7 @@ abbrev pub concern_element : FoundConcern → ConcernElement
 concern_element found = record {
   name = name_place found.subject;
   node = hash_name_place found.subject;
-  algorithm = algorithm_place found.subject;
+  algorithm = algorithm_place found.concern found.subject;
   index = index_in found.concern;
   size = size_in found.concern;
   kind = concern_number (kind_of found.concern);
@@ -133,15 +145,16 @@ pub record IsConcernElement (file : List ℕ) (element : ConcernElement) (concer
     pub verdict : element.verdict ≡ verdict_in concern
     pub key : element.key ≡ key_in concern
 
--- The elements are those of the concerns about the file that are not allowed, in their order.
+-- The elements are those of the concerns about the file that the policy does not allow, in their
+-- order.
 pub record AreConcernElements (limit depth kinds : ℕ) (file : List ℕ)
     (elements : List ConcernElement) (value : ℕ) : Type 0
   where
     pub arguments : HasKinds limit depth kinds
     pub found : List FoundConcern
     pub has_concerns : HasConcerns (bounds limit depth) file found
-    pub are_elements : elements ≡ map concern_element (kept_found (allowed_of kinds) found)
+    pub are_elements : elements ≡ map concern_element (kept_found (allowed_by kinds) found)
     pub are_concerns :
         AllZip (IsConcernElement file) elements
-        (kept_concerns (allowed_of kinds) (concerns_in found))
+        (kept_concerns (allowed_by kinds) (concerns_in found))
     pub no_value : value ≡ 0

@@ -24,7 +24,9 @@ use Rattle.bi_legacy.specs.KnownFiles.{kernel_file_with_rest}
 use Rattle.bi_legacy.specs.KnownImages.{kernel_file, multi_file}
 use Rattle.bi_report.specs.Checking.{BadHash, UnhashedImage, WeakHash, BadKey}
 use Rattle.bi_report.specs.Checking.{MissingImage, BadDefault, TrailingBytes, nothing_allowed}
-use Rattle.bi_report.specs.FoundConcerns.{HashOf, NodeItself, Default, Rest}
+use Rattle.bi_report.specs.FoundConcerns.{HashOf, NamedNodes, NodeItself, Default, Rest}
+use Rattle.bi_coverage.specs.Coverage.{Strings, Uncovered}
+use Rattle.bi_report.specs.Checking.{OfSignature, SkippedHash, Unsigned}
 use Rattle.bi_report.specs.KnownTexts.{hash_with}
 use Rattle.bi_c.specs.Answers.{Answers, FillsBuffer, IsFailure, Sets}
 use Rattle.bi_c.specs.Arguments.{HasChanges, HasForm, HasLayout, checker_of}
@@ -71,6 +73,14 @@ pub record ConcernElementsAreKnown : Type 0 where
       (record { concern = BadHash (hash_with Malformed); subject = HashOf image hash }) in
       (element.name ≡ name_region_of image) × (element.node ≡ name_region_of hash)
       × (element.kind ≡ 1) × (element.verdict ≡ verdict_number Malformed)
+  pub skipped_hash : (image hash : Sibling FileNode)
+      → concern_element
+      (record { concern = SkippedHash (codes "a") (codes "h"); subject = HashOf image hash })
+      ≡ record no_concern {
+        name = name_region_of image;
+        node = name_region_of hash;
+        kind = 128;
+      }
   pub unhashed : (node : Sibling FileNode)
       → concern_element
       (record { concern = UnhashedImage (codes "a"); subject = NodeItself node })
@@ -93,6 +103,15 @@ pub record ConcernElementsAreKnown : Type 0 where
       ≡ record no_concern { name = found_text_region property; kind = 32 }
   pub trailing : concern_element (record { concern = TrailingBytes 7; subject = Rest })
       ≡ record no_concern { size = 7; kind = 64 }
+  pub unsigned : concern_element (record { concern = Unsigned None; subject = NamedNodes })
+      ≡ record no_concern { kind = 256 }
+  pub uncovered :
+      concern_element
+      (record {
+        concern = OfSignature (codes "c") (codes "s") (Uncovered (codes "/"));
+        subject = NamedNodes;
+      })
+      ≡ record no_concern { kind = 2048 }
 
 -- The texts that concerns have.
 pub record ConcernTextsAreKnown : Type 0 where
@@ -107,6 +126,9 @@ pub record ConcernTextsAreKnown : Type 0 where
   pub default : name_in (BadDefault (Some (codes "d"))) ≡ Some (codes "d")
   pub no_default : name_in (BadDefault None) ≡ None
   pub rest : name_in (TrailingBytes 7) ≡ None
+  pub skipped : name_in (SkippedHash (codes "a") (codes "h")) ≡ Some (codes "a")
+  pub skipped_node : hash_name_in (SkippedHash (codes "a") (codes "h")) ≡ Some (codes "h")
+  pub signed_node : name_in (OfSignature (codes "c") (codes "s") Strings) ≡ None
   pub no_node : hash_name_in (UnhashedImage (codes "b")) ≡ None
   pub no_algorithm : algorithm_in (UnhashedImage (codes "b")) ≡ None
   pub element : (file : List ℕ) (element : ConcernElement)
@@ -235,9 +257,13 @@ pub record ArgumentBoundsAreKnown : Type 0 where
   pub form : (form : ℕ) → HasForm 64 1 form → form ≤ 1
   pub layout : (layout : ℕ) → HasLayout 64 1 layout → layout ≤ 1
   pub changes : (form changes : ℕ) → HasChanges 64 1 form changes → (form ≤ 1) × (changes ≤ 3)
-  pub kinds : (kinds : ℕ) → HasKinds 64 1 kinds → kinds ≤ 127
-  pub checker : (checker_of Json 66).allowed
-      ≡ record nothing_allowed { unhashed = true; trailing = true }
+  pub kinds : (kinds : ℕ) → HasKinds 64 1 kinds → kinds ≤ 65535
+  pub checker : (checker_of Json 66).policy
+      ≡ record {
+        allowed = record nothing_allowed { unhashed = true; trailing = true };
+        signed = false;
+      }
+  pub signed : (checker_of Json 32768).policy ≡ record { allowed = nothing_allowed; signed = true }
   pub no_limit : ¬ (HasForm 63 1 0)
 
 -- ---- pieces

@@ -17,14 +17,18 @@ use Rattle.bi_fit.specs.declared.key.Key.TheVariants as key
 use Rattle.bi_hash.specs.declared.verdicts.Verdict.TheVariants.{Good, Bad, UnknownAlgo, NoPayload}
 use Rattle.bi_hash.specs.declared.verdicts.Verdict.TheVariants.{Malformed}
 use Rattle.bi_norm.specs.declared.kind.Kind.TheVariants.{Legacy, Fit}
+use Rattle.bi_values.specs.declared.get_error.GetError.TheVariants as get
+use Rattle.bi_values.specs.declared.value_form.ValueForm.TheVariants.{Shown, Text, Number, Raw}
 use Rattle.bi_c.specs.Answers.{answer_of, answer_of_failure, done, failure_of_error, no_room}
 use Rattle.bi_c.specs.Answers.{status_of_failure}
 use Rattle.bi_c.specs.Arguments.{allowed_of, bounds, changes_of, form_of, has_bit, is_yes, key_of}
+use Rattle.bi_c.specs.Arguments.{policy_of}
 use Rattle.bi_c.specs.Calls.{failure_of_compare_error, flag, kind_number}
 use Rattle.bi_c.specs.ConcernElements.{concern_number, key_number}
 use Rattle.bi_c.specs.Extracting.{IsReasonNumber, failure_of_extract_error}
 use Rattle.bi_c.specs.NodeElements.{IsNodeReason, IsPropertyReason, LacksNode, LacksProperty}
 use Rattle.bi_c.specs.TreeBuilding.{address_if}
+use Rattle.bi_c.specs.ValueCalls.{failure_of_get_error, value_form_of, words_of_place}
 use Rattle.bi_c.specs.VerdictElements.{verdict_number}
 use Rattle.bi_c.specs.declared.answer.Answer.{Answer}
 use Rattle.bi_c.specs.declared.failure.Failure.TheVariants.{WrongArgument, Refused, OutOfMemory}
@@ -113,6 +117,15 @@ pub record ExtractFailuresAreKnown : Type 0 where
   pub no_index : failure_of_extract_error extract.NoIndex ≡ NotFound 8 0
   pub no_payload : failure_of_extract_error extract.NoPayload ≡ NotFound 9 0
 
+-- The failure for each error of getting a value.
+pub record ValueFailuresAreKnown : Type 0 where
+  pub refused : failure_of_get_error (get.Failed (error.Refused cell_fault)) ≡ Refused 1 cell_fault
+  pub out_of_memory : failure_of_get_error (get.Failed error.OutOfMemory) ≡ OutOfMemory
+  pub other_kind : failure_of_get_error get.WrongKind ≡ NotFound 1 0
+  pub no_property : failure_of_get_error (get.NoProperty 0) ≡ NotFound 11 0
+  pub no_text : failure_of_get_error (get.NoText 0) ≡ NotFound 12 0
+  pub no_number : failure_of_get_error (get.NoNumber 0) ≡ NotFound 13 0
+
 -- The kinds of images, a yes and a no, the verdicts, the kinds of concerns, and the keys.
 pub record ValuesAreKnown : Type 0 where
   pub legacy : kind_number Legacy ≡ 1
@@ -123,8 +136,9 @@ pub record ValuesAreKnown : Type 0 where
       ≡ 0 ∷ 1 ∷ 2 ∷ 3 ∷ 4 ∷ []
   pub concerns : map concern_number
       (kind.BadHash ∷ kind.Unhashed ∷ kind.WeakHash ∷ kind.BadList ∷ kind.Missing
-      ∷ kind.BadDefault ∷ kind.Trailing ∷ [])
-      ≡ 1 ∷ 2 ∷ 4 ∷ 8 ∷ 16 ∷ 32 ∷ 64 ∷ []
+      ∷ kind.BadDefault ∷ kind.Trailing ∷ kind.SkippedHash ∷ kind.Unsigned ∷ kind.NoNodes
+      ∷ kind.NoImages ∷ kind.Uncovered ∷ kind.Foreign ∷ kind.Strings ∷ kind.UnitAddress ∷ [])
+      ≡ 1 ∷ 2 ∷ 4 ∷ 8 ∷ 16 ∷ 32 ∷ 64 ∷ 128 ∷ 256 ∷ 512 ∷ 1024 ∷ 2048 ∷ 4096 ∷ 8192 ∷ 16384 ∷ []
   pub keys : map key_number
       (key.Kernel ∷ key.Fdt ∷ key.Ramdisk ∷ key.Firmware ∷ key.Loadables ∷ key.Script ∷ [])
       ≡ 0 ∷ 1 ∷ 2 ∷ 3 ∷ 4 ∷ 5 ∷ []
@@ -143,6 +157,9 @@ pub record ArgumentsAreKnown : Type 0 where
   pub hashes : changes_of 2 5 ≡ record { time = None; hashes = true }
   pub time_and_hashes : changes_of 3 5 ≡ record { time = Some 5; hashes = true }
   pub limits : bounds 128 7 ≡ record { file = 128; depth = 7 }
+  pub value_forms : map value_form_of (0 ∷ 1 ∷ 2 ∷ 3 ∷ []) ≡ Shown ∷ Text ∷ Number ∷ Raw ∷ []
+  pub property : words_of_place (codes "/a") (codes "b") ≡ codes "/a" ∷ codes "b" ∷ []
+  pub field : words_of_place (codes "time") [] ≡ codes "time" ∷ []
   pub no_layout : is_yes 0 ≡ false
   pub layout : is_yes 1 ≡ true
   pub no_address : address_if (has_bit 2 1) 5 ≡ None
@@ -158,7 +175,19 @@ pub record AllowedBitsAreKnown : Type 0 where
   pub missing : allowed_words (allowed_of 16) ≡ codes "missing" ∷ []
   pub bad_default : allowed_words (allowed_of 32) ≡ codes "bad-default" ∷ []
   pub trailing : allowed_words (allowed_of 64) ≡ codes "trailing" ∷ []
+  pub skipped_hash : allowed_words (allowed_of 128) ≡ codes "skipped-hash" ∷ []
+  pub unsigned : allowed_words (allowed_of 256) ≡ codes "unsigned" ∷ []
+  pub no_nodes : allowed_words (allowed_of 512) ≡ codes "no-nodes" ∷ []
+  pub no_images : allowed_words (allowed_of 1024) ≡ codes "no-images" ∷ []
+  pub uncovered : allowed_words (allowed_of 2048) ≡ codes "uncovered" ∷ []
+  pub foreign : allowed_words (allowed_of 4096) ≡ codes "foreign" ∷ []
+  pub strings : allowed_words (allowed_of 8192) ≡ codes "strings" ∷ []
+  pub unit_address : allowed_words (allowed_of 16384) ≡ codes "unit-address" ∷ []
   pub two : allowed_words (allowed_of 68) ≡ codes "weak-hash" ∷ codes "trailing" ∷ []
-  pub all : allowed_words (allowed_of 127)
-      ≡ codes "bad-hash" ∷ codes "unhashed" ∷ codes "weak-hash" ∷ codes "bad-list"
-      ∷ codes "missing" ∷ codes "bad-default" ∷ codes "trailing" ∷ []
+  pub all : allowed_words (allowed_of 32767)
+      ≡ codes "bad-hash" ∷ codes "skipped-hash" ∷ codes "unhashed" ∷ codes "weak-hash"
+      ∷ codes "bad-list" ∷ codes "missing" ∷ codes "unsigned" ∷ codes "no-nodes"
+      ∷ codes "no-images" ∷ codes "uncovered" ∷ codes "foreign" ∷ codes "strings"
+      ∷ codes "unit-address" ∷ codes "bad-default" ∷ codes "trailing" ∷ []
+  pub not_asked : (policy_of 32767).signed ≡ false
+  pub asked : (policy_of 32768).signed ≡ true

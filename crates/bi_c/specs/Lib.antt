@@ -11,9 +11,11 @@ pub mod KnownLegacyCalls
 pub mod KnownNumbers
 pub mod KnownPaths
 pub mod KnownTreeCalls
+pub mod KnownValueCalls
 pub mod LegacyElements
 pub mod NodeElements
 pub mod PieceBuilding
 pub mod TreeBuilding
 pub mod TreeRegions
+pub mod ValueCalls
 pub mod VerdictElements

@@ -5,9 +5,10 @@ ghost use Rattle.bi_base.specs.Limits.{IsInRange};
 ghost use Rattle.bi_c.specs.Arguments.{allowed_of as allowed_of_number, bounds};
 ghost use Rattle.bi_c.specs.Arguments.{form_of as form_of_number};
 ghost use Rattle.bi_c.specs.Arguments.{has_bit as is_set, is_yes, key_of as key_of_number};
+ghost use Rattle.bi_c.specs.Arguments.{policy_of as policy_of_number};
 
 use bi_base::Limits;
-use bi_commands::check::Allowed;
+use bi_commands::check::{Allowed, Policy};
 use bi_fit::Key;
 use bi_norm::Form;
 
@@ -71,21 +72,40 @@ pub(crate) fn has_bit(mask: u32, number: u32) -> bool
     (number / mask) % 2 == 1
 }
 
-/// Returns the kinds that these bits allow, if there are no other bits.
-pub(crate) fn allowed_of(kinds: u32) -> Option<Allowed>
-    ensures in_range { IsSome result ↔ kinds < 128 }
-    ensures value { IfSome result (λ allowed. allowed ≡ allowed_of_number kinds) }
+/// Returns the policy with these bits, if there are no other bits: one for each kind that is
+/// allowed, and one if signatures are asked for.
+pub(crate) fn policy_of(kinds: u32) -> Option<Policy>
+    ensures in_range { IsSome result ↔ kinds < 65536 }
+    ensures value { IfSome result (λ policy. policy ≡ policy_of_number kinds) }
 {
-    if kinds >= 128 {
+    if kinds >= 65536 {
         return None;
     }
-    Some(Allowed {
+    Some(Policy {
+        allowed: allowed_of(kinds),
+        signed: has_bit(32768, kinds),
+    })
+}
+
+/// Returns the kinds that these bits allow.
+fn allowed_of(kinds: u32) -> Allowed
+    ensures { result ≡ allowed_of_number kinds }
+{
+    Allowed {
         bad_hash: has_bit(1, kinds),
+        skipped_hash: has_bit(128, kinds),
         unhashed: has_bit(2, kinds),
         weak_hash: has_bit(4, kinds),
         bad_list: has_bit(8, kinds),
         missing: has_bit(16, kinds),
+        unsigned: has_bit(256, kinds),
+        no_nodes: has_bit(512, kinds),
+        no_images: has_bit(1024, kinds),
+        uncovered: has_bit(2048, kinds),
+        foreign: has_bit(4096, kinds),
+        strings: has_bit(8192, kinds),
+        unit_address: has_bit(16384, kinds),
         bad_default: has_bit(32, kinds),
         trailing: has_bit(64, kinds),
-    })
+    }
 }

@@ -12,7 +12,7 @@ use bi_base::Cause;
 use bi_commands::causes::sentence;
 
 /// The version of the library: that of the program.
-const VERSION: &str = "0.3.0";
+const VERSION: &str = "0.4.0";
 
 /// Writes the name of the cause with the given number, 1 to 26, to a buffer. Returns the status.
 #[unsafe(no_mangle)]

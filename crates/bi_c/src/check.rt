@@ -7,7 +7,7 @@ ghost use Rattle.bi_common.specs.declared.format.Format.TheVariants.{Lines, Json
 ghost use Rattle.bi_report.specs.CheckedFiles.{IsCheckError};
 
 use crate::answer::{Answer, fail, fill};
-use crate::arguments::{allowed_of, limits_of};
+use crate::arguments::{limits_of, policy_of};
 use crate::failure::{Failure, failure_of};
 use bi_base::{Limits, VecSink};
 use bi_commands::check::{Checker, check_into};
@@ -15,8 +15,8 @@ use bi_commands::format::Format;
 use std::alloc::Global;
 
 /// Writes a line to a buffer for each concern about a file, except those of allowed kinds. Sets
-/// `answer.value` to 1 if there is no line, and otherwise to 0. Each bit of `kinds` allows a kind.
-/// Returns the status.
+/// `answer.value` to 1 if there is no line, and otherwise to 0. Each bit of `kinds` allows a kind,
+/// but the greatest, which asks for signatures. Returns the status.
 #[unsafe(no_mangle)]
 pub extern "C" fn bootimg_check(
     alloc: Global,
@@ -34,11 +34,11 @@ pub extern "C" fn bootimg_check(
     let Some(limits) = limits_of(limit, depth) else {
         return fail(Failure::WrongArgument, answer);
     };
-    let Some(allowed) = allowed_of(kinds) else {
+    let Some(policy) = policy_of(kinds) else {
         return fail(Failure::WrongArgument, answer);
     };
     let checker = Checker {
-        allowed,
+        policy,
         format: Format::Lines,
     };
     fill_concerns(alloc, file, checker, limits, buffer, answer)
@@ -63,11 +63,11 @@ pub extern "C" fn bootimg_check_json(
     let Some(limits) = limits_of(limit, depth) else {
         return fail(Failure::WrongArgument, answer);
     };
-    let Some(allowed) = allowed_of(kinds) else {
+    let Some(policy) = policy_of(kinds) else {
         return fail(Failure::WrongArgument, answer);
     };
     let checker = Checker {
-        allowed,
+        policy,
         format: Format::Json,
     };
     fill_concerns(alloc, file, checker, limits, buffer, answer)

@@ -13,7 +13,7 @@ ghost use Rattle.bi_report.specs.ConcernValues.{found_value};
 ghost use Rattle.bi_report.specs.FoundConcerns.{kept_found};
 
 use crate::answer::{Answer, fail, fill};
-use crate::arguments::{allowed_of, limits_of};
+use crate::arguments::{limits_of, policy_of};
 use crate::failure::{Failure, failure_of};
 use crate::nodes::name_region;
 use crate::region::{NOWHERE, Region};
@@ -22,7 +22,7 @@ use bi_commands::check::{Allowed, CheckedImage, Concern, ConcernKind};
 use bi_fit::Key;
 use std::alloc::{AllocError, Global};
 
-/// A concern about a boot image.
+/// A concern about a boot image. The line of one about signatures or unit addresses has its names.
 #[repr(C)]
 #[derive(Clone, Copy, Debug, PartialEq, Eq)]
 pub struct ConcernElement {
@@ -46,7 +46,8 @@ pub struct ConcernElement {
 }
 
 /// Writes the concerns about a file, except those of allowed kinds, in their order, to the
-/// beginning of an array. Each bit of `kinds` allows a kind. Returns the status.
+/// beginning of an array. Each bit of `kinds` allows a kind, but the greatest, which asks for
+/// signatures. Returns the status.
 #[unsafe(no_mangle)]
 pub extern "C" fn bootimg_concerns(
     alloc: Global,
@@ -64,14 +65,14 @@ pub extern "C" fn bootimg_concerns(
     let Some(limits) = limits_of(limit, depth) else {
         return fail(Failure::WrongArgument, answer);
     };
-    let Some(allowed) = allowed_of(kinds) else {
+    let Some(policy) = policy_of(kinds) else {
         return fail(Failure::WrongArgument, answer);
     };
     let image = match CheckedImage::read(alloc, file, limits) {
         Ok(image) => image,
         Err(error) => return fail(failure_of(error), answer),
     };
-    match concern_elements(alloc, &image, allowed) {
+    match concern_elements(alloc, &image, policy.allowed_kinds()) {
         Ok(elements) => fill(&elements, 0, concerns, answer),
         Err(_) => fail(Failure::OutOfMemory, answer),
     }
@@ -115,6 +116,10 @@ fn concern_element(concern: Concern<'_, '_>) -> ConcernElement
             element.algorithm = text_of(node.find_property(b"algo"));
             element.verdict = verdict_number(hash.verdict);
         }
+        Concern::SkippedHash(image, skipped, _hash) => {
+            element.name = name_region(image);
+            element.node = name_region(skipped);
+        }
         Concern::UnhashedImage(image) => element.name = name_region(image),
         Concern::WeakHash(image, _hashes) => element.name = name_region(image),
         Concern::BadKey(configuration, key) => {
@@ -126,6 +131,7 @@ fn concern_element(concern: Concern<'_, '_>) -> ConcernElement
             element.key = key_number(key);
             element.index = index;
         }
+        Concern::Unsigned(_) | Concern::OfSignature(..) | Concern::UnitAddress(_) => (),
         Concern::BadDefault(_default, property) => element.name = text_of(property),
         Concern::TrailingBytes(count) => element.size = count,
     }
@@ -138,10 +144,18 @@ fn kind_number(kind: ConcernKind) -> u32
 {
     match kind {
         ConcernKind::BadHash => 1,
+        ConcernKind::SkippedHash => 128,
         ConcernKind::Unhashed => 2,
         ConcernKind::WeakHash => 4,
         ConcernKind::BadList => 8,
         ConcernKind::Missing => 16,
+        ConcernKind::Unsigned => 256,
+        ConcernKind::NoNodes => 512,
+        ConcernKind::NoImages => 1024,
+        ConcernKind::Uncovered => 2048,
+        ConcernKind::Foreign => 4096,
+        ConcernKind::Strings => 8192,
+        ConcernKind::UnitAddress => 16384,
         ConcernKind::BadDefault => 32,
         ConcernKind::Trailing => 64,
     }

@@ -10,6 +10,7 @@ ghost use Rattle.bi_c.specs.KnownLegacyCalls.{HeaderCallsAreKnown, LegacyBuildin
 ghost use Rattle.bi_c.specs.KnownLegacyCalls.{LegacySelectionsAreKnown, TextCallsAreKnown};
 ghost use Rattle.bi_c.specs.KnownTreeCalls.{TreeBuildingIsKnown, TreeReasonsAreKnown};
 ghost use Rattle.bi_c.specs.KnownTreeCalls.{TreeSelectionsAreKnown};
+ghost use Rattle.bi_c.specs.KnownValueCalls.{ValueCallsAreKnown};
 
 /// The element of a concern of each kind is known.
 pub fn concern_elements_are_known()
@@ -92,3 +93,10 @@ pub fn tree_reasons_are_known()
 pub fn tree_building_is_known()
     ensures { TreeBuildingIsKnown }
 {}
+
+/// What the call that gets a value returns for a small file is known.
+pub fn value_calls_are_known()
+    ensures { ValueCallsAreKnown }
+{
+    bi_legacy::laws::one_meaning();
+}

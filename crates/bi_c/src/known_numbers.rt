@@ -4,7 +4,7 @@
 ghost use Rattle.bi_c.specs.KnownNumbers.{StatusNumbersAreKnown, AnswersAreKnown};
 ghost use Rattle.bi_c.specs.KnownNumbers.{ReasonsAreKnown, ExtractFailuresAreKnown};
 ghost use Rattle.bi_c.specs.KnownNumbers.{NodeReasonsAreKnown, ValuesAreKnown, ArgumentsAreKnown};
-ghost use Rattle.bi_c.specs.KnownNumbers.{AllowedBitsAreKnown};
+ghost use Rattle.bi_c.specs.KnownNumbers.{AllowedBitsAreKnown, ValueFailuresAreKnown};
 
 /// The statuses are the numbers of the header.
 pub fn status_numbers_are_known()
@@ -29,6 +29,11 @@ pub fn node_reasons_are_known()
 /// Each error of extracting has a known failure.
 pub fn extract_failures_are_known()
     ensures { ExtractFailuresAreKnown }
+{}
+
+/// Each error of getting a value has a known failure.
+pub fn value_failures_are_known()
+    ensures { ValueFailuresAreKnown }
 {}
 
 /// The kinds of images, a yes and a no, the verdicts, the kinds of concerns and the keys are known

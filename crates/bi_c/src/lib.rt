@@ -30,6 +30,7 @@ mod regions;
 mod show;
 mod texts;
 mod update;
+mod values;
 mod verdicts;
 mod writing;
 

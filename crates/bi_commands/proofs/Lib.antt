@@ -14,3 +14,4 @@ pub mod ChoiceFacts
 pub mod PartFacts
 pub mod ExtractFacts
 pub mod PromiseFacts
+pub mod DescribedValues

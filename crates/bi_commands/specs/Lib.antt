@@ -1,10 +1,12 @@
 pub mod BuildCommands
 pub mod CauseSentences
+pub mod ConcernSentences
 pub mod Extracting
 pub mod Parts
 pub mod KnownBounds
 pub mod KnownUpdates
 pub mod UpdatedFileLaws
+pub mod DescribedValues
 pub mod UpdatedFiles
 pub mod ExtractingAll
 pub mod Payloads

@@ -1,6 +1,7 @@
-//! Laws of what is updated, extracted and built. Their functions do nothing: what each of them
+//! Laws of what is got, updated, extracted and built. Their functions do nothing: what each of them
 //! ensures is the law.
 
+ghost use Rattle.bi_commands.specs.DescribedValues.{ShownValuesAreDescribed};
 ghost use Rattle.bi_commands.specs.ExtractingAll.{EachPayloadHasItsFile, FileNamesAreSafe};
 ghost use Rattle.bi_commands.specs.Parts.{LengthsAreCut};
 ghost use Rattle.bi_commands.specs.UpdatedFileLaws.{NoChangeNormalises};
@@ -25,4 +26,10 @@ pub fn each_payload_has_its_file()
 /// The files of the payloads of a boot image have safe names, and no two have the same name.
 pub fn file_names_are_safe()
     ensures { FileNamesAreSafe }
+{}
+
+/// The line of a value without another form is the end of a line of the description of the file:
+/// what follows the path and the name of the property, or the key of the field.
+pub fn shown_values_are_described()
+    ensures { ShownValuesAreDescribed }
 {}

@@ -5,6 +5,7 @@
 pub mod build_fit;
 pub mod build_legacy;
 pub mod causes;
+pub mod concerns;
 pub mod convert;
 pub mod extract;
 pub mod extract_all;

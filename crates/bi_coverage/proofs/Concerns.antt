@@ -1,10 +1,13 @@
-use Rattle.std.proofs.Common.{◌≡◌, ℕ, List, [], ◌∷◌, ◌++◌, Bool, true, false, not, map, filter, Option, Some, refl, sym, ap, ◌∙◌}
-use Rattle.std.proofs.Common.{append_assoc}
+use Rattle.std.proofs.Common.{◌≡◌, ℕ, List, [], ◌∷◌, ◌++◌, Bool, true, false, not, map, filter, Option, Some, refl, sym, ap, subst, ◌∙◌}
+use Rattle.std.proofs.Common.{append_assoc, bytes_eq}
 use Rattle.std.specs.FinMap.{get}
-use Rattle.std.specs.Prelude.{◌&&◌, if◌then◌else◌}
-use Rattle.std.specs.List.{list_all}
+use Rattle.std.specs.Prelude.{◌&&◌, ◌||◌, if◌then◌else◌}
+use Rattle.std.specs.List.{list_all, list_any}
 use Rattle.std.proofs.lemmas.List.{map-append}
 use Rattle.std.proofs.lemmas.List.Elements.{filter-append}
+use Rattle.std.proofs.lemmas.List.Folds.{list_all-append, list_any-append}
+use Rattle.std.proofs.lemmas.Bool.{and_parts}
+use Rattle.std.proofs.lemmas.Slice.Eq.{bytes_eq-Decides}
 use Rattle.bi_blob.specs.Layout.{is_among}
 use Rattle.bi_blob.specs.Lookups.{Sibling, value_named}
 use Rattle.bi_blob.specs.Tree.{FileNode, properties_of}
@@ -12,7 +15,8 @@ use Rattle.bi_fdt.specs.Content.{root_of}
 use Rattle.bi_fit.specs.Content.{FitModel}
 use Rattle.bi_fit.proofs.FileNodes.{get-by_name}
 use Rattle.bi_coverage.specs.Coverage.{SignatureConcern, Uncovered, Foreign, Strings, is_covered, uncovered_concerns, foreign_paths}
-use Rattle.bi_coverage.specs.Coverage.{reference_concerns, concerns_of_paths, concerns_of_strings, strings_concerns, has_strings}
+use Rattle.bi_coverage.specs.Coverage.{path_differences}
+use Rattle.bi_coverage.specs.Coverage.{concerns_of_paths, concerns_of_strings, strings_concerns, has_strings}
 use Rattle.bi_coverage.specs.Coverage.{recorded_end}
 use Rattle.bi_coverage.specs.Coverage.{hashed_strings_name}
 use Rattle.bi_coverage.specs.Paths.{each_once}
@@ -97,23 +101,67 @@ foreign_once (path ∷ later) needed = by (is_among path needed) refl (among_onc
     by false is same rest = rw (same, is) (ap (λ l. path ∷ l) rest)
 
 -- The concerns about paths, added one kind after the other.
-pub all_added : (old one two three : List SignatureConcern) (references : List (List ℕ)) (parts : List NeededPart)
-    (listed recorded needed : List (List ℕ)) → recorded ≡ each_once listed → needed ≡ each_once (paths_of_parts parts) →
-    one ≡ old ++ reference_concerns references → two ≡ one ++ uncovered_concerns recorded parts →
-    three ≡ two ++ map Foreign (foreign_paths recorded needed) → three ≡ old ++ concerns_of_paths references parts (Some listed)
-all_added old one two three references parts listed recorded needed is_recorded is_needed is_one is_two is_three =
+pub differences_added : (old two three : List SignatureConcern) (parts : List NeededPart) (listed recorded needed : List (List ℕ)) →
+    recorded ≡ each_once listed → needed ≡ each_once (paths_of_parts parts) →
+    two ≡ old ++ uncovered_concerns recorded parts → three ≡ two ++ map Foreign (foreign_paths recorded needed) →
+    three ≡ old ++ path_differences parts listed
+differences_added old two three parts listed recorded needed is_recorded is_needed is_two is_three =
     let uncovered : uncovered_concerns recorded parts ≡ uncovered_concerns listed parts =
     ap (λ l. uncovered_concerns l parts) is_recorded ∙ uncovered_once listed parts in
     let foreign : foreign_paths recorded needed ≡ foreign_paths (each_once listed) (paths_of_parts parts) =
     ap (λ l. foreign_paths l needed) is_recorded ∙ ap (foreign_paths (each_once listed)) is_needed
     ∙ foreign_once (each_once listed) (paths_of_parts parts) in
     is_three
-    ∙ ap (λ l. l ++ map Foreign (foreign_paths recorded needed)) (is_two ∙ ap (λ l. l ++ uncovered_concerns recorded parts) is_one)
-    ∙ ap (λ l. (old ++ reference_concerns references ++ uncovered_concerns recorded parts) ++ map Foreign l) foreign
-    ∙ ap (λ l. (old ++ reference_concerns references ++ l) ++ map Foreign
-    (foreign_paths (each_once listed) (paths_of_parts parts))) uncovered
-    ∙ append_assoc (old ++ reference_concerns references) (uncovered_concerns listed parts) _
-    ∙ append_assoc old (reference_concerns references) _
+    ∙ ap (λ l. l ++ map Foreign (foreign_paths recorded needed)) is_two
+    ∙ ap (λ l. (old ++ uncovered_concerns recorded parts) ++ map Foreign l) foreign
+    ∙ ap (λ l. (old ++ l) ++ map Foreign (foreign_paths (each_once listed) (paths_of_parts parts))) uncovered
+    ∙ append_assoc old (uncovered_concerns listed parts) _
+
+-- Each of some names is among them.
+among_self : (before paths : List (List ℕ)) → list_all (λ path. is_among path (before ++ paths)) paths ≡ true
+among_self before [] = refl
+among_self before (path ∷ later) =
+    let here : is_among path (before ++ path ∷ later) ≡ true =
+    list_any-append (λ other. bytes_eq other path) before (path ∷ later)
+    ∙ ap (λ b. list_any (λ other. bytes_eq other path) before || (b || list_any (λ other. bytes_eq other path) later))
+    ((bytes_eq-Decides path path).1 refl)
+    ∙ or_true (list_any (λ other. bytes_eq other path) before) in
+    let rest : list_all (λ other. is_among other (before ++ path ∷ later)) later ≡ true =
+    subst (λ l. list_all (λ other. is_among other l) later ≡ true) (append_assoc before (path ∷ []) later)
+    (among_self (before ++ path ∷ []) later) in
+    rw here rest
+  where
+    or_true : (b : Bool) → (b || true) ≡ true
+    or_true true = refl
+    or_true false = refl
+
+-- No path is foreign if all are needed.
+none_foreign : (recorded needed : List (List ℕ)) → list_all (λ path. is_among path needed) recorded ≡ true →
+    foreign_paths recorded needed ≡ []
+none_foreign [] needed are = refl
+none_foreign (path ∷ later) needed are =
+    let both = and_parts (is_among path needed) _ are in
+    rw both.0 (none_foreign later needed both.1)
+
+-- No part is a concern if all paths are recorded.
+none_uncovered : (recorded : List (List ℕ)) (parts : List NeededPart) →
+    list_all (λ path. is_among path recorded) (paths_of_parts parts) ≡ true → uncovered_concerns recorded parts ≡ []
+none_uncovered recorded [] are = refl
+none_uncovered recorded (part ∷ later) are =
+    let both = and_parts (is_covered recorded part) _
+    (sym (list_all-append (λ path. is_among path recorded) (paths_of_part part) (paths_of_parts later)) ∙ are) in
+    rw both.0 (none_uncovered recorded later both.1)
+
+-- There is no concern about the needed paths in order.
+pub same_paths : (parts : List NeededPart) (listed : List (List ℕ)) → listed ≡ paths_of_parts parts → path_differences parts listed ≡ []
+same_paths parts listed is =
+    let paths = paths_of_parts parts in
+    let covered : uncovered_concerns paths parts ≡ [] = none_uncovered paths parts (among_self [] paths) in
+    let foreign : foreign_paths (each_once paths) paths ≡ [] =
+    sym (foreign_once (each_once paths) paths) ∙ none_foreign (each_once paths) (each_once paths) (among_self [] (each_once paths)) in
+    ap (path_differences parts) is
+    ∙ ap (λ l. l ++ map Foreign (foreign_paths (each_once paths) paths)) covered
+    ∙ ap (map Foreign) foreign
 
 -- The concern about strings is added to them.
 pub strings_added : (content : FitModel) (sibling : Sibling FileNode) (references : List (List ℕ)) (parts : List NeededPart)

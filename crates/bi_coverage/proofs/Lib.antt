@@ -1,4 +1,5 @@
 pub mod NamesOnce
+pub mod NameBuckets
 pub mod NodePaths
 pub mod Ends
 pub mod Meanings

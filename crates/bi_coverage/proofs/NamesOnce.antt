@@ -25,7 +25,8 @@ with_all_new-append held [] later = refl
 with_all_new-append held (name ∷ names) later = with_all_new-append (with_new held name) names later
 
 -- What is among names and one more.
-among_new : (held : List (List ℕ)) (name path : List ℕ) → is_among path (with_new held name) ≡ (is_among path held || bytes_eq name path)
+pub among_new : (held : List (List ℕ)) (name path : List ℕ) →
+    is_among path (with_new held name) ≡ (is_among path held || bytes_eq name path)
 among_new held name path = by (is_among name held) (bytes_eq name path) refl refl
   where
     or_true : (b : Bool) → (b || true) ≡ true

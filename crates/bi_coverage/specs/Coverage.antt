@@ -54,15 +54,21 @@ uncovered_concerns recorded parts =
 abbrev pub foreign_paths : (recorded needed : List (List ℕ)) → List (List ℕ)
 foreign_paths recorded needed = filter (λ path. not (is_among path needed)) recorded
 
--- The concerns about the paths that a signature node records, if its configuration has these
+-- The concerns about the paths that a signature node records, if its configuration needs these
+-- parts.
+abbrev pub path_differences : List NeededPart → (recorded : List (List ℕ))
+    → List SignatureConcern
+path_differences parts recorded =
+    uncovered_concerns recorded parts
+    ++ map Foreign (foreign_paths (each_once recorded) (paths_of_parts parts))
+
+-- The concerns about a signature node that records these paths, if its configuration has these
 -- references and needs these parts. It may record no list of paths.
 abbrev pub concerns_of_paths : (references : List (List ℕ)) → List NeededPart
     → Option (List (List ℕ)) → List SignatureConcern
 concerns_of_paths references parts None = NoNodes ∷ []
 concerns_of_paths references parts (Some recorded) =
-    reference_concerns references
-    ++ (uncovered_concerns recorded parts
-    ++ map Foreign (foreign_paths (each_once recorded) (paths_of_parts parts)))
+    reference_concerns references ++ path_differences parts recorded
 
 -- All concerns about a signature node of a configuration but that about strings. They are a
 -- function of the image tree.

@@ -1,4 +1,5 @@
 pub mod Paths
+pub mod NameBuckets
 pub mod Signatures
 pub mod Numbers
 pub mod Coverage

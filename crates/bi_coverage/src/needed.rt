@@ -110,7 +110,7 @@ pub(crate) fn needed_paths<'p>(
     ensures { IfOk result (λ paths. paths
         ≡ each_once (paths_of_parts (map part_value parts.entry.now))) }
 {
-    let mut paths = NameSet::new(alloc);
+    let mut paths = NameSet::new(alloc, parts.len())?;
     for part in parts {
         add_part(&mut paths, part)?;
     }

@@ -14,7 +14,8 @@ ghost use Rattle.bi_fit.specs.Judgement.{listed_names};
 ghost use Rattle.bi_fit.specs.NormalNodes.{HasDistinctNames};
 ghost use Rattle.bi_coverage.specs.Coverage.{Foreign, Strings, coverage_of, configuration_coverage};
 ghost use Rattle.bi_coverage.specs.Coverage.{has_strings as reaches};
-ghost use Rattle.bi_coverage.specs.Coverage.{concerns_of_paths, reference_concerns, signature_with};
+ghost use Rattle.bi_coverage.specs.Coverage.{concerns_of_paths, path_differences, signature_with};
+ghost use Rattle.bi_coverage.specs.Coverage.{reference_concerns};
 ghost use Rattle.bi_coverage.specs.Coverage.{strings_concerns, uncovered_concerns, foreign_paths};
 ghost use Rattle.bi_coverage.specs.Numbers.{sum_of as total_of};
 ghost use Rattle.bi_coverage.specs.Signatures.{all_needed_length, needed_lengths, parts_for};
@@ -26,7 +27,7 @@ ghost use Rattle.bi_coverage.specs.NeededParts.{part_value};
 
 use crate::concern::SignatureConcern;
 use crate::covered_names::covered_by_image;
-use crate::listed_paths::{is_covered, listed_paths};
+use crate::listed_paths::{is_covered, listed_paths, lists_parts};
 use crate::name_set::NameSet;
 use crate::needed::{
     add_image_length, add_length, add_lengths, image_part, needed_paths, single_part,
@@ -232,31 +233,12 @@ impl<'a, 'b> IndexedFit<'a, 'b> {
         let length = self.needed_length(name, references.names())?;
         let sum = add_lengths(total, length, signed.len(), self.limit)?;
         let parts = self.needed_parts(alloc, name, references.names())?;
-        let signatures = self.read_all(alloc, &signed, references.names(), &parts)?;
-        Ok((ConfigurationCoverage { name, signatures }, sum))
-    }
-
-    /// Reads these signed nodes of a configuration with these references and needed parts. Fails if
-    /// memory runs out.
-    fn read_all(
-        &self,
-        alloc: Global,
-        signed: &[NodeRef<'a, '_>],
-        references: &[&'a [u8]],
-        parts: &[NeededPart],
-    ) -> Result<Vec<SignatureCoverage<'a>>, AllocError>
-        ensures { IfOk result (λ read. map signature_value read.items ≡ map
-            (signature_with self.now.content (bytes_of references.now)
-            (map part_value parts.now))
-            (map meaning_of_node signed.now)) }
-    {
-        let paths = needed_paths(alloc, parts)?;
         let needs = Needs {
-            references,
-            parts,
-            paths: &paths,
+            references: references.names(),
+            parts: &parts,
         };
-        self.read_signatures(alloc, signed, needs)
+        let signatures = self.read_signatures(alloc, &signed, needs)?;
+        Ok((ConfigurationCoverage { name, signatures }, sum))
     }
 
     /// Reads these signed nodes of a configuration with these needs. Fails if memory runs out.
@@ -264,7 +246,7 @@ impl<'a, 'b> IndexedFit<'a, 'b> {
         &self,
         alloc: Global,
         signed: &[NodeRef<'a, '_>],
-        needs: Needs<'a, '_, '_>,
+        needs: Needs<'a, '_>,
     ) -> Result<Vec<SignatureCoverage<'a>>, AllocError>
         ensures { IfOk result (λ read. map signature_value read.items ≡ map
             (signature_with self.now.content (bytes_of needs.entry.references.now)
@@ -322,7 +304,7 @@ impl<'a, 'b> IndexedFit<'a, 'b> {
         &self,
         alloc: Global,
         signature: NodeRef<'a, '_>,
-        needs: Needs<'a, '_, '_>,
+        needs: Needs<'a, '_>,
     ) -> Result<SignatureCoverage<'a>, AllocError>
         ensures { IfOk result (λ read. signature_value read
             ≡ signature_with self.now.content (bytes_of needs.entry.references.now)
@@ -340,7 +322,7 @@ impl<'a, 'b> IndexedFit<'a, 'b> {
         &self,
         alloc: Global,
         signature: NodeRef<'a, '_>,
-        needs: Needs<'a, '_, '_>,
+        needs: Needs<'a, '_>,
     ) -> Result<Vec<SignatureConcern<'a>>, AllocError>
         ensures { IfOk result (λ concerns. map signature_concern concerns.items
             ≡ concerns_of_paths (bytes_of needs.entry.references.now)
@@ -365,17 +347,38 @@ fn add_path_concerns<'a>(
     alloc: Global,
     concerns: &mut Vec<SignatureConcern<'a>>,
     list: &'a [u8],
-    needs: Needs<'a, '_, '_>,
+    needs: Needs<'a, '_>,
 ) -> Result<(), AllocError>
     ensures { OnOk result (map signature_concern concerns.new.items
         ≡ map signature_concern concerns.old.items
         ++ concerns_of_paths (bytes_of needs.entry.references.now)
         (map part_value needs.entry.parts.now) (Some (listed_names list.entry.now))) }
 {
-    let recorded = listed_paths(alloc, list)?;
     add_image_concern(concerns, needs.references)?;
-    add_uncovered(alloc, concerns, &recorded, needs.parts)?;
-    add_foreign(concerns, &recorded, needs.paths)?;
+    // Most signatures record exactly the needed paths: then no set of names is made.
+    if lists_parts(list, needs.parts) {
+        return Ok(());
+    }
+    add_differences(alloc, concerns, list, needs.parts)?;
+    Ok(())
+}
+
+/// Adds the concerns about the parts that are not covered by the paths that a value lists, and about
+/// those paths that are not needed. Fails if memory runs out.
+fn add_differences<'a>(
+    alloc: Global,
+    concerns: &mut Vec<SignatureConcern<'a>>,
+    list: &'a [u8],
+    parts: &[NeededPart],
+) -> Result<(), AllocError>
+    ensures { OnOk result (map signature_concern concerns.new.items
+        ≡ map signature_concern concerns.old.items
+        ++ path_differences (map part_value parts.now) (listed_names list.entry.now)) }
+{
+    let recorded = listed_paths(alloc, list)?;
+    let needed = needed_paths(alloc, parts)?;
+    add_uncovered(alloc, concerns, &recorded, parts)?;
+    add_foreign(concerns, &recorded, &needed)?;
     Ok(())
 }
 

@@ -45,7 +45,7 @@ pub(crate) fn references<'a>(
     ensures { IfOk result (λ found. found
         ≡ references_of (tree_of fit.now) (meaning_of_node configuration.entry)) }
 {
-    let mut found = NameSet::new(alloc);
+    let mut found = NameSet::new(alloc, 0)?;
     for (_, property) in configuration.properties_in(order) {
         if let Some(list) = image_list(property) {
             add_images(&mut found, fit, list)?;

@@ -7,3 +7,7 @@ pub mod HexadecimalTexts
 pub mod PlaceWords
 pub mod PayloadWords
 pub mod KnownWordFacts
+pub mod AppliedEdits
+pub mod PresentNodes
+pub mod ChangedNodes
+pub mod GivenDigests

@@ -8,7 +8,7 @@ use Rattle.bi_common.proofs.ReadableWords.ShownNames.{is_blank, is_slash, same_s
 use Rattle.bi_edit.specs.Cuts.{from_byte, IsCutAt, LacksByte}
 use Rattle.bi_edit.specs.EditWords.{ArePathNamesIn, IsChildWord, slash_and_name}
 use Rattle.bi_edit.specs.Places.{AreChildNames, IsChildNameOfBytes, IsNodePath}
-use Rattle.bi_tree.specs.TreeNodes.{names_of_path}
+use Rattle.bi_edit.specs.Places.{names_of_path}
 use Rattle.bi_edit.proofs.CutTexts.{no_end, no_space, ends-from_byte}
 
 -- The names of a path are read back from how it is printed.

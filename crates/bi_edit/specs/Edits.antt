@@ -1,11 +1,12 @@
-use Rattle.std.specs.Prelude.{◌≡◌, ℕ, ◌+◌, ◌≤◌, ⊤, ◌⊎◌, Bool, true, false, List, [], ◌∷◌, ◌++◌}
-use Rattle.std.specs.Prelude.{filter, length, None, bytes_eq, if◌then◌else◌}
+use Rattle.std.specs.Prelude.{◌≡◌, ℕ, ◌+◌, ◌≤◌, ◌==◌, ⊤, ◌⊎◌, Bool, true, false, List, [], ◌∷◌}
+use Rattle.std.specs.Prelude.{filter, flat_map, length, None, bytes_eq, if◌then◌else◌}
 use Rattle.std.specs.Fmt.{decimal}
-use Rattle.std.specs.FinMap.{empty, get}
+use Rattle.std.specs.FinMap.{get}
 use Rattle.bi_base.specs.Cells.{cell}
 use Rattle.bi_base.specs.Limits.{Limits}
 use Rattle.bi_blob.specs.Tree.{Nodes, none, node, Root, PropertyMap}
-use Rattle.bi_tree.specs.Changes.{node_by_path, with_change_at, with_node_at, without_node_at}
+use Rattle.bi_tree.specs.Changes.{node_by_path, with_change_at, without_node_at}
+use Rattle.bi_tree.specs.Trees.{value_by_path, with_own_value, with_value_by_path, without_value_by_path}
 use Rattle.bi_fit.specs.ImageTree.{ImageTree, with_image_nodes}
 use Rattle.bi_fit.specs.Names.{data_name, timestamp_name}
 use Rattle.bi_fit.specs.Updating.{with_digests_of}
@@ -17,43 +18,34 @@ use Rattle.bi_edit.specs.declared.edit.Edit.TheVariants.{SetField, SetPayload, S
 use Rattle.bi_edit.specs.declared.edit.FieldValue.{FieldValue}
 use Rattle.bi_edit.specs.declared.edit.FieldValue.TheVariants as field
 use Rattle.bi_edit.specs.Places.{image_path}
-use Rattle.bi_edit.specs.Plain.{plain_root, with_plain_root, value_at_place}
-use Rattle.bi_edit.specs.Plain.{with_own_value, without_own_value}
+use Rattle.bi_edit.specs.Plain.{plain_root, with_plain_root}
 
 -- What edits make of the meaning of a boot image (profile of this project).
 
 -- ---- the order of edits
 
--- The kinds of edits, in the order in which they are made.
-abbrev pub is_removal : Edit → Bool
-is_removal (RemoveNode path) = true
-is_removal (RemoveProperty place) = true
-is_removal other = false
+-- The turn in which an edit is made, by its kind: removals first, then new values, payloads, the
+-- time, and the digests.
+abbrev pub turn_of : Edit → ℕ
+turn_of (RemoveNode path) = 0
+turn_of (RemoveProperty place) = 0
+turn_of (SetProperty place value) = 1
+turn_of (SetField value) = 1
+turn_of (SetPayload image payload) = 2
+turn_of (SetTime time) = 3
+turn_of SetDigests = 4
 
-abbrev pub is_setting : Edit → Bool
-is_setting (SetProperty place value) = true
-is_setting (SetField value) = true
-is_setting other = false
+-- Those of these edits that have a turn, in their order.
+abbrev pub edits_of_turn : (turn : ℕ) → List Edit → List Edit
+edits_of_turn turn edits = filter (λ edit. turn_of edit == turn) edits
 
-abbrev pub is_payload : Edit → Bool
-is_payload (SetPayload image payload) = true
-is_payload other = false
+-- All turns.
+abbrev pub turns : List ℕ
+turns = 0 ∷ 1 ∷ 2 ∷ 3 ∷ 4 ∷ []
 
-abbrev pub is_time : Edit → Bool
-is_time (SetTime time) = true
-is_time other = false
-
-abbrev pub is_digests : Edit → Bool
-is_digests SetDigests = true
-is_digests other = false
-
--- Edits in the order in which they are made: removals first, then new values, payloads, the time,
--- and the digests. Edits of one kind keep their order.
+-- Edits in the order in which they are made. Those of one turn keep their order.
 abbrev pub in_edit_order : List Edit → List Edit
-in_edit_order edits =
-    filter is_removal edits
-    ++ (filter is_setting edits
-    ++ (filter is_payload edits ++ (filter is_time edits ++ filter is_digests edits)))
+in_edit_order edits = flat_map (λ turn. edits_of_turn turn edits) turns
 
 -- ---- flattened image trees
 
@@ -67,11 +59,8 @@ with_payload_digests (node name own children later) =
 -- A plain tree after an edit. It has no field of a legacy image.
 abbrev pub edited_root : Root PropertyMap → Edit → Root PropertyMap
 edited_root root (RemoveNode path) = without_node_at path root
-edited_root root (RemoveProperty place) =
-    with_change_at place.path (without_own_value place.name) root
-edited_root root (SetProperty place value) =
-    with_change_at place.path (with_own_value place.name value.items)
-    (with_node_at empty place.path root)
+edited_root root (RemoveProperty place) = without_value_by_path place.path place.name root
+edited_root root (SetProperty place value) = with_value_by_path place.path place.name value.items root
 edited_root root (SetField value) = root
 edited_root root (SetPayload image payload) =
     with_change_at (image_path image) (with_own_value data_name payload.now) root
@@ -159,7 +148,7 @@ IsTooDeep limits edit = ⊥
 -- An edit has nothing to remove, or no image to change.
 abbrev pub FindsNothing : Root PropertyMap → Edit → Type 0
 FindsNothing root (RemoveNode path) = node_by_path root path ≡ None
-FindsNothing root (RemoveProperty place) = value_at_place root place ≡ None
+FindsNothing root (RemoveProperty place) = value_by_path root place.path place.name ≡ None
 FindsNothing root (SetPayload image payload) = node_by_path root (image_path image) ≡ None
 FindsNothing root edit = ⊥
 

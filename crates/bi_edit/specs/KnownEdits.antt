@@ -10,10 +10,14 @@ use Rattle.bi_legacy.specs.Meaning.{LegacyImage}
 use Rattle.bi_norm.specs.Meaning.{OfFit, OfLegacy}
 use Rattle.bi_edit.specs.declared.edit.Edit.TheVariants.{RemoveNode, RemoveProperty, SetProperty}
 use Rattle.bi_edit.specs.declared.edit.Edit.TheVariants.{SetField, SetPayload, SetTime, SetDigests}
+use Rattle.bi_edit.specs.declared.applying.ApplyError.TheVariants as error
 use Rattle.bi_edit.specs.declared.edit.FieldValue.TheVariants as field
 use Rattle.bi_edit.specs.Edits.{edited_root, edited_legacy, in_edit_order}
-use Rattle.bi_edit.specs.Edits.{FindsNothing, IsFirstRefused, IsOfKind, LacksPart}
+use Rattle.bi_edit.specs.Applying.{IsApplyError}
+use Rattle.bi_edit.specs.Edits.{AllFind, FindsNothing, IsFirstRefused, IsOfKind, LacksPart}
+use Rattle.bi_edit.specs.Edits.{root_after}
 use Rattle.bi_edit.specs.Places.{PropertyPlaceModel, IsPlace, IsRemovable, image_path, images_path}
+use Rattle.bi_edit.specs.Places.{names_of_path}
 use Rattle.bi_edit.specs.Plain.{plain_root}
 
 -- A small tree and what it is after edits, by which a reader can judge the definitions.
@@ -90,6 +94,16 @@ pub record EditsAreKnown : Type 0 where
         own = insert empty timestamp_name (cell 5);
         children = (board payload).children;
       }
+  pub both : (payload : List ℕ)
+      → root_after (board payload)
+      (RemoveNode (image_path (codes "a")) ∷ RemoveNode (image_path (codes "b")) ∷ [])
+      ≡ record {
+        own = empty;
+        children = node images_name empty none
+            (node (codes "configurations") empty none none);
+      }
+  pub names : (first second : Vec ℕ Global)
+      → names_of_path (first ∷ second ∷ []) ≡ first.items ∷ second.items ∷ []
 
 -- Edits are made in their order, whatever their order in a list.
 pub record OrderIsKnown : Type 0 where
@@ -141,6 +155,16 @@ pub record EditRefusalsAreKnown : Type 0 where
       → IsFirstRefused (board payload)
       (RemoveNode (image_path (codes "a")) ∷ RemoveNode (image_path (codes "a")) ∷ [])
       (RemoveNode (image_path (codes "a")))
+  pub all_find : (payload : List ℕ)
+      → AllFind (board payload)
+      (RemoveNode (image_path (codes "a")) ∷ RemoveNode (image_path (codes "b")) ∷ [])
+  pub second_finds_nothing : (payload : List ℕ)
+      → ¬ (AllFind (board payload)
+      (RemoveNode (image_path (codes "a")) ∷ RemoveNode (image_path (codes "a")) ∷ []))
+  pub index : IsApplyError (λ edit. edit ≡ SetTime 5) (SetDigests ∷ SetTime 5 ∷ [])
+      (error.FindsNothing 1)
+  pub other_index : ¬ (IsApplyError (λ edit. edit ≡ SetTime 5) (SetDigests ∷ SetTime 5 ∷ [])
+      (error.FindsNothing 0))
   pub no_field : (tree : ImageTree) → IsOfKind (OfFit tree) (SetField (field.Time 1)) → ⊥
   pub no_nodes : (image : LegacyImage) → IsOfKind (OfLegacy image) (RemoveNode images_path) → ⊥
   pub root_stays : IsRemovable [] → ⊥

@@ -1,6 +1,8 @@
 pub mod Places
 pub mod Plain
 pub mod Edits
+pub mod Applying
+pub mod PayloadDigests
 pub mod Cuts
 pub mod Unquoted
 pub mod EditWords

@@ -1,4 +1,6 @@
-use Rattle.std.specs.Prelude.{◌≡◌, ◌≢◌, ◌≤◌, ◌&&◌, ℕ, Bool, false, List, [], ◌∷◌, bytes_eq, length}
+use Rattle.std.specs.Prelude.{◌≡◌, ◌≢◌, ◌≤◌, ◌&&◌, ℕ, Bool, false, List, [], ◌∷◌, Vec, bytes_eq}
+use Rattle.std.specs.Prelude.{length, map}
+use Rattle.std.specs.declared.alloc.Global.{Global}
 use Rattle.std.specs.List.{AllByRecursion}
 use Rattle.bi_base.specs.Cells.{AreBytes}
 use Rattle.bi_blob.specs.Tree.{IsChildName, IsPropertyName}
@@ -6,6 +8,10 @@ use Rattle.bi_fit.specs.Names.{images_name, is_payload_name}
 
 -- The places in a tree that edits are of: nodes, properties and images, by their names (profile of
 -- this project).
+
+-- Names, as the code has them.
+abbrev pub names_of_path : List (Vec ℕ Global) → List (List ℕ)
+names_of_path names = map (λ name. name.items) names
 
 -- A name that a child may have, as bytes.
 pub record IsChildNameOfBytes (name : List ℕ) : Type 0 where

@@ -1,12 +1,10 @@
-use Rattle.std.specs.Prelude.{ℕ, List, map, Option, None, option_and_then}
-use Rattle.std.specs.FinMap.{get, insert, remove}
+use Rattle.std.specs.Prelude.{ℕ, List, map, Option, None}
+use Rattle.std.specs.FinMap.{get}
 use Rattle.bi_blob.specs.Tree.{Root, PropertyMap}
-use Rattle.bi_tree.specs.Changes.{node_by_path}
 use Rattle.bi_fit.specs.ImageTree.{ImageTree, each_own, image_nodes, nodes_or_none}
 use Rattle.bi_fit.specs.ImageTree.{tree_without_payloads, with_image_nodes}
 use Rattle.bi_fit.specs.Names.{data_name}
 use Rattle.bi_fit.specs.Text.{with_payloads}
-use Rattle.bi_edit.specs.Places.{PropertyPlaceModel}
 
 -- A flattened image tree as a plain tree, in which each image node has its payload as the value of
 -- the property `data` (profile of this project).
@@ -24,15 +22,3 @@ plain_payloads root = map (λ own. get own data_name) (each_own (nodes_or_none (
 abbrev pub with_plain_root : Root PropertyMap → ImageTree → ImageTree
 with_plain_root root tree =
     record tree { root = tree_without_payloads root; payloads = plain_payloads root }
-
--- The value of the property at a place, if there is one.
-abbrev pub value_at_place : Root PropertyMap → PropertyPlaceModel → Option (List ℕ)
-value_at_place root place =
-    option_and_then (λ found. get found.own place.name) (node_by_path root place.path)
-
--- A node with this value of one of its properties, and a node without a property.
-abbrev pub with_own_value : (name value : List ℕ) → Root PropertyMap → Root PropertyMap
-with_own_value name value root = record root { own = insert root.own name value }
-
-abbrev pub without_own_value : (name : List ℕ) → Root PropertyMap → Root PropertyMap
-without_own_value name root = record root { own = remove root.own name }

@@ -1,5 +1,8 @@
 //! Edits of boot images.
 
+ghost use Rattle.std.specs.Prelude.{◌≡◌};
+ghost use Rattle.bi_edit.specs.Edits.{turn_of};
+
 use crate::places::{ImageName, NodePlace, PropertyPlace};
 
 /// A value of a field of a legacy header. The type cannot be set.
@@ -43,4 +46,22 @@ pub enum Edit<'a> {
     /// Sets the value of each hash node with a known algorithm, of an image of a flattened image
     /// tree with a payload, to the digest of the payload. A legacy image has no hash nodes.
     SetDigests,
+}
+
+/// The number of turns in which edits are made.
+pub(crate) const TURNS: usize = 5;
+
+impl<'a> Edit<'a> {
+    /// Returns the turn in which the edit is made: removals have the first.
+    pub(crate) fn turn(&self) -> usize
+        ensures { result ≡ turn_of self.now }
+    {
+        match self {
+            Edit::RemoveNode(_) | Edit::RemoveProperty(_) => 0,
+            Edit::SetProperty(_, _) | Edit::SetField(_) => 1,
+            Edit::SetPayload(_, _) => 2,
+            Edit::SetTime(_) => 3,
+            Edit::SetDigests => 4,
+        }
+    }
 }

@@ -1,14 +1,16 @@
 //! The places in a tree that edits are of.
 
-ghost use Rattle.std.specs.Prelude.{◌≡◌, ◌↔◌, IfSome, IfNone, IsTrue};
+ghost use Rattle.std.specs.Prelude.{◌≡◌, ◌↔◌, IfSome, IfNone, IfOk, IsTrue};
+ghost use Rattle.bi_base.specs.Slices.{bytes_of};
 ghost use Rattle.bi_edit.specs.Places.{IsNodePath, IsPlace, IsPropertyNameOfBytes, IsRemovable};
 ghost use Rattle.bi_edit.specs.Places.{AreChildNames, IsChildNameOfBytes};
-ghost use Rattle.bi_tree.specs.TreeNodes.{names_of_path};
+ghost use Rattle.bi_edit.specs.Places.{names_of_path};
 ghost use Rattle.bi_edit.specs.Places.{is_image_path as is_image};
 
 use bi_base::are_bytes;
 use bi_blob::{is_child_name, is_property_name};
 use bi_fit::is_payload_name;
+use std::alloc::{AllocError, Global};
 use std::marker::Model;
 
 /// The greatest number of names in a path.
@@ -24,7 +26,7 @@ pub struct NodePath {
 impl Model for NodePath {
     ghost use Rattle.std.specs.Prelude.{ℕ, List};
     ghost use Rattle.bi_edit.specs.Places.{IsNodePath};
-    ghost use Rattle.bi_tree.specs.TreeNodes.{names_of_path};
+    ghost use Rattle.bi_edit.specs.Places.{names_of_path};
 
     ghost Value = { List (List ℕ) };
 
@@ -46,6 +48,17 @@ impl NodePath {
         } else {
             None
         }
+    }
+
+    /// Returns the names as slices. Fails if memory runs out.
+    pub(crate) fn to_slices<'a>(&'a self, alloc: Global) -> Result<Vec<&'a [u8]>, AllocError>
+        ensures { IfOk result (λ names. bytes_of names.items ≡ self.entry.now) }
+    {
+        let mut names = Vec::with_capacity(alloc, self.names.len())?;
+        for name in &self.names {
+            names.push(name.as_slice())?;
+        }
+        Ok(names)
     }
 
     /// Returns the names.

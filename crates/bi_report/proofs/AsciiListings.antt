@@ -79,7 +79,7 @@ with_byte_bytes : (byte : ℕ) → byte < 2 ^ 8 → (listed : List (List ℕ)) �
 with_byte_bytes byte small [] are = tt
 with_byte_bytes byte small (name ∷ later) are = (AreBytes-cons byte name small are.0, are.1)
 
-listed_bytes : (value : List ℕ) → AreBytes value → AllByRecursion AreBytes (listed_names value)
+pub listed_bytes : (value : List ℕ) → AreBytes value → AllByRecursion AreBytes (listed_names value)
 listed_bytes [] bytes = tt
 listed_bytes (byte ∷ later) bytes = by (byte == 0) (listed_bytes later (AreBytes-right (byte ∷ []) later bytes))
   where

@@ -1,4 +1,4 @@
-use Rattle.std.proofs.Common.{◌≡◌, ℕ, ◌-◌, Bool, true, false, cond, List, [], ◌∷◌, ◌++◌, drop, filter, rules}
+use Rattle.std.proofs.Common.{◌≡◌, ℕ, ◌-◌, Bool, true, false, cond, List, [], ◌∷◌, ◌++◌, drop, filter, length, not, rules}
 use Rattle.std.proofs.Common.{flat_map, map}
 use Rattle.std.proofs.Common.{Option, Some, None, refl, subst, sym}
 use Rattle.std.specs.Prelude.{IfSome, IsAscii, option_and_then}
@@ -8,7 +8,7 @@ use Rattle.std.specs.Option.{option_map}
 use Rattle.bi_base.specs.Cells.{AreBytes}
 use Rattle.bi_base.specs.Limits.{Limits}
 use Rattle.bi_base.specs.Strings.{text_before_nul}
-use Rattle.bi_base.proofs.ListMembers.{each-append, each-filter, each-map, each-weaker}
+use Rattle.bi_base.proofs.ListMembers.{each-append, each-filter, each-map, each-map_back, each-weaker}
 use Rattle.bi_blob.specs.Lookups.{Sibling, siblings}
 use Rattle.bi_blob.specs.Tree.{Nodes, none, node, PropertyMap, AreNodes, names}
 use Rattle.bi_fit.specs.declared.key.Key.{Key}
@@ -33,16 +33,21 @@ use Rattle.bi_common.specs.Lines.{CanPrint}
 use Rattle.bi_common.proofs.PrintedWords.{CanPrintLine, CanPrintLines, line_texts_are_ascii}
 use Rattle.bi_report.specs.declared.check.Allowed.{Allowed}
 use Rattle.bi_report.specs.CheckedFiles.{IsChecked, concerns_text}
-use Rattle.bi_report.specs.Checking.{Concern, BadHash, WeakHash, TrailingBytes}
+use Rattle.bi_coverage.specs.Coverage.{SignatureConcern, NoNodes, NoImages, Uncovered, Foreign, Strings, SignatureCoverage}
+use Rattle.bi_coverage.specs.Coverage.{ConfigurationCoverage}
+use Rattle.bi_report.specs.Checking.{Concern, BadHash, SkippedHash, WeakHash, Unsigned, OfSignature, UnitAddress, TrailingBytes}
 use Rattle.bi_report.specs.Checking.{AreConcerns, OfLegacyImage, OfImageTree, content_end, concern_line, concern_object, concerns_object}
-use Rattle.bi_report.specs.Checking.{configuration_concerns, default_concerns, hash_concerns, hashes_of_image, image_concerns}
-use Rattle.bi_report.specs.Checking.{kept_concerns, list_concerns, payload_concerns, tree_concerns}
-use Rattle.bi_report.specs.Checking.{trailing_concerns}
+use Rattle.bi_report.specs.Checking.{JudgedHash, judged_hash, judged_hashes, used_hashes, is_good, verdict_concerns, skip_concerns}
+use Rattle.bi_report.specs.Checking.{absence_concerns, address_concerns, configuration_concerns, coverage_concerns, default_concerns}
+use Rattle.bi_report.specs.Checking.{hash_concerns, image_concerns, kept_concerns, list_concerns, payload_concerns, signature_concerns}
+use Rattle.bi_report.specs.Checking.{trailing_concerns, tree_concerns, unsigned_concerns}
 use Rattle.bi_report.specs.Details.{name_json}
 use Rattle.bi_report.specs.Reports.{counts_of, hash_line, legacy_report_lines, report_lines, report_object, summary_line, verdict_word}
 use Rattle.bi_report.specs.VerifiedFiles.{IsReport, report_text}
 use Rattle.bi_report.proofs.AsciiListings.{before_nul_bytes, configurations_are_nodes, default_bytes, key_word, node_names_bytes}
+use Rattle.bi_report.proofs.ByteConcerns.{HasBytePath, IsByteCoverage, IsByteSignature, addresses_bytes, coverage_bytes}
 use Rattle.bi_report.proofs.ShortValues.{HasSmallIndex, index_small}
+use Rattle.bi_report.specs.SignedTrees.{coverage_in, is_any_signed, unit_addresses}
 
 -- Reports and the lines of concerns can be printed, so they are ASCII: the names and values that they show are bytes. The numbers in the
 -- concerns about a flattened image tree are below 2^64.
@@ -91,7 +96,7 @@ hashes_bytes image named (node name own children later) are bytes =
 
 -- An image whose name is bytes, and whose hash nodes are.
 abbrev pub IsByteImage : Image → Type 0
-IsByteImage image = AreBytes image.entry.name × AllByRecursion IsByteHash (hashes_of_image image)
+IsByteImage image = AreBytes image.entry.name × AllByRecursion IsByteHash (map (checked_hash image) (hash_nodes image))
 
 images_bytes : (nodes : Nodes PropertyMap) (payloads : List (Option (List ℕ))) → AreNodes ArePropertiesByName nodes → HaveByteNames nodes →
     AllByRecursion IsByteImage (images_with (siblings nodes) payloads)
@@ -189,14 +194,40 @@ weak_hash_can image good named bytes = search (rules, algorithms_can, no_numbers
 pub trailing_can : (count : ℕ) → CanPrintLine (concern_line (TrailingBytes count))
 trailing_can count = (refl, (tt, tt))
 
+skipped_can : (image hash : List ℕ) → AreBytes image → AreBytes hash → CanWrite (SkippedHash image hash)
+skipped_can image hash named bytes = record { line = (refl, (named, (bytes, tt))); numbers = (tt, (tt, (tt, tt))) }
+
 -- The concerns about images.
 if_not : (b : Bool) (concern : Concern) → CanWrite concern → AllByRecursion CanWrite (cond b [] (concern ∷ []))
 if_not true concern can = tt
 if_not false concern can = (can, tt)
 
-hashes_can : (hashes : List CheckedHash) → AllByRecursion IsByteHash hashes → AllByRecursion CanWrite (flat_map hash_concerns hashes)
+if_so : (b : Bool) (concern : Concern) → CanWrite concern → AllByRecursion CanWrite (cond b (concern ∷ []) [])
+if_so true concern can = (can, tt)
+if_so false concern can = tt
+
+-- What a hash node has is bytes, whether U-Boot skips it or not.
+abbrev IsByteJudged : JudgedHash → Type 0
+IsByteJudged hash = IsByteHash hash.checked
+
+judged_bytes : (image : Image) → AllByRecursion IsByteHash (map (checked_hash image) (hash_nodes image)) →
+    AllByRecursion IsByteJudged (judged_hashes image)
+judged_bytes image bytes =
+    each-map IsByteJudged (judged_hash image) (hash_nodes image) (each-map_back IsByteHash (checked_hash image) (hash_nodes image) bytes)
+
+used_bytes : (hashes : List JudgedHash) → AllByRecursion IsByteJudged hashes → AllByRecursion IsByteHash (used_hashes hashes)
+used_bytes hashes bytes =
+    each-map IsByteHash (λ (hash : JudgedHash). hash.checked) _ (each-filter IsByteJudged (λ hash. not hash.is_skipped) hashes bytes)
+
+hashes_can : (hashes : List JudgedHash) → AllByRecursion IsByteJudged hashes → AllByRecursion CanWrite (flat_map hash_concerns hashes)
 hashes_can [] bytes = tt
-hashes_can (hash ∷ later) bytes = search (rules, each-append, if_not, bad_hash_can, hashes_can later bytes.1)
+hashes_can (hash ∷ later) bytes =
+    let checked = hash.checked in
+    each-append CanWrite (hash_concerns hash) (flat_map hash_concerns later)
+    (each-append CanWrite (verdict_concerns checked) (skip_concerns hash)
+    (if_not (is_good checked) (BadHash checked) (bad_hash_can checked bytes.0))
+    (if_so hash.is_skipped (SkippedHash checked.image checked.node_name) (skipped_can checked.image checked.node_name bytes.0.0 bytes.0.1)))
+    (hashes_can later bytes.1)
 
 payload_can : (name : List ℕ) (payload : Option (List ℕ)) (hashes : List CheckedHash) → AreBytes name → AllByRecursion IsByteHash hashes →
     AllByRecursion CanWrite (payload_concerns name payload hashes)
@@ -205,7 +236,13 @@ payload_can name (Some payload) hashes named bytes = search (rules, weak_hash_ca
 
 images_can : (images : List Image) → AllByRecursion IsByteImage images → AllByRecursion CanWrite (flat_map image_concerns images)
 images_can [] bytes = tt
-images_can (image ∷ later) bytes = search (rules, each-append, hashes_can, payload_can, images_can later bytes.1)
+images_can (image ∷ later) bytes =
+    let hashes = judged_hashes image in
+    let are = judged_bytes image bytes.0.1 in
+    each-append CanWrite (image_concerns image) (flat_map image_concerns later)
+    (each-append CanWrite (flat_map hash_concerns hashes) (payload_concerns image.entry.name image.payload (used_hashes hashes))
+    (hashes_can hashes are) (payload_can image.entry.name image.payload (used_hashes hashes) bytes.0.0 (used_bytes hashes are)))
+    (images_can later bytes.1)
 
 -- Those about configurations.
 list_can : (configuration : List ℕ) (key : Key) (listed : ListResult) → AreBytes configuration → HasSmallIndex listed →
@@ -217,6 +254,68 @@ list_can configuration key BadList bytes small =
 list_can configuration key (Missing index) bytes small =
     (record { line = (refl, (bytes, (key_word key, (tt, tt)))); numbers = (tt, (tt, (tt, (small, tt)))) }, tt)
 list_can configuration key (ListedImages images) bytes small = tt
+
+-- Those about signatures and unit addresses.
+unsigned_can : (configuration : Option (List ℕ)) → IfSome configuration AreBytes → CanWrite (Unsigned configuration)
+unsigned_can configuration bytes = record {
+  line = (refl, (name_can configuration bytes, tt));
+  numbers = (tt, (string_has_no_number (option_map shown_text configuration), tt));
+}
+
+signature_can : (configuration signature : List ℕ) (concern : SignatureConcern) → AreBytes configuration → AreBytes signature →
+    HasBytePath concern → CanWrite (OfSignature configuration signature concern)
+signature_can configuration signature NoNodes named bytes has =
+    record { line = (refl, (named, (bytes, tt))); numbers = (tt, (tt, (tt, tt))) }
+signature_can configuration signature NoImages named bytes has =
+    record { line = (refl, (named, (bytes, tt))); numbers = (tt, (tt, (tt, tt))) }
+signature_can configuration signature (Uncovered path) named bytes has =
+    record { line = (refl, (named, (bytes, (has, tt)))); numbers = (tt, (tt, (tt, (tt, tt)))) }
+signature_can configuration signature (Foreign path) named bytes has =
+    record { line = (refl, (named, (bytes, (has, tt)))); numbers = (tt, (tt, (tt, (tt, tt)))) }
+signature_can configuration signature Strings named bytes has =
+    record { line = (refl, (named, (bytes, tt))); numbers = (tt, (tt, (tt, tt))) }
+
+signatures_can : (configuration : List ℕ) (signatures : List SignatureCoverage) → AreBytes configuration →
+    AllByRecursion IsByteSignature signatures → AllByRecursion CanWrite (flat_map (signature_concerns configuration) signatures)
+signatures_can configuration [] named bytes = tt
+signatures_can configuration (signature ∷ later) named bytes =
+    each-append CanWrite (signature_concerns configuration signature) (flat_map (signature_concerns configuration) later)
+    (each-map CanWrite (OfSignature configuration signature.name) signature.concerns
+    (each-weaker HasBytePath (λ concern. CanWrite (OfSignature configuration signature.name concern))
+    (λ concern has. signature_can configuration signature.name concern named bytes.0.0 has) signature.concerns bytes.0.1))
+    (signatures_can configuration later named bytes.1)
+
+no_signature_can : (configuration : List ℕ) (signatures : List SignatureCoverage) → AreBytes configuration →
+    AllByRecursion CanWrite (unsigned_concerns configuration signatures)
+no_signature_can configuration [] named = (unsigned_can (Some configuration) named, tt)
+no_signature_can configuration (first ∷ later) named = tt
+
+coverage_can : (coverage : List ConfigurationCoverage) → AllByRecursion IsByteCoverage coverage →
+    AllByRecursion CanWrite (flat_map coverage_concerns coverage)
+coverage_can [] bytes = tt
+coverage_can (configuration ∷ later) bytes =
+    let name = configuration.name in
+    let signatures = configuration.signatures in
+    each-append CanWrite (coverage_concerns configuration) (flat_map coverage_concerns later)
+    (each-append CanWrite (unsigned_concerns name signatures) (flat_map (signature_concerns name) signatures)
+    (no_signature_can name signatures bytes.0.0) (signatures_can name signatures bytes.0.0 bytes.0.1))
+    (coverage_can later bytes.1)
+
+absence_can : (coverage : List ConfigurationCoverage) → AllByRecursion CanWrite (absence_concerns coverage)
+absence_can [] = (unsigned_can None tt, tt)
+absence_can (first ∷ later) = tt
+
+address_can : (names : List (List ℕ)) → AllByRecursion AreBytes names → CanWrite (UnitAddress names)
+address_can names bytes = record { line = (refl, (bytes, tt)); numbers = (tt, (tt, tt)) }
+
+addresses_can : (coverage : List ConfigurationCoverage) (paths : List (List (List ℕ))) → AllByRecursion (AllByRecursion AreBytes) paths →
+    AllByRecursion CanWrite (address_concerns coverage paths)
+addresses_can coverage paths bytes = by (is_any_signed coverage)
+  where
+    by : (b : Bool) → AllByRecursion CanWrite (cond b (map UnitAddress paths) [])
+    by true = each-map CanWrite UnitAddress paths
+        (each-weaker (AllByRecursion AreBytes) (λ names. CanWrite (UnitAddress names)) address_can paths bytes)
+    by false = tt
 
 module _ (file : List ℕ) (tree : ImageTree) (is : IsFitFile file tree) where
   keys_can : (configuration : List ℕ) → AreBytes configuration → (keys : List Key) →
@@ -237,17 +336,24 @@ module _ (file : List ℕ) (tree : ImageTree) (is : IsFitFile file tree) where
   default_can default (first ∷ later) bytes = search (rules, if_not, name_can, string_has_no_number)
 
   -- The concerns about a tree.
-  pub tree_can : AllByRecursion CanWrite (tree_concerns tree)
+  pub tree_can : AllByRecursion CanWrite (tree_concerns tree (coverage_in file is.root tree))
   tree_can =
       let means = file_means_image_tree file tree is in
+      let coverage = coverage_in file is.root tree in
       let configurations = names (configuration_nodes tree) in
       let lists = flat_map (configuration_concerns tree) configurations in
+      let absence = absence_concerns coverage in
+      let signatures = flat_map coverage_concerns coverage in
+      let addresses = address_concerns coverage (unit_addresses tree.root) in
       let default = default_concerns (default_of tree) configurations in
-      each-append CanWrite (flat_map image_concerns (images_of tree)) (lists ++ default)
+      each-append CanWrite (flat_map image_concerns (images_of tree)) (lists ++ (absence ++ (signatures ++ (addresses ++ default))))
       (images_can (images_of tree) (tree_images tree means))
-      (each-append CanWrite lists default
+      (each-append CanWrite lists (absence ++ (signatures ++ (addresses ++ default)))
       (configurations_can configurations (node_names_bytes (configuration_nodes tree) (configurations_are_nodes tree means).1))
-      (default_can (default_of tree) configurations (default_bytes tree means)))
+      (each-append CanWrite absence (signatures ++ (addresses ++ default)) (absence_can coverage)
+      (each-append CanWrite signatures (addresses ++ default) (coverage_can coverage (coverage_bytes file is.root tree means))
+      (each-append CanWrite addresses default (addresses_can coverage (unit_addresses tree.root) (addresses_bytes tree means))
+      (default_can (default_of tree) configurations (default_bytes tree means))))))
 
 -- The lines of the concerns about a file can be printed.
 trailing_lines : (bytes : List ℕ) → AllByRecursion (λ concern. CanPrintLine (concern_line concern)) (trailing_concerns bytes)
@@ -255,13 +361,16 @@ trailing_lines bytes = search (rules, trailing_can)
 
 concern_lines_can : (limits : Limits) (file : List ℕ) (concerns : List Concern) → AreConcerns limits file concerns →
     AllByRecursion (λ concern. CanPrintLine (concern_line concern)) concerns
-concern_lines_can limits file concerns (OfLegacyImage parsed is are) = search (rules, trailing_lines)
+concern_lines_can limits file concerns (OfLegacyImage parsed is are) =
+    subst (AllByRecursion (λ concern. CanPrintLine (concern_line concern))) (sym are)
+    ((unsigned_can None tt).line, trailing_lines (drop (length file - parsed.unused) file))
 concern_lines_can limits file concerns (OfImageTree tree means are) =
     let rest : List ℕ = drop (content_end file means.is_file.images tree.payloads) file in
+    let concerns_of_tree : List Concern = tree_concerns tree (coverage_in file means.is_file.root tree) in
     let CanPrintConcern : Concern → Type 0 = λ concern. CanPrintLine (concern_line concern) in
     subst (AllByRecursion CanPrintConcern) (sym are)
-    (each-append CanPrintConcern (tree_concerns tree) (trailing_concerns rest)
-    (each-weaker CanWrite CanPrintConcern (λ concern can. can.line) (tree_concerns tree) (tree_can file tree means.is_file))
+    (each-append CanPrintConcern concerns_of_tree (trailing_concerns rest)
+    (each-weaker CanWrite CanPrintConcern (λ concern can. can.line) concerns_of_tree (tree_can file tree means.is_file))
     (trailing_lines rest))
 
 -- The text of the concerns about a file is ASCII, in any form.

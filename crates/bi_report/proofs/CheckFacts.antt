@@ -29,11 +29,14 @@ use Rattle.bi_norm.proofs.ComparisonFacts.{kernel_means, no_magic_is_error}
 use Rattle.bi_norm.proofs.KindLaws.{one_file_fault, one_kind}
 use Rattle.bi_norm.proofs.NormalForms.{needs_memory}
 use Rattle.bi_norm.proofs.TextBoundFacts.{shared_means}
-use Rattle.bi_common.specs.PayloadBounds.{IsOverPayloadBound, payloads_length}
+use Rattle.bi_common.specs.PayloadBounds.{payloads_length}
+use Rattle.bi_coverage.specs.Signatures.{all_needed_length}
+use Rattle.bi_report.specs.declared.check.Allowed.{Allowed}
 use Rattle.bi_report.specs.CheckedFiles.{HoldsTooMuch, IsCheckError}
-use Rattle.bi_report.specs.Checking.{nothing_allowed}
+use Rattle.bi_report.specs.Checking.{allowed_by_default, nothing_allowed}
 use Rattle.bi_report.specs.CleanFiles.{HasStrongAlgorithm, IsBuiltClean, ProtectImages}
 use Rattle.bi_report.specs.KnownChecks.{BuiltCheckIsKnown, CheckErrorsAreKnown, FailsChecking, PayloadBoundIsKnown, ProtectionIsKnown}
+use Rattle.bi_report.specs.SignedTrees.{IsOverCheckBound}
 use Rattle.bi_report.proofs.CleanLaws.BuiltIsClean.{strong_passes}
 use Rattle.bi_report.proofs.CleanLaws.BuiltTextIsClean.{built_text_is_clean}
 
@@ -57,12 +60,12 @@ sha512_is_strong = record {
       (Contains-others (codes "sha384") (codes "sha512" ∷ []) (codes "sha512") (Contains-first (codes "sha512") []));
 }
 
-strong_protects : ProtectImages nothing_allowed (Sha256 ∷ [])
-strong_protects = record { unhashed = λ refused none. absurd cc; weak_hash = λ refused some. sha256_is_strong }
+strong_protects : (allowed : Allowed) → ProtectImages allowed (Sha256 ∷ [])
+strong_protects allowed = record { unhashed = λ refused none. absurd cc; weak_hash = λ refused some. sha256_is_strong }
 
 pub protection_is_known : ProtectionIsKnown
 protection_is_known = record {
-  strong = strong_protects;
+  strong = strong_protects nothing_allowed;
   strong_after_weak = record { unhashed = λ refused none. absurd cc; weak_hash = λ refused some. sha512_is_strong };
   weak = λ protect. true≢false
       (sym (strong_passes (Crc32 ∷ Sha1 ∷ []) (protect.weak_hash refl (λ none. absurd cc))));
@@ -80,14 +83,14 @@ module _ (any : Bor (List ℕ)) where
   is_built : IsBuilt widest Embedded (head_like any (codes "k")) (kernel_and_ramdisk any) known_text
   is_built = (built_text_is_known any known_text).1 refl
 
-  checked : IsBuiltClean nothing_allowed widest (kernel_and_ramdisk any) (Sha256 ∷ []) known_text
-  checked = built_text_is_clean nothing_allowed widest widest Embedded (head_like any (codes "k")) plain_plan (kernel_and_ramdisk any)
+  checked : IsBuiltClean allowed_by_default widest (kernel_and_ramdisk any) (Sha256 ∷ []) known_text
+  checked = built_text_is_clean allowed_by_default widest widest Embedded (head_like any (codes "k")) plain_plan (kernel_and_ramdisk any)
       known_text is_built (lit≤ tt) known_short (le_refl 0x7fffffff)
 
 pub built_check_is_known : BuiltCheckIsKnown
 built_check_is_known any = record {
   is_built = is_built any;
-  is_clean = (checked any).is_clean.1 (inr strong_protects);
+  is_clean = (checked any).is_clean.1 (refl, inr (strong_protects allowed_by_default));
   error = (checked any).error;
 }
 
@@ -96,18 +99,29 @@ built_check_is_known any = record {
 payloads_are : payloads_length (shared_tree shared_region).payloads ≡ 3000
 payloads_are = refl
 
+-- There are no configurations, so no paths are needed.
+paths_are : all_needed_length (shared_tree shared_region) ≡ 0
+paths_are = refl
+
 shared_is_over : HoldsTooMuch (limited_to 2999) (shared_file 0 1000)
 shared_is_over = record {
   meaning = OfFit (shared_tree shared_region);
   means = shared_means 2999 (lit≤ tt);
-  is_over = subst (λ n. 2999 < n) (sym payloads_are) (lit< tt);
+  is_over = inl (subst (λ n. 2999 < n) (sym payloads_are) (lit< tt));
 }
 
 -- The file means nothing else.
 shared_is_within : (meaning : Meaning) → Means (limited_to 3000) (shared_file 0 1000) meaning →
-    ¬ (IsOverPayloadBound (limited_to 3000) meaning)
-shared_is_within (OfLegacy image) is over = over
-shared_is_within (OfFit tree) is over =
+    ¬ (IsOverCheckBound (limited_to 3000) meaning)
+shared_is_within (OfLegacy image) is (inl over) = over
+shared_is_within (OfLegacy image) is (inr over) = over
+shared_is_within (OfFit tree) is (inr over) =
+    let same : tree ≡ shared_tree shared_region
+    = one_fit_meaning (shared_file 0 1000) tree (shared_tree shared_region) is.is_file shared_region_is_repeated.means in
+    let long : 3000 < 0
+    = subst (λ n. 3000 < n) (ap (λ (found : ImageTree). all_needed_length found) same ∙ paths_are) over in
+    omega (arith, long)
+shared_is_within (OfFit tree) is (inl over) =
     let same : tree ≡ shared_tree shared_region
     = one_fit_meaning (shared_file 0 1000) tree (shared_tree shared_region) is.is_file shared_region_is_repeated.means in
     let long : 3000 < 3000
@@ -142,8 +156,9 @@ memory_alone limits file meaning means within format allowed error = (
 )
 
 -- No legacy image holds too much.
-kernel_is_within : (meaning : Meaning) → Means widest kernel_file meaning → ¬ (IsOverPayloadBound widest meaning)
-kernel_is_within (OfLegacy image) means over = over
+kernel_is_within : (meaning : Meaning) → Means widest kernel_file meaning → ¬ (IsOverCheckBound widest meaning)
+kernel_is_within (OfLegacy image) means (inl over) = over
+kernel_is_within (OfLegacy image) means (inr over) = over
 kernel_is_within (OfFit tree) means over = one_kind kernel_file kernel_image tree kernel_means.is_file means.is_file
 
 abbrev shared_error : Error → Type 0

@@ -20,19 +20,23 @@ use Rattle.bi_norm.specs.Reading.{IsBootImageReadError}
 use Rattle.bi_norm.proofs.NormalForms.{only_legacy, only_tree}
 use Rattle.bi_common.specs.declared.format.Format.{Format}
 use Rattle.bi_common.specs.HashedImages.{images_of_blob}
-use Rattle.bi_common.specs.PayloadBounds.{IsOverPayloadBound}
+use Rattle.bi_coverage.specs.Coverage.{coverage_of}
+use Rattle.bi_fdt.specs.Content.{root_of}
 use Rattle.bi_report.specs.declared.check.Allowed.{Allowed}
 use Rattle.bi_report.specs.CheckedFiles.{IsChecked, IsCheckError, IsCheckOutput, concerns_text}
 use Rattle.bi_report.specs.Checking.{Concern, OfLegacyImage, OfImageTree, content_end, kept_concerns, payload_end, tree_concerns}
-use Rattle.bi_report.specs.Checking.{trailing_concerns}
+use Rattle.bi_report.specs.Checking.{Unsigned, absence_concerns, address_concerns, coverage_concerns, trailing_concerns}
+use Rattle.bi_report.specs.SignedTrees.{IsOverCheckBound, coverage_in, unit_addresses}
 use Rattle.bi_report.specs.FoundConcerns.{Default, FoundConcern, HasConcerns, InImageTree, InLegacyImage, Rest, concerns_in}
 use Rattle.bi_report.specs.FoundConcerns.{default_property, found_in_configuration, found_in_default, found_in_fit, found_in_image}
-use Rattle.bi_report.specs.FoundConcerns.{found_in_legacy, found_in_rest}
+use Rattle.bi_report.specs.FoundConcerns.{NamedNodes, concerns_about, found_in_addresses, found_in_coverage, found_in_legacy}
+use Rattle.bi_report.specs.FoundConcerns.{found_in_rest, found_in_signatures}
 use Rattle.bi_report.specs.ReadChecking.{IsReadCheckError, end_at, end_of_read_payloads}
-use Rattle.bi_report.proofs.FoundConcerns.{concerns_in_both, only_concerns}
+use Rattle.bi_report.proofs.FoundConcerns.{concerns_in_both, concerns_in_each, only_concerns}
 use Rattle.bi_report.proofs.FoundImages.{concerns_of_images}
 use Rattle.bi_report.proofs.ListedResults.{concerns_of_configurations}
 use Rattle.bi_report.proofs.TreeMemory.{tree_needs_memory}
+use Rattle.bi_report.proofs.UnitAddresses.{addresses_of_tree}
 
 -- The concerns about what was read from a file are those about the file, and an error of reading the file is one of checking it.
 
@@ -72,23 +76,56 @@ pub content_end_read : (limits : Limits) (file : List ℕ) (content : FitModel) 
     end_of_read_payloads content.blob.total_size content.images ≡ content_end file is.means.is_file.images (tree_of content).payloads
 content_end_read limits file content is = search (rules, end_of_content)
 
+-- What the signatures of a flattened image tree cover that was read,
+coverage_read : (limits : Limits) (file : List ℕ) (content : FitModel) (is : IsReadFit limits file content) →
+    coverage_of content ≡ coverage_in file is.means.is_file.root (tree_of content)
+coverage_read limits file content is =
+    ap₂ (λ file root. coverage_in file root (tree_of content)) is.is_file (sym is.same_root)
+
+-- the concerns about them,
+concerns_of_signatures : (limits : Limits) (file : List ℕ) (content : FitModel) (is : IsReadFit limits file content) →
+    concerns_in (found_in_signatures (coverage_of content))
+    ≡ absence_concerns (coverage_in file is.means.is_file.root (tree_of content))
+    ++ flat_map coverage_concerns (coverage_in file is.means.is_file.root (tree_of content))
+concerns_of_signatures limits file content is =
+    let coverage = coverage_of content in
+    concerns_in_both (concerns_about NamedNodes (absence_concerns coverage)) (flat_map found_in_coverage coverage)
+    ∙ ap₂ (λ (a b : List Concern). a ++ b) (only_concerns NamedNodes (absence_concerns coverage))
+    (concerns_in_each found_in_coverage coverage_concerns (λ one. only_concerns NamedNodes (coverage_concerns one)) coverage)
+    ∙ ap (λ coverage. absence_concerns coverage ++ flat_map coverage_concerns coverage) (coverage_read limits file content is)
+
+-- and those about unit addresses.
+concerns_of_addresses : (limits : Limits) (file : List ℕ) (content : FitModel) (is : IsReadFit limits file content) →
+    concerns_in (found_in_addresses (coverage_of content) (unit_addresses (root_of content.blob)))
+    ≡ address_concerns (coverage_in file is.means.is_file.root (tree_of content)) (unit_addresses (tree_of content).root)
+concerns_of_addresses limits file content is =
+    only_concerns NamedNodes _
+    ∙ ap₂ address_concerns (coverage_read limits file content is) (addresses_of_tree content)
+
 -- The concerns about a flattened image tree that was read are those about the file.
 pub concerns_of_file : (limits : Limits) (file : List ℕ) (content : FitModel) (is : IsReadFit limits file content) →
     concerns_in (found_in_fit file content)
-    ≡ tree_concerns (tree_of content) ++ trailing_concerns (drop (content_end file is.means.is_file.images (tree_of content).payloads) file)
+    ≡ tree_concerns (tree_of content) (coverage_in file is.means.is_file.root (tree_of content))
+    ++ trailing_concerns (drop (content_end file is.means.is_file.images (tree_of content).payloads) file)
 concerns_of_file limits file content is =
     let images = flat_map found_in_image (images_of_blob content) in
     let lists = flat_map (found_in_configuration content.images) (siblings (file_configurations content.blob)) in
+    let signatures = found_in_signatures (coverage_of content) in
+    let addresses = found_in_addresses (coverage_of content) (unit_addresses (root_of content.blob)) in
     let default = found_in_default content in
     let rest = found_in_rest (drop (end_of_read_payloads content.blob.total_size content.images) file) in
-    concerns_in_both images (lists ++ (default ++ rest))
+    concerns_in_both images (lists ++ (signatures ++ (addresses ++ (default ++ rest))))
     ∙ ap₂ (λ (a b : List Concern). a ++ b) (concerns_of_images content)
-    (concerns_in_both lists (default ++ rest)
+    (concerns_in_both lists (signatures ++ (addresses ++ (default ++ rest)))
     ∙ ap₂ (λ (a b : List Concern). a ++ b) (concerns_of_configurations content is.held)
+    (concerns_in_both signatures (addresses ++ (default ++ rest))
+    ∙ ap₂ (λ (a b : List Concern). a ++ b) (concerns_of_signatures limits file content is)
+    (concerns_in_both addresses (default ++ rest)
+    ∙ ap₂ (λ (a b : List Concern). a ++ b) (concerns_of_addresses limits file content is)
     (concerns_in_both default rest
     ∙ ap₂ (λ (a b : List Concern). a ++ b)
     (only_concerns (Default (default_property content.blob)) _)
-    (only_concerns Rest _ ∙ ap (λ n. trailing_concerns (drop n file)) (content_end_read limits file content is))))
+    (only_concerns Rest _ ∙ ap (λ n. trailing_concerns (drop n file)) (content_end_read limits file content is))))))
     ∙ simp append_assoc refl
 
 -- A legacy image that was read has the concern about the bytes after it,
@@ -97,14 +134,18 @@ pub legacy_has : (limits : Limits) (file : List ℕ) (parsed : LegacyModel) → 
 legacy_has limits file parsed opened = record {
   meaning = OfLegacy parsed.image;
   means = record { means = opened.means; only = only_legacy limits file parsed opened };
-  within = λ over. over;
-  are_concerns = OfLegacyImage parsed opened (only_concerns Rest _);
+  within = not_over;
+  are_concerns = OfLegacyImage parsed opened (ap (λ (l : List Concern). Unsigned None ∷ l) (only_concerns Rest _));
   are_found = InLegacyImage parsed opened refl;
 }
+  where
+    not_over : ¬ (IsOverCheckBound limits (OfLegacy parsed.image))
+    not_over (inl over) = over
+    not_over (inr over) = over
 
 -- and a flattened image tree has all concerns about it.
 pub tree_has : (limits : Limits) (file : List ℕ) (content : FitModel) → IsReadFit limits file content →
-    ¬ (IsOverPayloadBound limits (OfFit (tree_of content))) → HasConcerns limits file (found_in_fit file content)
+    ¬ (IsOverCheckBound limits (OfFit (tree_of content))) → HasConcerns limits file (found_in_fit file content)
 tree_has limits file content is within = record {
   meaning = OfFit (tree_of content);
   means = record { means = is.means; only = only_tree limits file content is };

@@ -2,6 +2,8 @@
 pub mod NoLines
 pub mod CleanImages
 pub mod CleanConfigurations
+pub mod ChosenElements
+pub mod CleanSignatures
 pub mod ContentEnds
 pub mod EmptyIsClean
 pub mod CheckTellsClean

@@ -27,7 +27,8 @@ use Rattle.bi_report.specs.ReadListing.{read_payload}
 
 -- ---- images
 
-payload_of : (file : List ℕ) (source : PayloadSource) (payload : Option (List ℕ)) → IsPayload file source payload →
+-- A payload.
+pub payload_of : (file : List ℕ) (source : PayloadSource) (payload : Option (List ℕ)) → IsPayload file source payload →
     read_payload (place_of file source) payload ≡ option_map (payload_entry file source) payload
 payload_of file NoSource None is = refl
 payload_of file NoSource (Some payload) is = absurd cc
@@ -49,9 +50,10 @@ images_of file (node name own children later) (image ∷ images) is = search (ru
 
 -- ---- configurations
 
-configuration_of : (content : FitModel) → IsHeld content → (entry : Sibling FileNode) → IsConfiguration content entry →
+-- What one lists.
+pub configuration_is_entry : (content : FitModel) → IsHeld content → (entry : Sibling FileNode) → IsConfiguration content entry →
     read_configuration content.images entry ≡ configuration_entry (tree_of content) entry.name
-configuration_of content held entry is = ap (λ keys. record { name = entry.name; keys = keys }) (of_keys all_keys)
+configuration_is_entry content held entry is = ap (λ keys. record { name = entry.name; keys = keys }) (of_keys all_keys)
   where
     of_keys : (keys : List Key) → map {B = Key × ListResult} (λ key. (key, file_listed content.images entry key)) keys
         ≡ map {B = Key × ListResult} (λ key. (key, listed_of (tree_of content) entry.name key)) keys
@@ -64,7 +66,7 @@ configurations_in : (content : FitModel) → IsHeld content → (entries : List 
     AllByRecursion (IsConfiguration content) entries →
     map (read_configuration content.images) entries ≡ map (configuration_entry (tree_of content)) (map (λ sibling. sibling.name) entries)
 configurations_in content held [] are = refl
-configurations_in content held (entry ∷ later) are = search (rules, configuration_of, configurations_in content held later are.1)
+configurations_in content held (entry ∷ later) are = search (rules, configuration_is_entry, configurations_in content held later are.1)
 
 configurations_of : (content : FitModel) → IsHeld content →
     read_configurations content ≡ map (configuration_entry (tree_of content)) (names (configuration_nodes (tree_of content)))

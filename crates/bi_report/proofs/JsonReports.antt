@@ -13,6 +13,7 @@ use Rattle.bi_report.specs.Checking.{content_end, kept_concerns, tree_concerns, 
 use Rattle.bi_report.specs.JsonLaws.{ConcernsAreJson, ReportsAreJson}
 use Rattle.bi_report.specs.Reports.{counts_of, hash_object, report_object, summary_object}
 use Rattle.bi_report.proofs.AsciiReports.{CanWrite, string_has_no_number, tree_can}
+use Rattle.bi_report.specs.SignedTrees.{coverage_in}
 use Rattle.bi_report.proofs.HashCounts.{counts_few, hashes_few}
 
 -- Reports and concerns in JSON are JSON: their numbers are below 2^64.
@@ -47,12 +48,15 @@ trailing_numbers file at small = search (rules, length-drop)
 
 numbers : (limits : Limits) (file : List ℕ) (concerns : List Concern) → IsInRange limits.file limits.depth →
     AreConcerns limits file concerns → AllByRecursion ConcernHasNumbers concerns
-numbers limits file concerns range (OfLegacyImage parsed is are) = search (rules, trailing_numbers)
+numbers limits file concerns range (OfLegacyImage parsed is are) =
+    subst (AllByRecursion ConcernHasNumbers) (sym are)
+    ((tt, (tt, tt)), trailing_numbers file (length file - parsed.unused) (omega (arith, is.means.short, range.1)))
 numbers limits file concerns range (OfImageTree tree means are) =
     let end : ℕ = content_end file means.is_file.images tree.payloads in
+    let concerns_of_tree : List Concern = tree_concerns tree (coverage_in file means.is_file.root tree) in
     subst (AllByRecursion ConcernHasNumbers) (sym are)
-    (each-append ConcernHasNumbers (tree_concerns tree) (trailing_concerns (drop end file))
-    (each-weaker CanWrite ConcernHasNumbers (λ concern can. can.numbers) (tree_concerns tree) (tree_can file tree means.is_file))
+    (each-append ConcernHasNumbers concerns_of_tree (trailing_concerns (drop end file))
+    (each-weaker CanWrite ConcernHasNumbers (λ concern can. can.numbers) concerns_of_tree (tree_can file tree means.is_file))
     (trailing_numbers file end (omega (arith, means.within.short, range.1))))
 
 pub concerns_are_json : ConcernsAreJson

@@ -1,4 +1,5 @@
-use Rattle.std.proofs.Common.{◌≡◌, ◌+◌, ◌-◌, ℕ, List, length, drop, IsFalse, refl, ap, subst, ◌∙◌, arith}
+use Rattle.std.proofs.Common.{◌≡◌, ◌+◌, ◌-◌, ℕ, List, ◌∷◌, None, length, drop, IsFalse, IsTrue, refl, sym, ap, subst, ◌∙◌, arith}
+use Rattle.std.proofs.Common.{true≢false}
 use Rattle.bi_base.specs.Cells.{cell}
 use Rattle.bi_base.specs.Limits.{widest}
 use Rattle.bi_legacy.specs.File.{header, LegacyMeans}
@@ -15,7 +16,7 @@ use Rattle.bi_legacy.proofs.PartsInFile.{parts_at_offsets}
 use Rattle.bi_norm.proofs.ComparisonFacts.{kernel_means, kernel_with_rest_means, multi_with_rest_means}
 use Rattle.bi_norm.proofs.KindLaws.{one_kind}
 use Rattle.bi_report.specs.declared.check.Allowed.{Allowed}
-use Rattle.bi_report.specs.Checking.{Concern, AreConcerns, OfLegacyImage, OfImageTree, trailing_concerns}
+use Rattle.bi_report.specs.Checking.{Concern, AreConcerns, OfLegacyImage, OfImageTree, Unsigned, nothing_allowed, trailing_concerns}
 use Rattle.bi_report.specs.CleanFiles.{IsClean, CleanLegacyImage, CleanImageTree, AreZeros}
 use Rattle.bi_report.specs.KnownConcerns.{HasOnlyConcerns, LegacyConcernsAreKnown}
 
@@ -46,22 +47,28 @@ module _ (one_legacy : OneLegacyMeaning) (file : List ℕ) (image : LegacyImage)
       let same = one_legacy file other.image image read.means.is_file means.is_file in
       omega (arith, ap (λ (i : LegacyImage). parts_end i.image_type i.parts) same, ends, read.unused)
 
-  only_these : (others : List Concern) → AreConcerns widest file others → others ≡ trailing_concerns bytes_after
+  only_these : (others : List Concern) → AreConcerns widest file others → others ≡ Unsigned None ∷ trailing_concerns bytes_after
   only_these others (OfLegacyImage other read is) =
-      is ∙ ap (λ n. trailing_concerns (drop (length file - n) file)) (same_unused other read)
+      is ∙ ap (λ n. Unsigned None ∷ trailing_concerns (drop (length file - n) file)) (same_unused other read)
   only_these others (OfImageTree tree tree_means is) = absurd (one_kind file image tree means.is_file tree_means.is_file)
 
-  legacy_concerns : HasOnlyConcerns file (trailing_concerns bytes_after)
+  legacy_concerns : HasOnlyConcerns file (Unsigned None ∷ trailing_concerns bytes_after)
   legacy_concerns = record { are_concerns = OfLegacyImage known_model is_read refl; only = only_these }
 
-  -- The image is clean if and only if these bytes are zero or allowed.
-  legacy_clean : (allowed : Allowed) → (IsFalse allowed.trailing → AreZeros bytes_after) → IsClean allowed widest file
-  legacy_clean allowed zeros = CleanLegacyImage known_model is_read zeros
+  -- The image is clean if and only if a lack of signatures is allowed, and these bytes are zero or allowed.
+  legacy_clean : (allowed : Allowed) → IsTrue allowed.unsigned → (IsFalse allowed.trailing → AreZeros bytes_after) →
+      IsClean allowed widest file
+  legacy_clean allowed unsigned zeros = CleanLegacyImage known_model is_read unsigned zeros
+
+  legacy_unsigned : (allowed : Allowed) → IsClean allowed widest file → IsTrue allowed.unsigned
+  legacy_unsigned allowed (CleanLegacyImage other read unsigned zeros) = unsigned
+  legacy_unsigned allowed (CleanImageTree tree tree_means clean reach zeros) =
+      absurd (one_kind file image tree means.is_file tree_means.is_file)
 
   legacy_zeros : (allowed : Allowed) → IsClean allowed widest file → IsFalse allowed.trailing → AreZeros bytes_after
-  legacy_zeros allowed (CleanLegacyImage other read zeros) refused =
+  legacy_zeros allowed (CleanLegacyImage other read unsigned zeros) refused =
       subst (λ n. AreZeros (drop (length file - n) file)) (same_unused other read) (zeros refused)
-  legacy_zeros allowed (CleanImageTree tree tree_means clean zeros) refused =
+  legacy_zeros allowed (CleanImageTree tree tree_means clean reach zeros) refused =
       absurd (one_kind file image tree means.is_file tree_means.is_file)
 
 pub legacy_concerns_are_known : OneLegacyMeaning → LegacyConcernsAreKnown
@@ -71,11 +78,14 @@ legacy_concerns_are_known one_legacy = record {
   after_data_is_not_clean = λ clean.
       let zeros = legacy_zeros one_legacy kernel_file_with_rest kernel_image kernel_with_rest_means 7 refl _ clean refl in
       omega (arith, zeros.0);
-  after_data_is_allowed = legacy_clean one_legacy kernel_file_with_rest kernel_image kernel_with_rest_means 7 refl _ (λ refused. absurd cc);
+  after_data_is_allowed = legacy_clean one_legacy kernel_file_with_rest kernel_image kernel_with_rest_means 7 refl _ refl
+      (λ refused. absurd cc);
   in_data = legacy_concerns one_legacy (file_of_data 4 multi_data_with_rest) multi_image multi_with_rest_means 2 refl;
   in_data_is_not_clean = λ clean.
       let zeros = legacy_zeros one_legacy (file_of_data 4 multi_data_with_rest) multi_image multi_with_rest_means 2 refl _ clean refl in
       omega (arith, zeros.0);
   nothing = legacy_concerns one_legacy kernel_file kernel_image kernel_means 0 refl;
-  nothing_is_clean = legacy_clean one_legacy kernel_file kernel_image kernel_means 0 refl _ (λ refused. tt);
+  nothing_is_clean = legacy_clean one_legacy kernel_file kernel_image kernel_means 0 refl _ refl (λ refused. tt);
+  signature_is_asked_for = λ clean.
+      true≢false (sym (legacy_unsigned one_legacy kernel_file kernel_image kernel_means 0 refl nothing_allowed clean));
 }

@@ -7,13 +7,17 @@ pub mod CheckedHashes
 pub mod CleanLaws
 pub mod LegacyConcernFacts
 pub mod TextFacts
+pub mod SignatureFacts
+pub mod SignedFileFacts
 pub mod ListedFiles
 pub mod ListedNames
 pub mod AsciiListings
+pub mod DefaultPolicy
 pub mod FoundConcerns
 pub mod PrintedDetails
 pub mod LaterPuts
 pub mod AsciiReports
+pub mod ByteConcerns
 pub mod ListedResults
 pub mod OffsetLists
 pub mod ImageStarts
@@ -28,7 +32,9 @@ pub mod ShortValues
 pub mod HashCounts
 pub mod JsonListings
 pub mod JsonReports
+pub mod JsonScans
 pub mod FoundImages
 pub mod TreeMemory
+pub mod UnitAddresses
 pub mod CheckFacts
 mod HeaderSum

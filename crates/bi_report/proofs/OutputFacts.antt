@@ -1,6 +1,6 @@
-use Rattle.std.proofs.Common.{◌≡◌, ◌≢◌, ◌↔◌, ℕ, Bool, true, false, IsTrue, List, [], ◌∷◌, ◌++◌, codes, length, Some, refl, sym}
+use Rattle.std.proofs.Common.{◌≡◌, ◌≢◌, ◌↔◌, ℕ, Bool, true, false, IsTrue, List, [], ◌∷◌, ◌++◌, codes, length, Some, None, refl, sym}
 use Rattle.std.proofs.Common.{ap, subst, ◌∙◌}
-use Rattle.std.proofs.Common.{◌≤◌, lit≤, true≢false, Option, arith}
+use Rattle.std.proofs.Common.{◌≤◌, ◌⊎◌, inl, inr, lit≤, true≢false, Option, arith}
 use Rattle.std.specs.Fmt.{digits}
 use Rattle.bi_base.specs.Cells.{cell, cell8, u32_at}
 use Rattle.bi_base.specs.Crc.{crc32, crc_after, low_bits}
@@ -39,8 +39,10 @@ use Rattle.bi_common.specs.PayloadBounds.{payloads_length}
 use Rattle.bi_norm.specs.Comparing.{MeansOnly}
 use Rattle.bi_report.specs.declared.check.Allowed.{Allowed}
 use Rattle.bi_report.specs.CheckedFiles.{IsChecked, concerns_text}
-use Rattle.bi_report.specs.Checking.{AreConcerns, Concern, OfImageTree as OfTreeConcerns, TrailingBytes, UnhashedImage, kept_concerns}
-use Rattle.bi_report.specs.Checking.{nothing_allowed}
+use Rattle.bi_report.specs.Checking.{AreConcerns, Concern, OfImageTree as OfTreeConcerns, TrailingBytes, UnhashedImage, Unsigned}
+use Rattle.bi_report.specs.Checking.{allowed_by_default, kept_concerns}
+use Rattle.bi_report.specs.SignedTrees.{IsOverCheckBound}
+use Rattle.bi_coverage.specs.Signatures.{all_needed_length}
 use Rattle.bi_report.specs.KnownConcerns.{HasOnlyConcerns}
 use Rattle.bi_report.specs.KnownOutputs.{three_object}
 use Rattle.bi_report.specs.KnownOutputs.{CheckOutputsAreKnown, IsOnlyCheck, JsonListingsAreKnown, VerifyOutputsAreKnown, file_with_hash}
@@ -207,14 +209,20 @@ module _ (one_legacy : OneLegacyMeaning) where
     only = λ other other_means. one_file_meaning one_legacy widest widest file other (OfFit tree) other_means means;
   }
 
+  -- A tree with few bytes of payloads, which needs no paths, is within the bounds of checking.
+  within_bounds : (tree : ImageTree) → payloads_length tree.payloads ≤ 0x7fffffff → all_needed_length tree ≡ 0 →
+      ¬ (IsOverCheckBound widest (OfFit tree))
+  within_bounds tree few no_paths (inl over) = omega (arith, over, few)
+  within_bounds tree few no_paths (inr over) = omega (arith, over, no_paths)
+
   -- What is said of a file with these concerns.
   abbrev checked : (format : Format) (allowed : Allowed) (file text : List ℕ) (tree : ImageTree) (concerns : List Concern) →
       FitMeans widest file tree → AreConcerns widest file concerns → payloads_length tree.payloads ≤ 0x7fffffff →
-      text ≡ concerns_text format allowed concerns → IsChecked format allowed widest file text
-  checked format allowed file text tree concerns means are few is = record {
+      all_needed_length tree ≡ 0 → text ≡ concerns_text format allowed concerns → IsChecked format allowed widest file text
+  checked format allowed file text tree concerns means are few no_paths is = record {
     meaning = OfFit tree;
     means = only_tree file tree means;
-    within = λ over. omega (arith, over, few);
+    within = within_bounds tree few no_paths;
     concerns = concerns;
     are_concerns = are;
     is_text = is;
@@ -240,7 +248,7 @@ module _ (one_legacy : OneLegacyMeaning) where
     within = record { short = lit≤ tt; shallow = lit≤ tt };
   }
 
-  smallest_concerns : AreConcerns widest smallest_text []
+  smallest_concerns : AreConcerns widest smallest_text (Unsigned None ∷ [])
   unfolding text_of_events text_of_blocks cell cell8 u32_at
   smallest_concerns =
       let means : FitMeans widest smallest_text (plain_tree [] []) = record {
@@ -256,7 +264,7 @@ module _ (one_legacy : OneLegacyMeaning) where
       } in
       OfTreeConcerns (plain_tree [] []) means refl
 
-  bare_concerns : AreConcerns widest file_without_hash (UnhashedImage (codes "a") ∷ [])
+  bare_concerns : AreConcerns widest file_without_hash (UnhashedImage (codes "a") ∷ Unsigned None ∷ [])
   unfolding text_of_events text_of_blocks cell cell8 u32_at
   bare_concerns =
       let means : FitMeans widest file_without_hash bare_meaning = record {
@@ -272,15 +280,20 @@ module _ (one_legacy : OneLegacyMeaning) where
       } in
       OfTreeConcerns bare_meaning means refl
 
+  -- A legacy image is within the bounds.
+  no_bounds : (image : LegacyImage) → ¬ (IsOverCheckBound widest (OfLegacy image))
+  no_bounds image (inl over) = over
+  no_bounds image (inr over) = over
+
   -- A legacy image has one output, since it has only these concerns.
   only_check : (clean : Bool) (file text : List ℕ) (image : LegacyImage) (concerns : List Concern) → LegacyMeans widest file image →
-      HasOnlyConcerns file concerns → text ≡ concerns_text Lines nothing_allowed concerns →
-      (IsTrue clean ↔ (kept_concerns nothing_allowed concerns ≡ [])) → IsOnlyCheck clean file text
+      HasOnlyConcerns file concerns → text ≡ concerns_text Lines allowed_by_default concerns →
+      (IsTrue clean ↔ (kept_concerns allowed_by_default concerns ≡ [])) → IsOnlyCheck clean file text
   only_check clean file text image concerns means are is is_empty =
-      let checked : IsChecked Lines nothing_allowed widest file text = record {
+      let checked : IsChecked Lines allowed_by_default widest file text = record {
         meaning = OfLegacy image;
         means = only_image one_legacy file image means;
-        within = λ over. over;
+        within = no_bounds image;
         concerns = concerns;
         are_concerns = are.are_concerns;
         is_text = is;
@@ -290,46 +303,49 @@ module _ (one_legacy : OneLegacyMeaning) where
         is_text = checked;
         only = λ other_clean other output.
             let same = are.only output.checked.concerns output.checked.are_concerns in (
-              same_bool other_clean clean (kept_concerns nothing_allowed concerns ≡ [])
-                  (subst (λ concerns. IsTrue other_clean ↔ (kept_concerns nothing_allowed concerns ≡ [])) same output.is_empty) is_empty,
-              output.checked.is_text ∙ ap (concerns_text Lines nothing_allowed) same ∙ sym is,
+              same_bool other_clean clean (kept_concerns allowed_by_default concerns ≡ [])
+                  (subst (λ concerns. IsTrue other_clean ↔ (kept_concerns allowed_by_default concerns ≡ [])) same output.is_empty) is_empty,
+              output.checked.is_text ∙ ap (concerns_text Lines allowed_by_default) same ∙ sym is,
             );
       }
 
   pub check_outputs_are_known : CheckOutputsAreKnown
   unfolding digits text_before_nul
   check_outputs_are_known = record {
-    legacy = only_check true kernel_file [] kernel_image [] kernel_means (legacy_concerns_are_known one_legacy).nothing refl
+    legacy =
+        only_check true kernel_file [] kernel_image (Unsigned None ∷ []) kernel_means (legacy_concerns_are_known one_legacy).nothing refl
         (λ _. refl, λ _. refl);
-    trailing = only_check false kernel_file_with_rest _ kernel_image (TrailingBytes 7 ∷ []) kernel_with_rest_means
+    trailing = only_check false kernel_file_with_rest _ kernel_image (Unsigned None ∷ TrailingBytes 7 ∷ []) kernel_with_rest_means
         (legacy_concerns_are_known one_legacy).after_data refl
         (λ no. absurd (true≢false (sym no)), λ none. absurd (omega (arith, ap length none)));
     nothing = record {
-      checked = checked Lines nothing_allowed smallest_text [] (plain_tree [] []) [] smallest_means smallest_concerns (lit≤ tt) refl;
+      checked = checked Lines allowed_by_default smallest_text [] (plain_tree [] []) (Unsigned None ∷ []) smallest_means
+          smallest_concerns (lit≤ tt) refl refl;
       is_empty = (λ _. refl, λ _. refl);
     };
     nothing_json = record {
-      checked = checked Json nothing_allowed smallest_text _ (plain_tree [] []) [] smallest_means smallest_concerns (lit≤ tt) refl;
+      checked = checked Json allowed_by_default smallest_text _ (plain_tree [] []) (Unsigned None ∷ []) smallest_means
+          smallest_concerns (lit≤ tt) refl refl;
       is_empty = (λ _. refl, λ _. refl);
     };
     unhashed = record {
-      checked = checked Lines nothing_allowed file_without_hash _ bare_meaning (UnhashedImage (codes "a") ∷ []) bare_means bare_concerns
-          (lit≤ tt) refl;
+      checked = checked Lines allowed_by_default file_without_hash _ bare_meaning
+          (UnhashedImage (codes "a") ∷ Unsigned None ∷ []) bare_means bare_concerns (lit≤ tt) refl refl;
       is_empty = (λ no. absurd (true≢false (sym no)), λ none. absurd (omega (arith, ap length none)));
     };
     unhashed_json = record {
-      checked = checked Json nothing_allowed file_without_hash _ bare_meaning (UnhashedImage (codes "a") ∷ []) bare_means bare_concerns
-          (lit≤ tt) refl;
+      checked = checked Json allowed_by_default file_without_hash _ bare_meaning
+          (UnhashedImage (codes "a") ∷ Unsigned None ∷ []) bare_means bare_concerns (lit≤ tt) refl refl;
       is_empty = (λ no. absurd (true≢false (sym no)), λ none. absurd (omega (arith, ap length none)));
     };
     allowed = record {
-      checked = checked Lines (record nothing_allowed { unhashed = true }) file_without_hash [] bare_meaning
-          (UnhashedImage (codes "a") ∷ []) bare_means bare_concerns (lit≤ tt) refl;
+      checked = checked Lines (record allowed_by_default { unhashed = true }) file_without_hash [] bare_meaning
+          (UnhashedImage (codes "a") ∷ Unsigned None ∷ []) bare_means bare_concerns (lit≤ tt) refl refl;
       is_empty = (λ _. refl, λ _. refl);
     };
     allowed_json = record {
-      checked = checked Json (record nothing_allowed { unhashed = true }) file_without_hash _ bare_meaning
-          (UnhashedImage (codes "a") ∷ []) bare_means bare_concerns (lit≤ tt) refl;
+      checked = checked Json (record allowed_by_default { unhashed = true }) file_without_hash _ bare_meaning
+          (UnhashedImage (codes "a") ∷ Unsigned None ∷ []) bare_means bare_concerns (lit≤ tt) refl refl;
       is_empty = (λ _. refl, λ _. refl);
     };
     each_json = rw (

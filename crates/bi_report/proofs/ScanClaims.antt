@@ -237,4 +237,4 @@ fault_or_scan limits input fault can faulty = search (rules, same_claims)
 
 -- and neither has one with a scan.
 pub scan_has_no_fault : ScanHasNoFault
-scan_has_no_fault limits input text fault is = fault_or_scan limits input fault is.can
+scan_has_no_fault format limits input text fault is = fault_or_scan limits input fault is.can

@@ -20,14 +20,13 @@ use Rattle.bi_fit.proofs.Meanings.{begins_with_magic}
 use Rattle.bi_legacy.proofs.MeansNoFault.{means_no_fault}
 use Rattle.bi_norm.specs.Meaning.{Meaning, OfLegacy, OfFit, Means}
 use Rattle.bi_norm.proofs.FilesWithoutMeaning.{means_legacy}
-use Rattle.bi_common.specs.Lines.{Line}
 use Rattle.bi_common.specs.Offsets.{input_from}
-use Rattle.bi_report.specs.ScanLaws.{LinesAreFew}
-use Rattle.bi_report.specs.Scanning.{ClaimsNothing, IsClaim, IsLineAt, OfBlob, OfData, WithImage, WithoutImage, all_lines}
+use Rattle.bi_report.specs.ScanLaws.{FoundImagesAreFew}
+use Rattle.bi_report.specs.Scanning.{ClaimsNothing, IsClaim, IsFoundAt, OfBlob, OfData, ScannedImage, WithImage, WithoutImage, all_found}
 use Rattle.bi_report.proofs.ScanClaims.{one_claim}
 use Rattle.bi_report.proofs.ScannedLines.{HasNoImage}
 
--- Each image that is accepted claims 64 bytes at least, so a scan has few lines.
+-- Each image that is accepted claims 64 bytes at least, so a scan finds few.
 
 -- ---- the least size of a flattened image tree
 
@@ -128,28 +127,28 @@ accepted_claim limits image (OfFit tree) means =
 pub no_claim_no_image : (limits : Limits) (input : List ℕ) (from end : ℕ) → ClaimsNothing input from end → HasNoImage limits input from end
 no_claim_no_image limits input from end nothing offset after before meaning means = search (rules, accepted_claim, one_claim)
 
--- The image of a line claims 64 bytes or more.
-line_claims : (limits : Limits) (input : List ℕ) (offset : ℕ) (lines : List Line) (claim : ℕ) → IsLineAt limits input offset lines →
-    IsClaim (input_from offset input) claim → 64 * length lines ≤ claim
-line_claims limits input offset lines claim (WithImage extent meaning is same) claims = search (rules, accepted_claim, one_claim)
-line_claims limits input offset lines claim (WithoutImage nothing same) claims = rw same (omega arith)
+-- An image that is found claims 64 bytes or more.
+found_claims : (limits : Limits) (input : List ℕ) (offset : ℕ) (found : List ScannedImage) (claim : ℕ) →
+    IsFoundAt limits input offset found → IsClaim (input_from offset input) claim → 64 * length found ≤ claim
+found_claims limits input offset found claim (WithImage extent meaning is same) claims = search (rules, accepted_claim, one_claim)
+found_claims limits input offset found claim (WithoutImage nothing same) claims = rw same (omega arith)
 
-lines_claim : (limits : Limits) (input offsets : List ℕ) (lines : List (List Line)) (claims : List ℕ) →
-    AllZip (IsLineAt limits input) offsets lines → AllZip (λ offset. IsClaim (input_from offset input)) offsets claims →
-    64 * length (all_lines lines) ≤ sum claims
-lines_claim limits input [] [] [] are are_too = omega arith
-lines_claim limits input [] (first ∷ lines) claims are are_too = absurd are
-lines_claim limits input [] [] (claim ∷ claims) are are_too = absurd are_too
-lines_claim limits input (offset ∷ offsets) [] claims are are_too = absurd are
-lines_claim limits input (offset ∷ offsets) (first ∷ lines) [] are are_too = absurd are_too
-lines_claim limits input (offset ∷ offsets) (first ∷ lines) (claim ∷ claims) are are_too =
+all_claim : (limits : Limits) (input offsets : List ℕ) (found : List (List ScannedImage)) (claims : List ℕ) →
+    AllZip (IsFoundAt limits input) offsets found → AllZip (λ offset. IsClaim (input_from offset input)) offsets claims →
+    64 * length (all_found found) ≤ sum claims
+all_claim limits input [] [] [] are are_too = omega arith
+all_claim limits input [] (first ∷ found) claims are are_too = absurd are
+all_claim limits input [] [] (claim ∷ claims) are are_too = absurd are_too
+all_claim limits input (offset ∷ offsets) [] claims are are_too = absurd are
+all_claim limits input (offset ∷ offsets) (first ∷ found) [] are are_too = absurd are_too
+all_claim limits input (offset ∷ offsets) (first ∷ found) (claim ∷ claims) are are_too =
     omega (
       arith,
-      lines_claim limits input offsets lines claims are.1 are_too.1,
-      line_claims limits input offset first claim are.0 are_too.0,
-      length-append first (all_lines lines),
+      all_claim limits input offsets found claims are.1 are_too.1,
+      found_claims limits input offset first claim are.0 are_too.0,
+      length-append first (all_found found),
       sum_by-cons (λ (claim : ℕ). claim) claim claims,
     )
 
-pub lines_are_few : LinesAreFew
-lines_are_few limits input text is = search (rules, lines_claim)
+pub found_images_are_few : FoundImagesAreFew
+found_images_are_few format limits input text is = search (rules, all_claim)

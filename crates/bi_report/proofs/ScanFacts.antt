@@ -38,17 +38,20 @@ use Rattle.bi_norm.specs.declared.kind.Kind.TheVariants as kind
 use Rattle.bi_norm.specs.Kinds.{BeginsAs}
 use Rattle.bi_norm.specs.Laws.{OneFileMeaning}
 use Rattle.bi_norm.specs.Meaning.{OfLegacy, OfFit, MeansNothing}
-use Rattle.bi_common.specs.Lines.{Line, text_of_lines}
+use Rattle.bi_common.specs.declared.format.Format.{Format}
+use Rattle.bi_common.specs.declared.format.Format.TheVariants.{Json, Lines}
 use Rattle.bi_common.specs.Offsets.{input_from}
-use Rattle.bi_report.specs.KnownScans.{ClaimsAreKnown, FailsScanning, IsOnlyScan, ScanErrorsAreKnown, ScansAreKnown, great_header}
-use Rattle.bi_report.specs.KnownScans.{kernel_of_tree, nested_images, nested_lines, scan_limits, three_magics, two_images, two_lines}
-use Rattle.bi_report.specs.Scanning.{HasBlobClaim, HasLegacyClaim, IsClaim, IsLineAt, OfBlob, OfData, OfNothing, WithImage, WithoutImage}
-use Rattle.bi_report.specs.Scanning.{CanBeScanned, HasExtent, IsScanError, IsScanFault, IsScanText, all_lines, blob_claim_checks}
-use Rattle.bi_report.specs.Scanning.{input_offsets, scan_line}
+use Rattle.bi_report.specs.KnownScans.{ClaimsAreKnown, FailsScanning, IsOnlyScanIn, ScanErrorsAreKnown, ScansAreKnown, great_header}
+use Rattle.bi_report.specs.KnownScans.{kernel_of_tree, nested_images, nested_lines, scan_limits, three_magics, two_images}
+use Rattle.bi_report.specs.KnownScans.{two_lines, two_objects}
+use Rattle.bi_report.specs.Scanning.{HasBlobClaim, HasLegacyClaim, IsClaim, IsFoundAt, OfBlob, OfData, OfNothing, WithImage, WithoutImage}
+use Rattle.bi_report.specs.Scanning.{CanBeScanned, HasExtent, IsScanError, IsScanFault, IsScanText, ScannedImage}
+use Rattle.bi_report.specs.Scanning.{all_found, blob_claim_checks, has_images}
+use Rattle.bi_report.specs.Scanning.{input_offsets, scan_text, scanned_image}
 use Rattle.bi_report.proofs.OutputFacts.{same_bool}
 use Rattle.bi_report.proofs.ScanClaims.{fault_or_scan, scan_has_no_fault}
-use Rattle.bi_report.proofs.ScanLaws.{one_scan}
-use Rattle.bi_report.proofs.ScannedLines.{means_kind}
+use Rattle.bi_report.proofs.ScanLaws.{one_scan, same_images}
+use Rattle.bi_report.proofs.ScannedLines.{means_kind, some_images}
 
 -- Small images have known claims, and small files known scans.
 
@@ -130,12 +133,12 @@ claims_are_known = record {
 
 -- ---- scans
 
--- What is known at an offset: its line, and what its image claims.
-abbrev IsKnownAt : Limits → (input : List ℕ) → (offset : ℕ) → List Line × ℕ → Type 0
-IsKnownAt limits input offset (lines, claim) = IsLineAt limits input offset lines × IsClaim (input_from offset input) claim
+-- What is known at an offset: what is found, and what its image claims.
+abbrev IsKnownAt : Limits → (input : List ℕ) → (offset : ℕ) → List ScannedImage × ℕ → Type 0
+IsKnownAt limits input offset (found, claim) = IsFoundAt limits input offset found × IsClaim (input_from offset input) claim
 
 -- Where no image begins, there is nothing.
-abbrev nothing_at : List ℕ → List (List Line × ℕ)
+abbrev nothing_at : List ℕ → List (List ScannedImage × ℕ)
 nothing_at offsets = map (λ offset. ([], 0)) offsets
 
 nothing_is_known : (limits : Limits) (input offsets : List ℕ) → list_all (λ offset. not (begins (input_from offset input))) offsets ≡ true →
@@ -146,44 +149,56 @@ nothing_is_known limits input offsets =
     (WithoutImage (no_meaning limits (input_from offset input) is) refl, no_claim (input_from offset input) is)) offsets
 
 -- So an input has a known scan.
-lines_known : (limits : Limits) (input offsets : List ℕ) (items : List (List Line × ℕ)) → AllZip (IsKnownAt limits input) offsets items →
-    AllZip (IsLineAt limits input) offsets (map (λ (item : List Line × ℕ). item.0) items)
-lines_known limits input [] [] are = tt
-lines_known limits input [] (item ∷ items) are = absurd are
-lines_known limits input (offset ∷ offsets) [] are = absurd are
-lines_known limits input (offset ∷ offsets) ((lines, claim) ∷ items) are = (are.0.0, lines_known limits input offsets items are.1)
+found_known : (limits : Limits) (input offsets : List ℕ) (items : List (List ScannedImage × ℕ)) →
+    AllZip (IsKnownAt limits input) offsets items →
+    AllZip (IsFoundAt limits input) offsets (map (λ (item : List ScannedImage × ℕ). item.0) items)
+found_known limits input [] [] are = tt
+found_known limits input [] (item ∷ items) are = absurd are
+found_known limits input (offset ∷ offsets) [] are = absurd are
+found_known limits input (offset ∷ offsets) ((found, claim) ∷ items) are = (are.0.0, found_known limits input offsets items are.1)
 
-claims_known : (limits : Limits) (input offsets : List ℕ) (items : List (List Line × ℕ)) → AllZip (IsKnownAt limits input) offsets items →
-    AllZip (λ offset. IsClaim (input_from offset input)) offsets (map (λ (item : List Line × ℕ). item.1) items)
+claims_known : (limits : Limits) (input offsets : List ℕ) (items : List (List ScannedImage × ℕ)) →
+    AllZip (IsKnownAt limits input) offsets items →
+    AllZip (λ offset. IsClaim (input_from offset input)) offsets (map (λ (item : List ScannedImage × ℕ). item.1) items)
 claims_known limits input [] [] are = tt
 claims_known limits input [] (item ∷ items) are = absurd are
 claims_known limits input (offset ∷ offsets) [] are = absurd are
-claims_known limits input (offset ∷ offsets) ((lines, claim) ∷ items) are = (are.0.1, claims_known limits input offsets items are.1)
+claims_known limits input (offset ∷ offsets) ((found, claim) ∷ items) are = (are.0.1, claims_known limits input offsets items are.1)
 
-known_scan : (limits : Limits) (input text : List ℕ) (items : List (List Line × ℕ)) → length input ≤ limits.file →
-    AllZip (IsKnownAt limits input) (input_offsets input) items → sum (map (λ (item : List Line × ℕ). item.1) items) ≤ limits.file →
-    text ≡ text_of_lines (all_lines (map (λ (item : List Line × ℕ). item.0) items)) → IsScanText limits input text
-known_scan limits input text items short are within is = record {
-  can = record {
-    short = short;
-    within = record {
-      claims = map (λ (item : List Line × ℕ). item.1) items;
-      are_claims = claims_known limits input (input_offsets input) items are;
-      within = within;
+record IsKnownScan (format : Format) (limits : Limits) (input text : List ℕ) (found : Bool) : Type 0 where
+  is : IsScanText format limits input text
+  some : has_images (all_found is.has.found) ≡ found
+
+known_scan : (format : Format) (limits : Limits) (input text : List ℕ) (found : Bool) (items : List (List ScannedImage × ℕ)) →
+    length input ≤ limits.file → AllZip (IsKnownAt limits input) (input_offsets input) items →
+    sum (map (λ (item : List ScannedImage × ℕ). item.1) items) ≤ limits.file →
+    has_images (all_found (map (λ (item : List ScannedImage × ℕ). item.0) items)) ≡ found →
+    text ≡ scan_text format (all_found (map (λ (item : List ScannedImage × ℕ). item.0) items)) →
+    IsKnownScan format limits input text found
+known_scan format limits input text found items short are within some is = record {
+  is = record {
+    can = record {
+      short = short;
+      within = record {
+        claims = map (λ (item : List ScannedImage × ℕ). item.1) items;
+        are_claims = claims_known limits input (input_offsets input) items are;
+        within = within;
+      };
+    };
+    has = record {
+      found = map (λ (item : List ScannedImage × ℕ). item.0) items;
+      are_found = found_known limits input (input_offsets input) items are;
+      is_text = is;
     };
   };
-  has = record {
-    lines = map (λ (item : List Line × ℕ). item.0) items;
-    are_lines = lines_known limits input (input_offsets input) items are;
-    is_text = is;
-  };
+  some = some;
 }
 
 -- ---- what is at the offsets of the small files
 
 -- The smallest tree, wherever it is.
 smallest_at : (limits : Limits) (input : List ℕ) (offset : ℕ) → input_from offset input ≡ smallest_text → 88 ≤ limits.file →
-    2 ≤ limits.depth → IsKnownAt limits input offset (scan_line offset 88 (OfFit (plain_tree [] [])) ∷ [], 88)
+    2 ≤ limits.depth → IsKnownAt limits input offset (scanned_image offset 88 (OfFit (plain_tree [] [])) ∷ [], 88)
 unfolding text_of_events text_of_blocks cell cell8 u32_at test
 smallest_at limits input offset is short shallow =
     let means : FitMeans limits smallest_text (plain_tree [] []) = record {
@@ -242,7 +257,7 @@ kernel_means limits file body rest is small bytes short = record {
   short = short;
 }
 
-kernel_at_begin : IsKnownAt (scan_limits 162) two_images 0 (scan_line 0 73 (OfLegacy kernel_image) ∷ [], 73)
+kernel_at_begin : IsKnownAt (scan_limits 162) two_images 0 (scanned_image 0 73 (OfLegacy kernel_image) ∷ [], 73)
 unfolding digits header cell crc32 crc_after low_bits u32_at
 kernel_at_begin = (
   WithImage 73 (OfLegacy kernel_image)
@@ -256,27 +271,31 @@ kernel_at_begin = (
 )
 
 -- What is in the first file.
-abbrev two_items : List (List Line × ℕ)
+abbrev two_items : List (List ScannedImage × ℕ)
 two_items =
-    (scan_line 0 73 (OfLegacy kernel_image) ∷ [], 73)
+    (scanned_image 0 73 (OfLegacy kernel_image) ∷ [], 73)
     ∷ (nothing_at (range_with_len 1 73)
-    ++ (scan_line 74 88 (OfFit (plain_tree [] [])) ∷ [], 88) ∷ nothing_at (range_with_len 75 87))
+    ++ (scanned_image 74 88 (OfFit (plain_tree [] [])) ∷ [], 88) ∷ nothing_at (range_with_len 75 87))
 
 two_are_known : AllZip (IsKnownAt (scan_limits 162) two_images) (input_offsets two_images) two_items
 unfolding cell u32_at
 two_are_known = (
   kernel_at_begin,
   at_both (IsKnownAt (scan_limits 162) two_images) (range_with_len 1 73) (74 ∷ range_with_len 75 87)
-      (nothing_at (range_with_len 1 73)) ((scan_line 74 88 (OfFit (plain_tree [] [])) ∷ [], 88) ∷ nothing_at (range_with_len 75 87))
+      (nothing_at (range_with_len 1 73)) ((scanned_image 74 88 (OfFit (plain_tree [] [])) ∷ [], 88) ∷ nothing_at (range_with_len 75 87))
       (nothing_is_known (scan_limits 162) two_images (range_with_len 1 73) refl) (
         smallest_at (scan_limits 162) two_images 74 refl (lit≤ tt) (lit≤ tt),
         nothing_is_known (scan_limits 162) two_images (range_with_len 75 87) refl,
       ),
 )
 
-two_scan : IsScanText (scan_limits 162) two_images two_lines
+two_scan : IsKnownScan Lines (scan_limits 162) two_images two_lines true
 unfolding u32_at cell digits
-two_scan = known_scan (scan_limits 162) two_images two_lines two_items (lit≤ tt) two_are_known (lit≤ tt) refl
+two_scan = known_scan Lines (scan_limits 162) two_images two_lines true two_items (lit≤ tt) two_are_known (lit≤ tt) refl refl
+
+two_in_json : IsKnownScan Json (scan_limits 162) two_images two_objects true
+unfolding digits
+two_in_json = known_scan Json (scan_limits 162) two_images two_objects true two_items (lit≤ tt) two_are_known (lit≤ tt) refl refl
 
 -- The bytes of the file with one image inside another.
 abbrev nested_bytes : List ℕ
@@ -300,14 +319,14 @@ unfolding legacy_text header cell crc32 crc_after low_bits
 nested_are_bytes = refl
 
 -- What is in it.
-abbrev nested_items : List (List Line × ℕ)
+abbrev nested_items : List (List ScannedImage × ℕ)
 nested_items =
-    (scan_line 0 152 (OfLegacy kernel_of_tree) ∷ [], 152)
+    (scanned_image 0 152 (OfLegacy kernel_of_tree) ∷ [], 152)
     ∷ (nothing_at (range_with_len 1 63)
-    ++ (scan_line 64 88 (OfFit (plain_tree [] [])) ∷ [], 88) ∷ nothing_at (range_with_len 65 87))
+    ++ (scanned_image 64 88 (OfFit (plain_tree [] [])) ∷ [], 88) ∷ nothing_at (range_with_len 65 87))
 
 outer_at_begin : (limits : Limits) → 152 ≤ limits.file →
-    IsKnownAt limits nested_bytes 0 (scan_line 0 152 (OfLegacy kernel_of_tree) ∷ [], 152)
+    IsKnownAt limits nested_bytes 0 (scanned_image 0 152 (OfLegacy kernel_of_tree) ∷ [], 152)
 unfolding digits header cell crc32 crc_after low_bits u32_at
 outer_at_begin limits short = (
   WithImage 152 (OfLegacy kernel_of_tree)
@@ -325,19 +344,19 @@ unfolding cell u32_at
 nested_are_known limits short shallow = (
   outer_at_begin limits short,
   at_both (IsKnownAt limits nested_bytes) (range_with_len 1 63) (64 ∷ range_with_len 65 87)
-      (nothing_at (range_with_len 1 63)) ((scan_line 64 88 (OfFit (plain_tree [] [])) ∷ [], 88) ∷ nothing_at (range_with_len 65 87))
+      (nothing_at (range_with_len 1 63)) ((scanned_image 64 88 (OfFit (plain_tree [] [])) ∷ [], 88) ∷ nothing_at (range_with_len 65 87))
       (nothing_is_known limits nested_bytes (range_with_len 1 63) refl) (
         smallest_at limits nested_bytes 64 refl (omega (arith, short)) shallow,
         nothing_is_known limits nested_bytes (range_with_len 65 87) refl,
       ),
 )
 
-nested_scan : IsScanText (scan_limits 240) nested_images nested_lines
+nested_scan : IsKnownScan Lines (scan_limits 240) nested_images nested_lines true
 unfolding digits
 nested_scan =
-    subst (λ (input : List ℕ). IsScanText (scan_limits 240) input nested_lines) (sym nested_are_bytes)
-    (known_scan (scan_limits 240) nested_bytes nested_lines nested_items (lit≤ tt)
-    (nested_are_known (scan_limits 240) (lit≤ tt) (lit≤ tt)) (lit≤ tt) refl)
+    subst (λ (input : List ℕ). IsKnownScan Lines (scan_limits 240) input nested_lines true) (sym nested_are_bytes)
+    (known_scan Lines (scan_limits 240) nested_bytes nested_lines true nested_items (lit≤ tt)
+    (nested_are_known (scan_limits 240) (lit≤ tt) (lit≤ tt)) (lit≤ tt) refl refl)
 
 -- A lower limit than what its images claim refuses it.
 nested_fault : IsScanFault (scan_limits 239) nested_images (too_large 239)
@@ -346,7 +365,7 @@ nested_fault =
     (record {
       is_too_large = refl;
       cause = inr (record {
-        claims = map (λ (item : List Line × ℕ). item.1) nested_items;
+        claims = map (λ (item : List ScannedImage × ℕ). item.1) nested_items;
         are_claims = claims_known (scan_limits 239) nested_bytes (input_offsets nested_bytes) nested_items
             (nested_are_known (scan_limits 239) (lit≤ tt) (lit≤ tt));
         over = lit< tt;
@@ -365,7 +384,7 @@ external_blob : IsBlob three_external 0 [] (tree_with_places [] external_nodes)
 unfolding text_of_events text_of_blocks cell cell8 u32_at
 external_blob = blob_by_test external_nodes (codes "hello" ++ 0 ∷ 0 ∷ 0 ∷ codes "x") refl refl (lit≤ tt)
 
-external_at_begin : IsKnownAt (scan_limits 253) three_external 0 (scan_line 0 253 (OfFit three_tree) ∷ [], 244)
+external_at_begin : IsKnownAt (scan_limits 253) three_external 0 (scanned_image 0 253 (OfFit three_tree) ∷ [], 244)
 unfolding text_of_events text_of_blocks cell cell8 u32_at test digits
 external_at_begin =
     let found = three_images_have_texts.external_means in
@@ -392,12 +411,12 @@ external_at_begin =
       OfBlob (record { begins = record { whole = lit≤ tt; magic = refl }; passes = blob_passes three_external refl }) refl,
     )
 
-external_scan : IsScanText (scan_limits 253) three_external (codes "0 fit 253 3" ++ 10 ∷ [])
+external_scan : IsKnownScan Lines (scan_limits 253) three_external (codes "0 fit 253 3" ++ 10 ∷ []) true
 unfolding text_of_events text_of_blocks cell cell8 u32_at digits
 external_scan =
-    known_scan (scan_limits 253) three_external (codes "0 fit 253 3" ++ 10 ∷ [])
-    ((scan_line 0 253 (OfFit three_tree) ∷ [], 244) ∷ nothing_at (range_with_len 1 252)) (lit≤ tt)
-    (external_at_begin, nothing_is_known (scan_limits 253) three_external (range_with_len 1 252) refl) (lit≤ tt) refl
+    known_scan Lines (scan_limits 253) three_external (codes "0 fit 253 3" ++ 10 ∷ []) true
+    ((scanned_image 0 253 (OfFit three_tree) ∷ [], 244) ∷ nothing_at (range_with_len 1 252)) (lit≤ tt)
+    (external_at_begin, nothing_is_known (scan_limits 253) three_external (range_with_len 1 252) refl) (lit≤ tt) refl refl
 
 -- ---- files without images
 
@@ -432,23 +451,23 @@ great_are_bytes : great_header ≡ great_bytes
 unfolding cell crc32 crc_after low_bits
 great_are_bytes = refl
 
-great_scan : IsScanText (scan_limits 162) great_header []
+great_scan : IsKnownScan Lines (scan_limits 162) great_header [] false
 unfolding u32_at cell
 great_scan =
-    subst (λ (input : List ℕ). IsScanText (scan_limits 162) input []) (sym great_are_bytes)
-    (known_scan (scan_limits 162) great_bytes [] (([], 0) ∷ nothing_at (range_with_len 1 63)) (lit≤ tt) (
+    subst (λ (input : List ℕ). IsKnownScan Lines (scan_limits 162) input [] false) (sym great_are_bytes)
+    (known_scan Lines (scan_limits 162) great_bytes [] false (([], 0) ∷ nothing_at (range_with_len 1 63)) (lit≤ tt) (
       (
         WithoutImage (legacy_alone (scan_limits 162) great_bytes refl (lit< tt)) refl,
         only_legacy_claim great_bytes refl (λ claim. omega (arith, claim.passes.1.1.0)),
       ),
       nothing_is_known (scan_limits 162) great_bytes (range_with_len 1 63) refl,
     )
-    (lit≤ tt) refl)
+    (lit≤ tt) refl refl)
 
-magics_scan : IsScanText (scan_limits 64) three_magics []
+magics_scan : IsKnownScan Lines (scan_limits 64) three_magics [] false
 unfolding u32_at cell
 magics_scan =
-    known_scan (scan_limits 64) three_magics [] (nothing_at (range_with_len 0 13)) (lit≤ tt)
+    known_scan Lines (scan_limits 64) three_magics [] false (nothing_at (range_with_len 0 13)) (lit≤ tt)
     (at_both (IsKnownAt (scan_limits 64) three_magics) (0 ∷ []) (range_with_len 1 12) (nothing_at (0 ∷ []))
     (nothing_at (range_with_len 1 12))
     (nothing_is_known (scan_limits 64) three_magics (0 ∷ []) refl) (
@@ -471,46 +490,52 @@ magics_scan =
                 ),
           ),
     ))
-    (lit≤ tt) refl
+    (lit≤ tt) refl refl
 
--- So they are the only outputs: there is a line, or there is none.
+-- So known scans are the only outputs.
 module _ (one_meaning : OneFileMeaning) where
-  only_scan : (most : ℕ) (found : Bool) (input text : List ℕ) → IsScanText (scan_limits most) input text → (IsTrue found ↔ (text ≢ [])) →
-      IsOnlyScan most found input text
-  only_scan most found input text is is_found = record {
-    is_output = record { is_scan = is; is_found = is_found };
-    is_text = is;
-    only = λ other_found other output.
-        let same = one_scan one_meaning (scan_limits most) input other text output.is_scan is in (
-          same_bool other_found found (text ≢ []) (subst (λ text. IsTrue other_found ↔ (text ≢ [])) same output.is_found) is_found,
-          same,
+  only_scan : (format : Format) (most : ℕ) (found : Bool) (input text : List ℕ) →
+      IsKnownScan format (scan_limits most) input text found → IsOnlyScanIn format most found input text
+  only_scan format most found input text known =
+      let is_found : IsTrue found ↔ (all_found known.is.has.found ≢ []) =
+      subst (λ found. IsTrue found ↔ (all_found known.is.has.found ≢ [])) known.some (some_images (all_found known.is.has.found)) in
+      record {
+        is_output = record { is_scan = known.is; is_found = is_found };
+        is_text = known.is;
+        only = λ other_found other output. (
+          same_bool other_found found (all_found known.is.has.found ≢ [])
+              (subst (λ images. IsTrue other_found ↔ (all_found images ≢ []))
+              (same_images one_meaning format (scan_limits most) input other text output.is_scan known.is) output.is_found)
+              is_found,
+          one_scan one_meaning format (scan_limits most) input other text output.is_scan known.is,
         );
-  }
+      }
 
-  found_some : (most byte : ℕ) (input later : List ℕ) → IsScanText (scan_limits most) input (byte ∷ later) →
-      IsOnlyScan most true input (byte ∷ later)
-  found_some most byte input later is = only_scan most true input (byte ∷ later) is (λ _ e. absurd cc, λ _. refl)
-
-  found_none : (most : ℕ) (input : List ℕ) → IsScanText (scan_limits most) input [] → IsOnlyScan most false input []
-  found_none most input is = only_scan most false input [] is (λ no. absurd (true≢false (sym no)), λ some. absurd (some refl))
+  none_in : (format : Format) (text : List ℕ) → text ≡ scan_text format [] → IsOnlyScanIn format 162 false (codes "hello") text
+  unfolding u32_at
+  none_in format text is =
+      only_scan format 162 false (codes "hello") text
+      (known_scan format (scan_limits 162) (codes "hello") text false (nothing_at (range_with_len 0 5)) (lit≤ tt)
+      (nothing_is_known (scan_limits 162) (codes "hello") (range_with_len 0 5) refl) (lit≤ tt) refl is)
 
   pub scans_are_known : ScansAreKnown
   unfolding u32_at cell digits
   scans_are_known = record {
-    two = found_some 162 _ two_images _ two_scan;
-    nested = found_some 240 _ nested_images _ nested_scan;
-    external = found_some 253 _ three_external _ external_scan;
-    great = found_none 162 great_header great_scan;
-    magic = found_none 162 (cell blob_magic)
-        (known_scan (scan_limits 162) (cell blob_magic) [] (nothing_at (range_with_len 0 4)) (lit≤ tt) (
+    two = only_scan Lines 162 true two_images _ two_scan;
+    nested = only_scan Lines 240 true nested_images _ nested_scan;
+    external = only_scan Lines 253 true three_external _ external_scan;
+    great = only_scan Lines 162 false great_header [] great_scan;
+    magic = only_scan Lines 162 false (cell blob_magic) []
+        (known_scan Lines (scan_limits 162) (cell blob_magic) [] false (nothing_at (range_with_len 0 4)) (lit≤ tt) (
           (WithoutImage (blob_alone (scan_limits 162)) refl, claims_are_known.blob_alone),
           nothing_is_known (scan_limits 162) (cell blob_magic) (range_with_len 1 3) refl,
         )
-        (lit≤ tt) refl);
-    magics = found_none 64 three_magics magics_scan;
-    none = found_none 162 (codes "hello") (known_scan (scan_limits 162) (codes "hello") [] (nothing_at (range_with_len 0 5)) (lit≤ tt)
-        (nothing_is_known (scan_limits 162) (codes "hello") (range_with_len 0 5) refl) (lit≤ tt) refl);
-    empty = found_none 64 [] (known_scan (scan_limits 64) [] [] [] (lit≤ tt) tt (lit≤ tt) refl);
+        (lit≤ tt) refl refl);
+    magics = only_scan Lines 64 false three_magics [] magics_scan;
+    none = none_in Lines [] refl;
+    empty = only_scan Lines 64 false [] [] (known_scan Lines (scan_limits 64) [] [] false [] (lit≤ tt) tt (lit≤ tt) refl refl);
+    two_in_json = only_scan Json 162 true two_images _ two_in_json;
+    none_in_json = none_in Json _ refl;
   }
 
 -- ---- errors
@@ -519,7 +544,7 @@ module _ (one_meaning : OneFileMeaning) where
 one_error : (most : ℕ) (input : List ℕ) (one : Error) → IsScanError (scan_limits most) input one →
     ((fault : Fault) → IsScanFault (scan_limits most) input fault → Refused fault ≡ one) →
     (CanBeScanned (scan_limits most) input → OutOfMemory ≡ one) → FailsScanning most input one
-one_error most input one is refused memory error = (each error, λ same. subst (IsScanError (scan_limits most) input) (sym same) is)
+one_error most input one is refused memory format error = (each error, λ same. subst (IsScanError (scan_limits most) input) (sym same) is)
   where
     each : (error : Error) → IsScanError (scan_limits most) input error → error ≡ one
     each (Refused fault) is = refused fault is
@@ -539,7 +564,7 @@ unfolding cell
 scan_errors_are_known = record {
   longer = one_fault 161 two_images (record { is_too_large = refl; cause = inl (lit< tt) });
   claims = one_fault 239 nested_images nested_fault;
-  within = one_error 240 nested_images OutOfMemory nested_scan.can
-      (λ fault is. absurd (scan_has_no_fault (scan_limits 240) nested_images nested_lines fault nested_scan is)) (λ can. refl);
-  is_same = λ limits error. refl;
+  within = one_error 240 nested_images OutOfMemory nested_scan.is.can
+      (λ fault is. absurd (scan_has_no_fault Lines (scan_limits 240) nested_images nested_lines fault nested_scan.is is)) (λ can. refl);
+  is_same = λ format limits error. refl;
 }

@@ -11,14 +11,15 @@ use Rattle.bi_fit.specs.ImageTree.{image_nodes}
 use Rattle.bi_fit.proofs.Meanings.{same_in_some}
 use Rattle.bi_norm.specs.Laws.{OneFileMeaning}
 use Rattle.bi_norm.specs.Meaning.{Meaning, OfLegacy, OfFit, Means}
-use Rattle.bi_common.specs.Lines.{Line}
+use Rattle.bi_common.specs.declared.format.Format.{Format}
 use Rattle.bi_common.specs.Offsets.{input_from}
 use Rattle.bi_report.specs.Checking.{content_end}
-use Rattle.bi_report.specs.ScanLaws.{EachImageHasItsLine, OneScan}
-use Rattle.bi_report.specs.Scanning.{HasExtent, IsImageAt, IsLineAt, WithImage, WithoutImage, input_offsets, scan_line}
+use Rattle.bi_report.specs.ScanLaws.{EachImageIsFound, OneScan}
+use Rattle.bi_report.specs.Scanning.{HasExtent, IsFoundAt, IsImageAt, ScannedImage, WithImage, WithoutImage, all_found, input_offsets}
+use Rattle.bi_report.specs.Scanning.{IsScanText, scan_text, scanned_image}
 use Rattle.bi_report.proofs.ScannedLines.{means_kind}
 
--- The lines of a scan are those of the images at offsets, one for each, and there is only one list of them.
+-- What a scan finds are the images at offsets, and there is only one list of them.
 
 -- What holds at an offset, of the item at its index.
 record HasAt {A : Type 0} (R : ℕ → A → Type 0) (offset index : ℕ) (items : List A) : Type 0 where
@@ -42,18 +43,19 @@ at_offset R begin (suc count) (suc index) (item ∷ items) all within =
       holds = subst (λ offset. R offset rest.item) (let same : begin + 1 + index ≡ begin + suc index = omega arith in same) rest.holds;
     }
 
--- The line at the offset of an image is that of the image.
-line_of_image : OneFileMeaning → (limits : Limits) (input : List ℕ) (offset : ℕ) (lines : List Line) (meaning : Meaning) →
-    IsLineAt limits input offset lines → Means limits (input_from offset input) meaning →
-    (extent : ℕ) × IsImageAt limits input offset extent meaning × (lines ≡ scan_line offset extent meaning ∷ [])
-line_of_image one_meaning limits input offset lines meaning (WithImage extent found is same) means = search rules
-line_of_image one_meaning limits input offset lines meaning (WithoutImage nothing same) means = absurd (nothing meaning means)
+-- What is found at the offset of an image is the image.
+found_of_image : OneFileMeaning → (limits : Limits) (input : List ℕ) (offset : ℕ) (found : List ScannedImage) (meaning : Meaning) →
+    IsFoundAt limits input offset found → Means limits (input_from offset input) meaning →
+    (extent : ℕ) × IsImageAt limits input offset extent meaning × (found ≡ scanned_image offset extent meaning ∷ [])
+found_of_image one_meaning limits input offset found meaning (WithImage extent other is same) means = search rules
+found_of_image one_meaning limits input offset found meaning (WithoutImage nothing same) means = absurd (nothing meaning means)
 
--- A line is that of an image.
-line_has_image : (limits : Limits) (input : List ℕ) (offset : ℕ) (lines : List Line) → IsLineAt limits input offset lines → lines ≢ [] →
-    (extent : ℕ) × (meaning : Meaning) × IsImageAt limits input offset extent meaning × (lines ≡ scan_line offset extent meaning ∷ [])
-line_has_image limits input offset lines (WithImage extent found is same) some = (extent, found, is, same)
-line_has_image limits input offset lines (WithoutImage nothing same) some = absurd (some same)
+-- What is found is an image.
+found_is_image : (limits : Limits) (input : List ℕ) (offset : ℕ) (found : List ScannedImage) → IsFoundAt limits input offset found →
+    found ≢ [] →
+    (extent : ℕ) × (meaning : Meaning) × IsImageAt limits input offset extent meaning × (found ≡ scanned_image offset extent meaning ∷ [])
+found_is_image limits input offset found (WithImage extent meaning is same) some = (extent, meaning, is, same)
+found_is_image limits input offset found (WithoutImage nothing same) some = absurd (some same)
 
 -- An image is not after the end of the input.
 pub inside : (limits : Limits) (input : List ℕ) (offset : ℕ) (meaning : Meaning) → Means limits (input_from offset input) meaning →
@@ -61,24 +63,24 @@ pub inside : (limits : Limits) (input : List ℕ) (offset : ℕ) (meaning : Mean
 inside limits input offset meaning means =
     omega (arith, (means_kind limits (input_from offset input) meaning means).1.whole, length-drop offset input)
 
-pub each_image_has_its_line : OneFileMeaning → EachImageHasItsLine
-each_image_has_its_line one_meaning limits input text is = record {
+pub each_image_is_found : OneFileMeaning → EachImageIsFound
+each_image_is_found one_meaning format limits input text is = record {
   each = λ offset meaning means.
-      let at = at_offset (IsLineAt limits input) 0 (length input) offset is.has.lines is.has.are_lines
+      let at = at_offset (IsFoundAt limits input) 0 (length input) offset is.has.found is.has.are_found
       (inside limits input offset meaning means) in
-      let line = line_of_image one_meaning limits input offset at.item meaning
-      (subst (λ (offset : ℕ). IsLineAt limits input offset at.item) (omega arith) at.holds) means in
-      (line.0, line.1, (offset, at.within, at.is_item (scan_line offset line.0 meaning ∷ []) ∙ line.2));
-  no_other = λ line contains some.
+      let found = found_of_image one_meaning limits input offset at.item meaning
+      (subst (λ (offset : ℕ). IsFoundAt limits input offset at.item) (omega arith) at.holds) means in
+      (found.0, found.1, (offset, at.within, at.is_item (scanned_image offset found.0 meaning ∷ []) ∙ found.2));
+  no_other = λ images contains some.
       let within : contains.0 < length input = omega (
         arith,
         contains.1,
-        AllZip-long (IsLineAt limits input) (input_offsets input) is.has.lines is.has.are_lines,
+        AllZip-long (IsFoundAt limits input) (input_offsets input) is.has.found is.has.are_found,
         length-range_with_len 0 (length input),
       ) in
-      let at = at_offset (IsLineAt limits input) 0 (length input) contains.0 is.has.lines is.has.are_lines within in
-      let same : at.item ≡ line = sym (at.is_item line) ∙ contains.2 in
-      let found = line_has_image limits input (0 + contains.0) line (subst (IsLineAt limits input (0 + contains.0)) same at.holds) some in
+      let at = at_offset (IsFoundAt limits input) 0 (length input) contains.0 is.has.found is.has.are_found within in
+      let same : at.item ≡ images = sym (at.is_item images) ∙ contains.2 in
+      let found = found_is_image limits input (0 + contains.0) images (subst (IsFoundAt limits input (0 + contains.0)) same at.holds) some in
       (0 + contains.0, found.0, found.1, found.2, found.3);
 }
 
@@ -97,27 +99,36 @@ one_extent limits image (OfFit tree) one other (means, is) (other_means, other_i
         means.is_file.blob other_means.is_file.blob).same_root
         ∙ other_means.is_file.has_images)
 
--- So there is one line for an offset,
-one_line : OneFileMeaning → (limits : Limits) (input : List ℕ) (offset : ℕ) (one other : List Line) →
-    IsLineAt limits input offset one → IsLineAt limits input offset other → one ≡ other
-one_line one_meaning limits input offset one other is (WithImage extent meaning other_is same) = search (rules, line_of_image, one_extent)
-one_line one_meaning limits input offset one other (WithImage extent meaning is same) (WithoutImage nothing other_same) =
+-- So there is one list for an offset,
+one_found : OneFileMeaning → (limits : Limits) (input : List ℕ) (offset : ℕ) (one other : List ScannedImage) →
+    IsFoundAt limits input offset one → IsFoundAt limits input offset other → one ≡ other
+one_found one_meaning limits input offset one other is (WithImage extent meaning other_is same) =
+    search (rules, found_of_image, one_extent)
+one_found one_meaning limits input offset one other (WithImage extent meaning is same) (WithoutImage nothing other_same) =
     absurd (nothing meaning is.means)
-one_line one_meaning limits input offset one other (WithoutImage nothing same) (WithoutImage other_nothing other_same) =
+one_found one_meaning limits input offset one other (WithoutImage nothing same) (WithoutImage other_nothing other_same) =
     same ∙ sym other_same
 
--- and one list of lines.
-same_lines : OneFileMeaning → (limits : Limits) (input offsets : List ℕ) (lines others : List (List Line)) →
-    AllZip (IsLineAt limits input) offsets lines → AllZip (IsLineAt limits input) offsets others → lines ≡ others
-same_lines one_meaning limits input [] [] [] are are_too = refl
-same_lines one_meaning limits input [] [] (other ∷ others) are are_too = absurd are_too
-same_lines one_meaning limits input [] (line ∷ lines) others are are_too = absurd are
-same_lines one_meaning limits input (offset ∷ offsets) [] others are are_too = absurd are
-same_lines one_meaning limits input (offset ∷ offsets) (line ∷ lines) [] are are_too = absurd are_too
-same_lines one_meaning limits input (offset ∷ offsets) (line ∷ lines) (other ∷ others) are are_too =
-    ap₂ (λ (first : List Line) (later : List (List Line)). first ∷ later)
-    (one_line one_meaning limits input offset line other are.0 are_too.0)
-    (same_lines one_meaning limits input offsets lines others are.1 are_too.1)
+-- and one list of these.
+same_found : OneFileMeaning → (limits : Limits) (input offsets : List ℕ) (found others : List (List ScannedImage)) →
+    AllZip (IsFoundAt limits input) offsets found → AllZip (IsFoundAt limits input) offsets others → found ≡ others
+same_found one_meaning limits input [] [] [] are are_too = refl
+same_found one_meaning limits input [] [] (other ∷ others) are are_too = absurd are_too
+same_found one_meaning limits input [] (first ∷ found) others are are_too = absurd are
+same_found one_meaning limits input (offset ∷ offsets) [] others are are_too = absurd are
+same_found one_meaning limits input (offset ∷ offsets) (first ∷ found) [] are are_too = absurd are_too
+same_found one_meaning limits input (offset ∷ offsets) (first ∷ found) (other ∷ others) are are_too =
+    ap₂ (λ (first : List ScannedImage) (later : List (List ScannedImage)). first ∷ later)
+    (one_found one_meaning limits input offset first other are.0 are_too.0)
+    (same_found one_meaning limits input offsets found others are.1 are_too.1)
+
+-- So two scans find the same.
+pub same_images : OneFileMeaning → (format : Format) (limits : Limits) (input one other : List ℕ) (is : IsScanText format limits input one)
+    (other_is : IsScanText format limits input other) → is.has.found ≡ other_is.has.found
+same_images one_meaning format limits input one other is other_is =
+    same_found one_meaning limits input (input_offsets input) is.has.found other_is.has.found is.has.are_found other_is.has.are_found
 
 pub one_scan : OneFileMeaning → OneScan
-one_scan one_meaning limits input one other is other_is = search (rules, same_lines)
+one_scan one_meaning format limits input one other is other_is =
+    is.has.is_text ∙ ap (λ found. scan_text format (all_found found)) (same_images one_meaning format limits input one other is other_is)
+    ∙ sym other_is.has.is_text

@@ -1,9 +1,11 @@
-use Rattle.std.proofs.Common.{◌≡◌, ℕ, zero, suc, ◌+◌, ◌-◌, ◌<◌, ◌≤◌, Bool, true, false, Option, Some, Result, Ok, Err, IfErr, IfOk, is_err}
-use Rattle.std.proofs.Common.{List, [], ◌∷◌, ◌++◌, length, refl, sym, ap, subst, subst₂, ◌∙◌, append-nil, arith, rules}
+use Rattle.std.proofs.Common.{◌≡◌, ◌≢◌, ◌↔◌, ℕ, zero, suc, ◌+◌, ◌-◌, ◌<◌, ◌≤◌, ◌||◌, Bool, true, false, Option, Some, Result, Ok, Err}
+use Rattle.std.proofs.Common.{IfErr, IfOk, IsTrue, is_err, List, [], ◌∷◌, ◌++◌, length, map, refl, sym, ap, ap₂, subst, subst₂, ◌∙◌}
+use Rattle.std.proofs.Common.{append-nil, arith, rules, true≢false}
+use Rattle.std.proofs.Math.Bool.{or-false}
 use Rattle.std.specs.Prelude.{IsAscii}
 use Rattle.std.specs.List.{AllZip}
 use Rattle.std.proofs.lemmas.Grind.{flat_map-append}
-use Rattle.bi_base.specs.declared.fault.Error.{Error}
+use Rattle.std.proofs.lemmas.List.{map-append}
 use Rattle.bi_base.specs.declared.fault.Fault.{Fault}
 use Rattle.bi_base.specs.Cells.{u32_at}
 use Rattle.bi_base.specs.Limits.{Limits}
@@ -19,22 +21,29 @@ use Rattle.bi_norm.specs.declared.kind.Kind.{Kind}
 use Rattle.bi_norm.specs.declared.kind.Kind.TheVariants as kind
 use Rattle.bi_norm.specs.Kinds.{BeginsAs, IsKindFault, TooShort, OfNoKind}
 use Rattle.bi_norm.specs.Meaning.{Meaning, OfLegacy, OfFit, Means, MeansNothing}
+use Rattle.bi_norm.specs.declared.image.BootImage.{BootImage}
+use Rattle.bi_norm.specs.declared.image.BootImage.TheVariants.{Legacy, Fit}
+use Rattle.bi_norm.specs.Reading.{IsReadBootImage}
 use Rattle.bi_norm.proofs.FilesWithoutMeaning.{means_legacy}
-use Rattle.bi_common.specs.Lines.{Line}
-use Rattle.bi_common.specs.LineTokens.{LineToken, line_tokens, line_writing, tokens_of_lines}
+use Rattle.bi_common.specs.declared.format.Format.{Format}
+use Rattle.bi_common.specs.declared.format.Format.TheVariants.{Json, Lines}
+use Rattle.bi_common.specs.JsonTokens.{value_tokens}
+use Rattle.bi_common.specs.LineTokens.{line_tokens, tokens_of_lines}
 use Rattle.bi_common.specs.Offsets.{input_from}
-use Rattle.bi_common.specs.Tokens.{PutsInTurn, PutsNothing, tokens_text}
+use Rattle.bi_common.specs.Tokens.{PutsInTurn, PutsNothing}
+use Rattle.bi_common.proofs.PrintedTexts.{json_lines_are_ascii}
 use Rattle.bi_common.proofs.PrintedWords.{CanPrintLine, CanPrintLines, line_texts_are_ascii}
-use Rattle.bi_common.proofs.WrittenLines.{lines_put}
+use Rattle.bi_common.proofs.WrittenTokens.{value_tokens-append}
 use Rattle.bi_report.specs.ReadChecking.{end_of_read_payloads}
+use Rattle.bi_report.specs.ScannedImages.{HasHeaderOf, scanned_image_read}
 use Rattle.bi_report.specs.ImageStarts.{HasNoStart, IsNextStart, ImageStartsModel}
-use Rattle.bi_report.specs.Scanning.{CanBeScanned, IsLineAt, IsScanText, PutsFirstLines, PutsLineAt, WithImage, WithoutImage}
-use Rattle.bi_report.specs.Scanning.{all_lines, input_offsets, scan_line}
+use Rattle.bi_report.specs.Scanning.{CanBeScanned, IsFoundAt, IsScanOutput, IsScanText, PutsFirstFound, PutsFoundAt, PutsScanText}
+use Rattle.bi_report.specs.Scanning.{ScannedImage, WithImage, WithoutImage, all_found, has_images, input_offsets, scan_line}
+use Rattle.bi_report.specs.Scanning.{scan_line_tokens, scan_object, scan_text, scanned_image, scanned_object, scanned_tokens}
 use Rattle.bi_report.proofs.CheckedFiles.{content_end_read}
 use Rattle.bi_report.proofs.OffsetLists.{next_offset}
-use Rattle.bi_report.proofs.PutInTurn.{put_then}
 
--- What was read at an offset of a file has the line of the image there.
+-- What was read at an offset of a file is the image that a scan finds there.
 
 -- What means something begins as an image of some kind.
 pub means_kind : (limits : Limits) (image : List ℕ) (meaning : Meaning) → Means limits image meaning → (found : Kind) × BeginsAs image found
@@ -48,19 +57,18 @@ no_kind_means_nothing limits image fault (TooShort short is) meaning means =
 no_kind_means_nothing limits image fault (OfNoKind whole none is) meaning means =
     let begins = means_kind limits image meaning means in none begins.0 begins.1
 
--- There is no line for it.
-pub no_kind_no_line : {S : Type 0} (puts : S → List LineToken → S → Type 0) → PutsNothing puts → (limits : Limits) (input image : List ℕ)
-    (pen : S) (offset : ℕ) (result : Result Kind Fault) → image ≡ input_from offset input → is_err result ≡ true →
-    IfErr result (IsKindFault image) → PutsLineAt puts limits input offset pen pen
-no_kind_no_line puts nothing limits input image pen offset (Ok found) is err fault = absurd cc
-no_kind_no_line puts nothing limits input image pen offset (Err fault) is err faulty =
-    ([], WithoutImage (subst (MeansNothing limits) is (no_kind_means_nothing limits image fault faulty)) refl, nothing pen)
+-- Nothing is found there.
+pub no_kind_not_found : (limits : Limits) (input image : List ℕ) (offset : ℕ) (result : Result Kind Fault) →
+    image ≡ input_from offset input → is_err result ≡ true → IfErr result (IsKindFault image) → IsFoundAt limits input offset []
+no_kind_not_found limits input image offset (Ok found) is err fault = absurd cc
+no_kind_not_found limits input image offset (Err fault) is err faulty =
+    WithoutImage (subst (MeansNothing limits) is (no_kind_means_nothing limits image fault faulty)) refl
 
--- What was read at an offset has its line there.
-pub legacy_line_at : (limits : Limits) (image input : List ℕ) (offset : ℕ) (parsed : LegacyModel) → image ≡ input_from offset input →
+-- What was read at an offset is found there.
+legacy_found_at : (limits : Limits) (image input : List ℕ) (offset : ℕ) (parsed : LegacyModel) → image ≡ input_from offset input →
     IsReadLegacy limits image parsed →
-    IsLineAt limits input offset (scan_line offset (64 + u32_at image 12) (OfLegacy parsed.image) ∷ [])
-legacy_line_at limits image input offset parsed is read =
+    IsFoundAt limits input offset (scanned_image offset (64 + u32_at image 12) (OfLegacy parsed.image) ∷ [])
+legacy_found_at limits image input offset parsed is read =
     WithImage (64 + u32_at image 12) (OfLegacy parsed.image)
     (record {
       means = subst (λ (image : List ℕ). Means limits image (OfLegacy parsed.image)) is read.means;
@@ -68,139 +76,204 @@ legacy_line_at limits image input offset parsed is read =
     })
     refl
 
-pub fit_line_at : (limits : Limits) (image input : List ℕ) (offset : ℕ) (content : FitModel) → image ≡ input_from offset input →
+fit_found_at : (limits : Limits) (image input : List ℕ) (offset : ℕ) (content : FitModel) → image ≡ input_from offset input →
     IsReadFit limits image content →
-    IsLineAt limits input offset
-    (scan_line offset (end_of_read_payloads content.blob.total_size content.images) (OfFit (tree_of content)) ∷ [])
-fit_line_at limits image input offset content is read =
+    IsFoundAt limits input offset
+    (scanned_image offset (end_of_read_payloads content.blob.total_size content.images) (OfFit (tree_of content)) ∷ [])
+fit_found_at limits image input offset content is read =
     let found = subst (λ (image : List ℕ). IsReadFit limits image content) is read in
     WithImage (end_of_read_payloads content.blob.total_size content.images) (OfFit (tree_of content))
     (record { means = found.means; has_extent = (found.means, content_end_read limits (input_from offset input) content found) }) refl
+
+pub read_found_at : (limits : Limits) (image input : List ℕ) (offset : ℕ) (read : BootImage) → image ≡ input_from offset input →
+    IsReadBootImage limits image read → IsFoundAt limits input offset (scanned_image_read offset image read ∷ [])
+read_found_at limits image input offset (Legacy parsed) is read = legacy_found_at limits image input offset parsed is read
+read_found_at limits image input offset (Fit content) is read = fit_found_at limits image input offset content is read
+
+pub scanned_has_header : (limits : Limits) (image : List ℕ) (read : BootImage) → IsReadBootImage limits image read → HasHeaderOf image read
+scanned_has_header limits image (Legacy parsed) read = search rules
+scanned_has_header limits image (Fit content) read = tt
 
 -- No image means anything that begins at an offset from `from` on and before `end`.
 abbrev pub HasNoImage : Limits → (input : List ℕ) → (from end : ℕ) → Type 0
 HasNoImage limits input from end = (offset : ℕ) → from ≤ offset → offset < end → MeansNothing limits (input_from offset input)
 
--- One more line.
-next_line : {S : Type 0} (puts : S → List LineToken → S → Type 0) → PutsInTurn puts → (limits : Limits) (input : List ℕ) (old pen new : S)
-    (count : ℕ) → PutsFirstLines puts limits input count old pen → PutsLineAt puts limits input count pen new →
-    PutsFirstLines puts limits input (count + 1) old new
-next_line puts in_turn limits input old pen new count (first, are, put) (lines, is, next) = (
-  first ++ lines ∷ [],
-  next_offset (IsLineAt limits input) count first lines are is,
-  subst (λ (all : List Line). puts old (tokens_of_lines all) new)
-      (sym (flat_map-append (λ (found : List Line). found) first (lines ∷ []) ∙ ap (λ l. all_lines first ++ l) (append-nil lines)))
-      (put_then puts tokens_of_lines (flat_map-append line_tokens) in_turn old pen new (all_lines first) lines put
-      (record { put = next })).put,
-)
-
--- An image that means nothing has no line.
-lines_of_more : {S : Type 0} (puts : S → List LineToken → S → Type 0) → PutsNothing puts → PutsInTurn puts → (limits : Limits)
-    (input : List ℕ) (old new : S) (count more : ℕ) → PutsFirstLines puts limits input count old new →
-    HasNoImage limits input count (count + more) → PutsFirstLines puts limits input (count + more) old new
-lines_of_more puts nothing in_turn limits input old new count zero first none =
-    subst (λ (count : ℕ). PutsFirstLines puts limits input count old new) (let same : count ≡ count + zero = omega arith in same) first
-lines_of_more puts nothing in_turn limits input old new count (suc more) first none =
-    subst (λ (count : ℕ). PutsFirstLines puts limits input count old new)
-    (let same : count + 1 + more ≡ count + suc more = omega arith in same)
-    (lines_of_more puts nothing in_turn limits input old new (count + 1) more
-    (next_line puts in_turn limits input old new new count first
-    ([], WithoutImage (none count (omega arith) (omega arith)) refl, nothing new))
-    (λ offset after before. none offset (omega (arith, after)) (omega (arith, before))))
-
-lines_to : {S : Type 0} (puts : S → List LineToken → S → Type 0) → PutsNothing puts → PutsInTurn puts → (limits : Limits) (input : List ℕ)
-    (old new : S) (count end : ℕ) → count ≤ end → PutsFirstLines puts limits input count old new → HasNoImage limits input count end →
-    PutsFirstLines puts limits input end old new
-lines_to puts nothing in_turn limits input old new count end order first none =
-    let same : count + (end - count) ≡ end = omega (arith, order) in
-    subst (λ (count : ℕ). PutsFirstLines puts limits input count old new) same
-    (lines_of_more puts nothing in_turn limits input old new count (end - count) first
-    (λ offset after before. none offset after (omega (arith, before, order))))
-
 no_start_no_image : (limits : Limits) (input : List ℕ) (from end : ℕ) → HasNoStart input from end → HasNoImage limits input from end
 no_start_no_image limits input from end none offset after before meaning means =
     let begins = means_kind limits (input_from offset input) meaning means in none offset after before begins.0 begins.1
 
--- The lines of the images before the offsets that are left were put.
-pub record HasLinesBefore {S : Type 0} (puts : S → List LineToken → S → Type 0) (limits : Limits) (input : List ℕ) (left : ImageStartsModel)
-    (end : ℕ) (old new : S) : Type 0
+-- Whether there are images among these or those.
+has_images-append : (images later : List ScannedImage) → has_images (images ++ later) ≡ has_images images || has_images later
+has_images-append [] later = refl
+has_images-append (image ∷ images) later = refl
+
+-- There are images among these, or there are none.
+pub some_images : (images : List ScannedImage) → IsTrue (has_images images) ↔ (images ≢ [])
+some_images [] = (λ no. absurd (true≢false (sym no)), λ some. absurd (some refl))
+some_images (image ∷ later) = (λ _ e. absurd cc, λ _. refl)
+
+-- ---- what is put
+
+-- The tokens of images are put by these laws.
+pub record IsTokens {T : Type 0} (tokens : List ScannedImage → List T) : Type 0 where
+  pub none : tokens [] ≡ []
+  pub both : (images later : List ScannedImage) → tokens (images ++ later) ≡ tokens images ++ tokens later
+
+pub lines_are_tokens : IsTokens scan_line_tokens
+lines_are_tokens = record {
+  none = refl;
+  both = λ images later. ap tokens_of_lines (map-append scan_line images later) ∙ flat_map-append line_tokens (map scan_line images) _;
+}
+
+pub objects_are_tokens : IsTokens scanned_tokens
+objects_are_tokens = record {
+  none = refl;
+  both = λ images later. ap value_tokens (map-append scanned_object images later) ∙ value_tokens-append (map scanned_object images) _;
+}
+
+-- The images before the offsets that are left were put.
+pub record HasPutBefore {S T : Type 0} (puts : S → List T → S → Type 0) (tokens : List ScannedImage → List T) (limits : Limits)
+    (input : List ℕ) (left : ImageStartsModel) (end : ℕ) (any : Bool) (old new : S) : Type 0
   where
-    pub lines : PutsFirstLines puts limits input left.from old new
+    pub first : PutsFirstFound puts tokens limits input left.from any old new
     pub is_input : left.input ≡ input
     pub is_end : left.end ≡ end
     pub are_left : left.from ≤ left.end
 
-pub before_lines : {S : Type 0} (puts : S → List LineToken → S → Type 0) → PutsNothing puts → (limits : Limits) (input : List ℕ) (pen : S)
-    (left : ImageStartsModel) (end : ℕ) → left ≡ record { input = input; from = 0; end = end } →
-    HasLinesBefore puts limits input left end pen pen
-before_lines puts nothing limits input pen left end is = search rules
+module _ {S T : Type 0} (puts : S → List T → S → Type 0) (nothing : PutsNothing puts) (in_turn : PutsInTurn puts)
+    (tokens : List ScannedImage → List T) (are : IsTokens tokens) (limits : Limits) (input : List ℕ) where
+  -- Nothing is put for an image that means nothing.
+  pub nothing_put : (pen : S) (offset : ℕ) → IsFoundAt limits input offset [] → PutsFoundAt puts tokens limits input offset false pen pen
+  nothing_put pen offset is = ([], is, subst (λ tokens. puts pen tokens pen) (sym are.none) (nothing pen), refl)
 
-pub lines_at_start : {S : Type 0} (puts : S → List LineToken → S → Type 0) → PutsNothing puts → PutsInTurn puts → (limits : Limits)
-    (input : List ℕ) (old pen new : S) (left after : ImageStartsModel) (end offset : ℕ) →
-    HasLinesBefore puts limits input left end old pen → IsNextStart left offset after → PutsLineAt puts limits input offset pen new →
-    HasLinesBefore puts limits input after end old new
-lines_at_start puts nothing in_turn limits input old pen new left after end offset before next put =
-    subst (λ (left : ImageStartsModel). HasLinesBefore puts limits input left end old new) (sym next.is_after)
-    (record {
-      lines = next_line puts in_turn limits input old pen new offset
-          (lines_to puts nothing in_turn limits input old pen left.from offset next.is_left before.lines
-          (no_start_no_image limits input left.from offset
-          (subst (λ (input : List ℕ). HasNoStart input left.from offset) before.is_input next.no_start)))
-          put;
-      is_input = before.is_input;
-      is_end = before.is_end;
-      are_left = omega (arith, next.within);
-    })
+  -- What is found at one more offset.
+  next_put : (old pen new : S) (count : ℕ) (any next : Bool) → PutsFirstFound puts tokens limits input count any old pen →
+      PutsFoundAt puts tokens limits input count next pen new → PutsFirstFound puts tokens limits input (count + 1) (any || next) old new
+  next_put old pen new count any next (first, found_first, put, is_any) (found, is, later, is_next) =
+      let both : all_found (first ++ found ∷ []) ≡ all_found first ++ found =
+      flat_map-append (λ (found : List ScannedImage). found) first (found ∷ []) ∙ ap (λ l. all_found first ++ l) (append-nil found) in (
+        first ++ found ∷ [],
+        next_offset (IsFoundAt limits input) count first found found_first is,
+        subst (λ tokens. puts old tokens new) (sym (ap tokens both ∙ are.both (all_found first) found)) (in_turn old pen new _ _ put later),
+        ap₂ (λ a b. a || b) is_any is_next ∙ sym (ap has_images both ∙ has_images-append (all_found first) found),
+      )
 
--- These are all lines if no image begins at an offset that is left, and none claims anything after them.
-pub all_lines_are_put : {S : Type 0} (puts : S → List LineToken → S → Type 0) → PutsNothing puts → PutsInTurn puts → (limits : Limits)
-    (input : List ℕ) (old new : S) (left : ImageStartsModel) (end : ℕ) → end ≤ length input →
-    HasLinesBefore puts limits input left end old new → HasNoStart left.input left.from left.end →
-    HasNoImage limits input end (length input) → PutsFirstLines puts limits input (length input) old new
-all_lines_are_put puts nothing in_turn limits input old new left end within before none later =
-    lines_to puts nothing in_turn limits input old new end (length input) within
-    (lines_to puts nothing in_turn limits input old new left.from end (omega (arith, before.are_left, before.is_end)) before.lines
-    (no_start_no_image limits input left.from end
-    (subst₂ (λ input end. HasNoStart input left.from end) before.is_input before.is_end none)))
-    later
+  -- Nothing is found at more offsets.
+  more_put : (old new : S) (count more : ℕ) (any : Bool) → PutsFirstFound puts tokens limits input count any old new →
+      HasNoImage limits input count (count + more) → PutsFirstFound puts tokens limits input (count + more) any old new
+  more_put old new count zero any first none =
+      subst (λ (count : ℕ). PutsFirstFound puts tokens limits input count any old new)
+      (let same : count ≡ count + zero = omega arith in same)
+      first
+  more_put old new count (suc more) any first none =
+      let one_more = next_put old new new count any false first
+      (nothing_put new count (WithoutImage (none count (omega arith) (omega arith)) refl)) in
+      subst (λ (count : ℕ). PutsFirstFound puts tokens limits input count any old new)
+      (let same : count + 1 + more ≡ count + suc more = omega arith in same)
+      (more_put old new (count + 1) more any
+      (subst (λ any. PutsFirstFound puts tokens limits input (count + 1) any old new) (or-false any) one_more)
+      (λ offset after before. none offset (omega (arith, after)) (omega (arith, before))))
+
+  put_to : (old new : S) (count end : ℕ) (any : Bool) → count ≤ end → PutsFirstFound puts tokens limits input count any old new →
+      HasNoImage limits input count end → PutsFirstFound puts tokens limits input end any old new
+  put_to old new count end any order first none =
+      let same : count + (end - count) ≡ end = omega (arith, order) in
+      subst (λ (count : ℕ). PutsFirstFound puts tokens limits input count any old new) same
+      (more_put old new count (end - count) any first (λ offset after before. none offset after (omega (arith, before, order))))
+
+  pub before_first : (pen : S) (left : ImageStartsModel) (end : ℕ) → left ≡ record { input = input; from = 0; end = end } →
+      HasPutBefore puts tokens limits input left end false pen pen
+  before_first pen left end is =
+      subst (λ left. HasPutBefore puts tokens limits input left end false pen pen) (sym is)
+      (record {
+        first = ([], tt, subst (λ tokens. puts pen tokens pen) (sym are.none) (nothing pen), refl);
+        is_input = refl;
+        is_end = refl;
+        are_left = omega arith;
+      })
+
+  pub put_at_start : (old pen new : S) (left after : ImageStartsModel) (end offset : ℕ) (any next : Bool) →
+      HasPutBefore puts tokens limits input left end any old pen → IsNextStart left offset after →
+      PutsFoundAt puts tokens limits input offset next pen new →
+      HasPutBefore puts tokens limits input after end (any || next) old new
+  put_at_start old pen new left after end offset any next before start put =
+      subst (λ (left : ImageStartsModel). HasPutBefore puts tokens limits input left end (any || next) old new) (sym start.is_after)
+      (record {
+        first = next_put old pen new offset any next
+            (put_to old pen left.from offset any start.is_left before.first
+            (no_start_no_image limits input left.from offset
+            (subst (λ (input : List ℕ). HasNoStart input left.from offset) before.is_input start.no_start)))
+            put;
+        is_input = before.is_input;
+        is_end = before.is_end;
+        are_left = omega (arith, start.within);
+      })
+
+  -- These are all if no image begins at an offset that is left, and none claims anything after them.
+  pub each_is_put : (old new : S) (left : ImageStartsModel) (end : ℕ) (any : Bool) → end ≤ length input →
+      HasPutBefore puts tokens limits input left end any old new → HasNoStart left.input left.from left.end →
+      HasNoImage limits input end (length input) →
+      PutsFirstFound puts tokens limits input (length input) any old new
+  each_is_put old new left end any within before none later =
+      put_to old new end (length input) any within
+      (put_to old new left.from end any (omega (arith, before.are_left, before.is_end)) before.first
+      (no_start_no_image limits input left.from end
+      (subst₂ (λ input end. HasNoStart input left.from end) before.is_input before.is_end none)))
+      later
+
+-- What was put by some tokens was put by others.
+pub put_as : {S T P X : Type 0} (puts : S → List T → S → Type 0) (others : P → List X → P → Type 0) (tokens : List ScannedImage → List T)
+    (texts : List ScannedImage → List X) (limits : Limits) (input : List ℕ) (count : ℕ) (any : Bool) (old new : S) (begin end : P) →
+    ((images : List ScannedImage) → puts old (tokens images) new → others begin (texts images) end) →
+    PutsFirstFound puts tokens limits input count any old new → PutsFirstFound others texts limits input count any begin end
+put_as puts others tokens texts limits input count any old new begin end also (found, are, put, is) =
+    (found, are, also (all_found found) put, is)
 
 -- ---- texts
 
--- The lines that were put to a pen that keeps them in memory are the text of a scan.
-pub scan_in_memory : {V : Type 0} (limits : Limits) (input : List ℕ) (result : Result V Error) (items : V → List ℕ)
-    (begin end kept : Option (List ℕ)) (before : Bool) → CanBeScanned limits input → before ≡ false → begin ≡ Some [] → end ≡ kept →
-    IfOk result (λ text. kept ≡ Some (items text)) → (lines : List (List Line)) →
-    AllZip (IsLineAt limits input) (input_offsets input) lines →
-    MemoryPuts begin (tokens_text line_writing before (tokens_of_lines (all_lines lines))) end →
-    IfOk result (λ text. IsScanText limits input (items text))
-scan_in_memory limits input (Err error) items begin end kept before can first begins same is lines are put = tt
-scan_in_memory limits input (Ok text) items begin end kept before can first begins same is lines are put = record {
-  can = can;
-  has = record {
-    lines = lines;
-    are_lines = are;
-    is_text = lines_put MemoryPuts begin end (Some []) (Some (items text)) before (all_lines lines) first begins (same ∙ is) put;
+-- The text that was put to a pen that keeps it in memory is that of a scan.
+pub scan_kept : (format : Format) (limits : Limits) (input text : List ℕ) (begin end : Option (List ℕ)) (any : Bool) →
+    CanBeScanned limits input → begin ≡ Some [] → end ≡ Some text → PutsScanText MemoryPuts format limits input any begin end →
+    IsScanOutput format limits any input text
+scan_kept format limits input text begin end any can first kept (found, are, put, is) = record {
+  is_scan = record {
+    can = can;
+    has = record {
+      found = found;
+      are_found = are;
+      is_text = subst₂ (λ begin end. MemoryPuts begin (scan_text format (all_found found)) end) first kept put;
+    };
   };
+  is_found = subst (λ any. IsTrue any ↔ (all_found found ≢ [])) (sym is) (some_images (all_found found));
 }
 
 -- A line can be printed.
-line_can : (limits : Limits) (input : List ℕ) (offset : ℕ) (lines : List Line) → IsLineAt limits input offset lines → CanPrintLines lines
-line_can limits input offset lines (WithImage extent (OfLegacy image) is same) =
-    subst CanPrintLines (sym same)
+line_can : (limits : Limits) (input : List ℕ) (offset : ℕ) (found : List ScannedImage) → IsFoundAt limits input offset found →
+    CanPrintLines (map scan_line found)
+line_can limits input offset found (WithImage extent (OfLegacy image) is same) =
+    subst (λ images. CanPrintLines (map scan_line images)) (sym same)
     ((tt, (refl, (tt, ((image_of_file (input_from offset input) image is.means.is_file).name_bytes, tt)))), tt)
-line_can limits input offset lines (WithImage extent (OfFit tree) is same) =
-    subst CanPrintLines (sym same) ((tt, (refl, (tt, (tt, tt)))), tt)
-line_can limits input offset lines (WithoutImage nothing same) = subst CanPrintLines (sym same) tt
+line_can limits input offset found (WithImage extent (OfFit tree) is same) =
+    subst (λ images. CanPrintLines (map scan_line images)) (sym same) ((tt, (refl, (tt, (tt, tt)))), tt)
+line_can limits input offset found (WithoutImage nothing same) = subst (λ images. CanPrintLines (map scan_line images)) (sym same) tt
 
-lines_can : (limits : Limits) (input offsets : List ℕ) (lines : List (List Line)) → AllZip (IsLineAt limits input) offsets lines →
-    CanPrintLines (all_lines lines)
+lines_can : (limits : Limits) (input offsets : List ℕ) (found : List (List ScannedImage)) → AllZip (IsFoundAt limits input) offsets found →
+    CanPrintLines (map scan_line (all_found found))
 lines_can limits input [] [] are = tt
 lines_can limits input [] (first ∷ later) are = absurd are
 lines_can limits input (offset ∷ offsets) [] are = absurd are
 lines_can limits input (offset ∷ offsets) (first ∷ later) are =
-    each-append CanPrintLine first (all_lines later) (line_can limits input offset first are.0)
-    (lines_can limits input offsets later are.1)
+    subst CanPrintLines (sym (map-append scan_line first (all_found later)))
+    (each-append CanPrintLine (map scan_line first) (map scan_line (all_found later)) (line_can limits input offset first are.0)
+    (lines_can limits input offsets later are.1))
+
+text_is_ascii : (format : Format) (limits : Limits) (input : List ℕ) (found : List (List ScannedImage)) →
+    AllZip (IsFoundAt limits input) (input_offsets input) found → IsAscii (scan_text format (all_found found))
+text_is_ascii Lines limits input found are =
+    line_texts_are_ascii (map scan_line (all_found found)) (lines_can limits input (input_offsets input) found are)
+text_is_ascii Json limits input found are = json_lines_are_ascii (scan_object (all_found found))
 
 -- So the text of a scan is ASCII.
-pub scan_is_ascii : (limits : Limits) (input text : List ℕ) → IsScanText limits input text → IsAscii text
-scan_is_ascii limits input text is = search (rules, line_texts_are_ascii, lines_can)
+pub scan_is_ascii : (format : Format) (limits : Limits) (input text : List ℕ) → IsScanText format limits input text → IsAscii text
+scan_is_ascii format limits input text is =
+    subst IsAscii (sym is.has.is_text) (text_is_ascii format limits input is.has.found is.has.are_found)

@@ -16,6 +16,7 @@ use Rattle.bi_fit.specs.KnownJudgements.{configuration_lists, other_lists, defau
 use Rattle.bi_fit.specs.KnownJudgements.{no_value}
 use Rattle.bi_fit.proofs.JudgementFacts.{find-properties}
 use Rattle.bi_common.specs.Lines.{text_of_lines}
+use Rattle.bi_report.specs.Checking.{ignore_name}
 use Rattle.bi_report.specs.Reports.{counts_of, hash_report_lines}
 use Rattle.bi_report.specs.KnownConcerns.{ConcernsAreKnown, StrongAlgorithmsAreKnown, TrailingBytesAreKnown, AllowedKindsAreKnown}
 use Rattle.bi_report.specs.KnownTexts.{ReportsAreKnown, LegacyListingsAreKnown, FitListingIsKnown, EachSourceIsListed}
@@ -122,6 +123,10 @@ concerns_are_known = record {
     find-properties other_crc value_name,
     find-properties no_value algo_name,
     find-properties no_value value_name,
+    find-properties good_crc ignore_name,
+    find-properties short_crc ignore_name,
+    find-properties other_crc ignore_name,
+    find-properties no_value ignore_name,
   ) refl;
   configurations = rw (
     find-properties configuration_lists (key_name Kernel),
@@ -188,10 +193,21 @@ pub allowed_kinds_are_known : AllowedKindsAreKnown
 allowed_kinds_are_known = record {
   nothing = refl;
   bad_hash = refl;
+  skipped_hash = refl;
   unhashed = refl;
   weak_hash = refl;
   bad_list = refl;
   missing = refl;
+  unsigned = refl;
+  no_nodes = refl;
+  no_images = refl;
+  uncovered = refl;
+  foreign = refl;
+  strings = refl;
+  unit_address = refl;
   bad_default = refl;
   trailing = refl;
+  unasked = refl;
+  asked = refl;
+  asked_and_allowed = refl;
 }

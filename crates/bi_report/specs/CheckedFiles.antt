@@ -9,10 +9,10 @@ use Rattle.bi_common.specs.declared.format.Format.{Format}
 use Rattle.bi_common.specs.declared.format.Format.TheVariants.{Lines, Json}
 use Rattle.bi_common.specs.Json.{json_line}
 use Rattle.bi_common.specs.Lines.{text_of_lines}
-use Rattle.bi_common.specs.PayloadBounds.{IsOverPayloadBound}
 use Rattle.bi_report.specs.declared.check.Allowed.{Allowed}
 use Rattle.bi_report.specs.Checking.{Concern, AreConcerns, concern_line, concerns_object}
 use Rattle.bi_report.specs.Checking.{kept_concerns}
+use Rattle.bi_report.specs.SignedTrees.{IsOverCheckBound}
 
 -- Checking a boot image (profile of this project).
 
@@ -26,25 +26,27 @@ abbrev pub concerns_text : Format → Allowed → List Concern → List ℕ
 concerns_text format allowed concerns = text_of_concerns format (kept_concerns allowed concerns)
 
 -- The text is that of the concerns about the file that are not allowed, in a form. The file means
--- something and nothing else, and its payloads are within the payload bound.
+-- something and nothing else, its payloads are within the payload bound, and the needed paths of
+-- its signed nodes are within the path bound.
 pub record IsChecked (format : Format) (allowed : Allowed) (limits : Limits) (file text : List ℕ)
     : Type 0
   where
     pub meaning : Meaning
     pub means : MeansOnly limits file meaning
-    pub within : ¬ (IsOverPayloadBound limits meaning)
+    pub within : ¬ (IsOverCheckBound limits meaning)
     pub concerns : List Concern
     pub are_concerns : AreConcerns limits file concerns
     pub is_text : text ≡ concerns_text format allowed concerns
 
--- The file means something whose payloads are over the payload bound.
+-- The file means something whose payloads are over the payload bound, or the needed paths of whose
+-- signed nodes are over the path bound.
 pub record HoldsTooMuch (limits : Limits) (file : List ℕ) : Type 0 where
   pub meaning : Meaning
   pub means : Means limits file meaning
-  pub is_over : IsOverPayloadBound limits meaning
+  pub is_over : IsOverCheckBound limits meaning
 
 -- The error that checking a file in memory can have: one of reading it, or TooLarge at the limit
--- if it means something whose payloads are over the payload bound.
+-- if it means something whose payloads or needed paths are over their bound.
 abbrev pub IsCheckError : Limits → List ℕ → Error → Type 0
 IsCheckError limits file = IsReadErrorOrTooLarge limits file (HoldsTooMuch limits file)
 

@@ -2,8 +2,8 @@ use Rattle.std.specs.Prelude.{ℕ, List, [], ◌∷◌, Option, flat_map, map}
 use Rattle.std.specs.Option.{option_map}
 use Rattle.bi_common.specs.Json.{Json, Member, json_array, json_number, json_object, json_string}
 use Rattle.bi_common.specs.Json.{string_or_null}
-use Rattle.bi_common.specs.Lines.{Field, Line, Text, Decimal, digits_or_dash, name_or_dash}
-use Rattle.bi_common.specs.Shown.{shown_text}
+use Rattle.bi_common.specs.Lines.{Field, Line, Text, Decimal, Path, digits_or_dash, name_or_dash}
+use Rattle.bi_common.specs.Shown.{path, shown_text}
 use Rattle.bi_common.specs.ValueTexts.{hexadecimal_digits}
 
 -- Details of what is reported on a boot image: words of a line, and members of an object in JSON
@@ -13,6 +13,8 @@ use Rattle.bi_common.specs.ValueTexts.{hexadecimal_digits}
 pub data Detail : Type 0 where
   -- A name. If it is not there, the word is `-` and the value is `null`.
   NameDetail : (member : List ℕ) → Option (List ℕ) → Detail
+  -- The path of a node, by the names of the nodes on the way to it.
+  PathDetail : (member : List ℕ) → (names : List (List ℕ)) → Detail
   -- A word.
   WordDetail : (member : List ℕ) → (word : List ℕ) → Detail
   -- A number.
@@ -26,6 +28,7 @@ pub data Detail : Type 0 where
 -- The words for a detail.
 abbrev pub detail_words : Detail → List Field
 detail_words (NameDetail member name) = name_or_dash name ∷ []
+detail_words (PathDetail member names) = Path names ∷ []
 detail_words (WordDetail member word) = Text word ∷ []
 detail_words (NumberDetail member number) = Decimal number ∷ []
 detail_words (DigitsDetail member value) = digits_or_dash value ∷ []
@@ -42,6 +45,7 @@ name_json name = string_or_null (option_map shown_text name)
 -- The member for a detail.
 abbrev pub detail_member : Detail → Member
 detail_member (NameDetail member name) = (member, name_json name)
+detail_member (PathDetail member names) = (member, json_string (path names))
 detail_member (WordDetail member word) = (member, json_string word)
 detail_member (NumberDetail member number) = (member, json_number number)
 detail_member (DigitsDetail member value) =

@@ -5,9 +5,10 @@ use Rattle.bi_common.specs.JsonGrammar.{IsJsonLine}
 use Rattle.bi_report.specs.declared.check.Allowed.{Allowed}
 use Rattle.bi_report.specs.CheckedFiles.{IsChecked}
 use Rattle.bi_report.specs.ListedFiles.{IsListing}
+use Rattle.bi_report.specs.Scanning.{IsScanText}
 use Rattle.bi_report.specs.VerifiedFiles.{IsReport}
 
--- Each listing and each report in JSON is one line of JSON, and so are the concerns, within limits
+-- Each listing, report and scan in JSON is one line of JSON, and so are the concerns, within limits
 -- that a call may have. Each of these laws is the contract of a function in `laws`.
 
 abbrev pub ListingsAreJson : Type 0
@@ -25,3 +26,8 @@ ConcernsAreJson =
     (allowed : Allowed) (limits : Limits) (file text : List ℕ)
     → IsInRange limits.file limits.depth → IsChecked Json allowed limits file text
     → IsJsonLine text
+
+abbrev pub ScansAreJson : Type 0
+ScansAreJson =
+    (limits : Limits) (input text : List ℕ) → IsInRange limits.file limits.depth
+    → IsScanText Json limits input text → IsJsonLine text

@@ -17,7 +17,7 @@ use Rattle.bi_norm.specs.KnownComparisons.{file_without_magic, no_magic}
 use Rattle.bi_common.specs.declared.format.Format.{Format}
 use Rattle.bi_report.specs.declared.check.Allowed.{Allowed}
 use Rattle.bi_report.specs.CheckedFiles.{HoldsTooMuch, IsCheckError, check_promise}
-use Rattle.bi_report.specs.Checking.{nothing_allowed}
+use Rattle.bi_report.specs.Checking.{allowed_by_default, nothing_allowed}
 use Rattle.bi_report.specs.CleanFiles.{IsClean, ProtectImages}
 
 -- Small files with what checking them finds: an image tree that is built, one whose payloads are
@@ -28,7 +28,7 @@ use Rattle.bi_report.specs.CleanFiles.{IsClean, ProtectImages}
 pub record IsBuiltText (any : Bor (List ℕ)) : Type 0 where
   pub is_built :
       IsBuilt widest Embedded (head_like any (codes "k")) (kernel_and_ramdisk any) known_text
-  pub is_clean : IsClean nothing_allowed widest known_text
+  pub is_clean : IsClean allowed_by_default widest known_text
   pub error : (error : Error) → IsCheckError widest known_text error → error ≡ OutOfMemory
 
 -- It is built so, wherever the slices of the arguments are.

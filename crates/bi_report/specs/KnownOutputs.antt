@@ -13,10 +13,9 @@ use Rattle.bi_common.specs.declared.format.Format.TheVariants.{Lines, Json}
 use Rattle.bi_common.specs.Json.{json_text}
 use Rattle.bi_common.specs.KnownWords.{lines}
 use Rattle.bi_report.specs.CheckedFiles.{IsCheckOutput, check_promise, concerns_text}
-use Rattle.bi_report.specs.Checking.{BadHash, TrailingBytes, WeakHash, nothing_allowed}
-use Rattle.bi_report.specs.Checking.{tree_concerns}
+use Rattle.bi_report.specs.Checking.{BadHash, TrailingBytes, WeakHash, allowed_by_default}
 use Rattle.bi_report.specs.FitListing.{configuration_entry, configuration_object}
-use Rattle.bi_report.specs.KnownConcerns.{hash_by}
+use Rattle.bi_report.specs.KnownConcerns.{hash_by, unsigned_tree_concerns}
 use Rattle.bi_report.specs.KnownTexts.{hash_with}
 use Rattle.bi_report.specs.ListedFiles.{IsListing}
 use Rattle.bi_report.specs.VerifiedFiles.{IsVerifyOutput}
@@ -105,13 +104,13 @@ each_concern =
     ++ (codes "{\"concern\":\"weak-hash\",\"image\":\"a\",\"algorithms\":[\"sha1\",\"md5\"]},"
     ++ lines (codes "{\"concern\":\"trailing\",\"size\":7}]}" ∷ [])))))))))))
 
--- Checking the file as lines, with nothing allowed, gives this value and this text, and nothing
+-- Checking the file as lines, without options, gives this value and this text, and nothing
 -- else.
 pub record IsOnlyCheck (clean : Bool) (file text : List ℕ) : Type 0 where
-  pub is_output : (check_promise Lines nothing_allowed widest).is_output clean file text
-  pub is_text : (check_promise Lines nothing_allowed widest).is_text file text
+  pub is_output : (check_promise Lines allowed_by_default widest).is_output clean file text
+  pub is_text : (check_promise Lines allowed_by_default widest).is_text file text
   pub only : (other_clean : Bool) (other : List ℕ)
-      → (check_promise Lines nothing_allowed widest).is_output other_clean file other
+      → (check_promise Lines allowed_by_default widest).is_output other_clean file other
       → (other_clean ≡ clean) × (other ≡ text)
 
 -- What `check` writes, and whether it leaves no concern. Concerns that are allowed are left out,
@@ -119,20 +118,20 @@ pub record IsOnlyCheck (clean : Bool) (file text : List ℕ) : Type 0 where
 pub record CheckOutputsAreKnown : Type 0 where
   pub legacy : IsOnlyCheck true kernel_file []
   pub trailing : IsOnlyCheck false kernel_file_with_rest (lines (codes "trailing 7" ∷ []))
-  pub nothing : IsCheckOutput Lines nothing_allowed widest true smallest_text []
-  pub nothing_json : IsCheckOutput Json nothing_allowed widest true smallest_text
+  pub nothing : IsCheckOutput Lines allowed_by_default widest true smallest_text []
+  pub nothing_json : IsCheckOutput Json allowed_by_default widest true smallest_text
       (lines (codes "{\"concerns\":[]}" ∷ []))
-  pub unhashed : IsCheckOutput Lines nothing_allowed widest false file_without_hash
+  pub unhashed : IsCheckOutput Lines allowed_by_default widest false file_without_hash
       (lines (codes "unhashed a" ∷ []))
-  pub unhashed_json : IsCheckOutput Json nothing_allowed widest false file_without_hash
+  pub unhashed_json : IsCheckOutput Json allowed_by_default widest false file_without_hash
       (lines (codes "{\"concerns\":[{\"concern\":\"unhashed\",\"image\":\"a\"}]}" ∷ []))
-  pub allowed : IsCheckOutput Lines (record nothing_allowed { unhashed = true }) widest true
+  pub allowed : IsCheckOutput Lines (record allowed_by_default { unhashed = true }) widest true
       file_without_hash []
-  pub allowed_json : IsCheckOutput Json (record nothing_allowed { unhashed = true }) widest true
+  pub allowed_json : IsCheckOutput Json (record allowed_by_default { unhashed = true }) widest true
       file_without_hash
       (lines (codes "{\"concerns\":[]}" ∷ []))
-  pub each_json : concerns_text Json nothing_allowed
-      (tree_concerns configured_tree
+  pub each_json : concerns_text Json allowed_by_default
+      (unsigned_tree_concerns configured_tree
       ++ BadHash (hash_with Malformed)
       ∷ WeakHash (codes "a") (map hash_by (codes "sha1" ∷ codes "md5" ∷ []))
       ∷ TrailingBytes 7 ∷ [])

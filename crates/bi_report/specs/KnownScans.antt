@@ -14,6 +14,8 @@ use Rattle.bi_legacy.specs.File.{header_cells, legacy_magic}
 use Rattle.bi_legacy.specs.KnownImages.{kernel_image, kernel_file}
 use Rattle.bi_legacy.specs.Meaning.{LegacyImage}
 use Rattle.bi_legacy.specs.Text.{legacy_text}
+use Rattle.bi_common.specs.declared.format.Format.{Format}
+use Rattle.bi_common.specs.declared.format.Format.TheVariants.{Json, Lines}
 use Rattle.bi_common.specs.Offsets.{input_from}
 use Rattle.bi_report.specs.Scanning.{IsClaim, scan_promise}
 
@@ -53,6 +55,12 @@ scan_limits most = record { file = most; depth = 64 }
 abbrev pub two_lines : List ℕ
 two_lines = codes "0 legacy 73 k" ++ 10 ∷ (codes "74 fit 88 0" ++ 10 ∷ [])
 
+-- The two images in JSON.
+abbrev pub two_objects : List ℕ
+two_objects =
+    codes "{\"images\":[{\"offset\":0,\"kind\":\"legacy\",\"size\":73,\"name\":\"k\"},"
+    ++ (codes "{\"offset\":74,\"kind\":\"fit\",\"size\":88,\"images\":0}]}" ++ 10 ∷ [])
+
 abbrev pub nested_lines : List ℕ
 nested_lines = codes "0 legacy 152 k" ++ 10 ∷ (codes "64 fit 88 0" ++ 10 ∷ [])
 
@@ -75,12 +83,16 @@ pub record ClaimsAreKnown : Type 0 where
   pub empty : IsClaim [] 0
 
 -- Scanning the input within this limit gives this value and this text, and nothing else.
-pub record IsOnlyScan (most : ℕ) (found : Bool) (input text : List ℕ) : Type 0 where
-  pub is_output : (scan_promise (scan_limits most)).is_output found input text
-  pub is_text : (scan_promise (scan_limits most)).is_text input text
-  pub only : (other_found : Bool) (other : List ℕ)
-      → (scan_promise (scan_limits most)).is_output other_found input other
-      → (other_found ≡ found) × (other ≡ text)
+pub record IsOnlyScanIn (format : Format) (most : ℕ) (found : Bool) (input text : List ℕ) : Type 0
+  where
+    pub is_output : (scan_promise format (scan_limits most)).is_output found input text
+    pub is_text : (scan_promise format (scan_limits most)).is_text input text
+    pub only : (other_found : Bool) (other : List ℕ)
+        → (scan_promise format (scan_limits most)).is_output other_found input other
+        → (other_found ≡ found) × (other ≡ text)
+
+abbrev pub IsOnlyScan : (most : ℕ) → (found : Bool) → (input text : List ℕ) → Type 0
+IsOnlyScan most found input text = IsOnlyScanIn Lines most found input text
 
 -- The texts of scans, and whether an image is found: two images one after the other, one inside the
 -- other, external payloads, and no image at all.
@@ -93,11 +105,15 @@ pub record ScansAreKnown : Type 0 where
   pub magics : IsOnlyScan 64 false three_magics []
   pub none : IsOnlyScan 162 false (codes "hello") []
   pub empty : IsOnlyScan 64 false [] []
+  pub two_in_json : IsOnlyScanIn Json 162 true two_images two_objects
+  pub none_in_json : IsOnlyScanIn Json 162 false (codes "hello")
+      (codes "{\"images\":[]}" ++ 10 ∷ [])
 
 -- Scanning the input within this limit fails with this error, and with no other.
 abbrev pub FailsScanning : ℕ → List ℕ → Error → Type 0
 FailsScanning most input one =
-    (error : Error) → (scan_promise (scan_limits most)).has_error input error ↔ (error ≡ one)
+    (format : Format) (error : Error)
+    → (scan_promise format (scan_limits most)).has_error input error ↔ (error ≡ one)
 
 -- The claims of the two images are 161 together, and of those one inside the other 240: a lower
 -- limit refuses the file, and so does one lower than its length. An error is not changed.
@@ -105,7 +121,8 @@ pub record ScanErrorsAreKnown : Type 0 where
   pub longer : FailsScanning 161 two_images (Refused (too_large 161))
   pub claims : FailsScanning 239 nested_images (Refused (too_large 239))
   pub within : FailsScanning 240 nested_images OutOfMemory
-  pub is_same : (limits : Limits) (error : Error) → (scan_promise limits).wraps error ≡ error
+  pub is_same : (format : Format) (limits : Limits) (error : Error)
+      → (scan_promise format limits).wraps error ≡ error
 
 -- The image at an offset of the first file: the flattened image tree, or nothing after its end.
 pub record OffsetsAreKnown : Type 0 where

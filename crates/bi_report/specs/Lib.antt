@@ -1,4 +1,5 @@
 pub mod CheckedFiles
+pub mod SignedTrees
 pub mod Checking
 pub mod CleanFiles
 pub mod Listing
@@ -8,11 +9,14 @@ pub mod FoundConcerns
 pub mod ConcernValues
 pub mod ConcernsLeft
 pub mod CheckedImages
+pub mod PlacedEntries
 pub mod ReadListing
 pub mod Details
 pub mod Reports
 pub mod KnownChecks
 pub mod KnownConcerns
+pub mod KnownSignatures
+pub mod KnownSignedFiles
 pub mod KnownTexts
 pub mod MadeDetails
 pub mod Listed
@@ -21,6 +25,7 @@ pub mod VerifiedFiles
 pub mod ListedFiles
 pub mod ImageStarts
 pub mod Scanning
+pub mod ScannedImages
 pub mod ScanLaws
 pub mod KnownScans
 pub mod KnownOutputs

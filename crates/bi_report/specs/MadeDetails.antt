@@ -1,14 +1,15 @@
-use Rattle.std.specs.Prelude.{ℕ, List, [], ◌∷◌, Option, filter, flat_map, map}
+use Rattle.std.specs.Prelude.{ℕ, List, [], ◌∷◌, Option, Some, filter, flat_map, map}
 use Rattle.std.specs.Option.{option_map}
 use Rattle.bi_fit.specs.Judgement.{CheckedHash}
-use Rattle.bi_common.specs.HashedImages.{hashes_left}
+use Rattle.bi_base.specs.Slices.{bytes_of}
 use Rattle.bi_common.specs.Json.{Json}
 use Rattle.bi_common.specs.Lines.{Line, name_or_dash}
 use Rattle.bi_report.specs.declared.details.Detail.{Detail as MadeDetail}
 use Rattle.bi_report.specs.declared.details.Detail.TheVariants as detail
 use Rattle.bi_report.specs.Checking.{is_good}
-use Rattle.bi_report.specs.Details.{Detail, NameDetail, WordDetail, NumberDetail, DigitsDetail}
-use Rattle.bi_report.specs.Details.{NamesDetail, name_json}
+use Rattle.bi_report.specs.ConcernValues.{used_left}
+use Rattle.bi_report.specs.Details.{Detail, NameDetail, PathDetail, WordDetail, NumberDetail}
+use Rattle.bi_report.specs.Details.{DigitsDetail, NamesDetail, name_json}
 
 -- Details as the code has them.
 
@@ -28,12 +29,14 @@ abbrev pub details_in : MadeDetail → List Detail
 details_in detail.Nothing = []
 details_in (detail.Name member name) =
     NameDetail member.now (option_map (λ name. name.now) name) ∷ []
+details_in (detail.Needed member path) = NameDetail member.now (Some path.now) ∷ []
+details_in (detail.Path member names) = PathDetail member.now (bytes_of names.now) ∷ []
 details_in (detail.Word member word) = WordDetail member.now word.now ∷ []
 details_in (detail.Number member number) = NumberDetail member.now number ∷ []
 details_in (detail.Digits member value) =
     DigitsDetail member.now (option_map (λ value. value.now) value) ∷ []
 details_in (detail.Algorithms member hashes) =
-    NamesDetail member.now (good_algorithms (hashes_left hashes)) ∷ []
+    NamesDetail member.now (good_algorithms (used_left hashes)) ∷ []
 
 -- Details.
 abbrev pub made_details : List MadeDetail → List Detail

@@ -7,7 +7,8 @@ use Rattle.bi_fit.specs.declared.image.Place.{Place}
 use Rattle.bi_fit.specs.declared.image.Place.TheVariants.{Absent, Data, DataOffset, DataPosition}
 use Rattle.bi_fit.specs.Content.{FitModel, ImageModel, tree_of}
 use Rattle.bi_norm.specs.Meaning.{OfFit}
-use Rattle.bi_common.specs.PayloadBounds.{IsOverPayloadBound, payload_length}
+use Rattle.bi_common.specs.PayloadBounds.{payload_length}
+use Rattle.bi_report.specs.SignedTrees.{IsOverCheckBound}
 
 -- Where the content of a file ends, by what reading it returned, and the errors of checking it.
 
@@ -28,9 +29,9 @@ end_of_read_payloads total_size [] = total_size
 end_of_read_payloads total_size (image ∷ later) =
     max (end_at image.place image.payload) (end_of_read_payloads total_size later)
 
--- The error that checking can have: TooLarge at the limit if the payloads are over the payload
--- bound, or that memory ran out.
+-- The error that checking can have: TooLarge at the limit if the payloads or the needed paths are
+-- over their bound, or that memory ran out.
 abbrev pub IsReadCheckError : Limits → FitModel → Error → Type 0
 IsReadCheckError limits content error =
-    (error ≡ Refused (too_large limits.file) × IsOverPayloadBound limits (OfFit (tree_of content)))
+    (error ≡ Refused (too_large limits.file) × IsOverCheckBound limits (OfFit (tree_of content)))
     ⊎ (error ≡ OutOfMemory)

@@ -11,7 +11,6 @@ use Rattle.bi_norm.specs.declared.image.BootImage.{BootImage}
 use Rattle.bi_norm.specs.declared.image.BootImage.TheVariants.{Legacy, Fit}
 use Rattle.bi_common.specs.Json.{Json}
 use Rattle.bi_common.specs.Lines.{Line}
-use Rattle.bi_report.specs.declared.list.fit.PlacedPayload.{PlacedPayload}
 use Rattle.bi_report.specs.FitListing.{ConfigurationEntry, FitEntries, ImageEntry, PayloadEntry}
 use Rattle.bi_report.specs.FitListing.{fit_listing, fit_listing_object}
 use Rattle.bi_report.specs.Listing.{legacy_listing, legacy_listing_object}
@@ -22,11 +21,6 @@ use Rattle.bi_report.specs.Listing.{legacy_listing, legacy_listing_object}
 abbrev pub placed_entry : (property : List ℕ) → (offset : ℕ) → (payload : List ℕ) → PayloadEntry
 placed_entry property offset payload =
     record { property = property; offset = offset; size = length payload }
-
--- A payload, as the code has it.
-abbrev pub placed_payload_entry : PlacedPayload → PayloadEntry
-placed_payload_entry payload =
-    record { property = payload.property.now; offset = payload.offset; size = payload.size }
 
 -- The payload of an image, by where it is.
 abbrev pub read_payload : Place → Option (List ℕ) → Option PayloadEntry

@@ -4,9 +4,10 @@ use Rattle.bi_base.specs.Cells.{slice}
 use Rattle.bi_base.specs.declared.fault.Fault.{Fault}
 use Rattle.bi_base.specs.Limits.{Limits}
 use Rattle.bi_norm.specs.Meaning.{Meaning, Means}
-use Rattle.bi_common.specs.Lines.{Line}
+use Rattle.bi_common.specs.declared.format.Format.{Format}
 use Rattle.bi_common.specs.Offsets.{input_from}
-use Rattle.bi_report.specs.Scanning.{IsImageAt, IsScanFault, IsScanText, all_lines, scan_line}
+use Rattle.bi_report.specs.Scanning.{IsImageAt, IsScanFault, IsScanText, ScannedImage, all_found}
+use Rattle.bi_report.specs.Scanning.{scanned_image}
 
 -- Laws of the boot images inside a file. Each is the contract of a function in `laws`.
 
@@ -25,37 +26,40 @@ ScannedImagesAreWhole =
     → IsImageAt limits input offset extent meaning
     → IsWholeImage limits input offset extent meaning
 
--- These lines of offsets have one for each image that is accepted at an offset of an input, and no
--- other line.
-pub record HasEachImage (limits : Limits) (input : List ℕ) (lines : List (List Line)) : Type 0 where
-  pub each : (offset : ℕ) (meaning : Meaning) → Means limits (input_from offset input) meaning
-      → (extent : ℕ) × IsImageAt limits input offset extent meaning
-      × Contains lines (scan_line offset extent meaning ∷ [])
-  pub no_other : (found : List Line) → Contains lines found → found ≢ []
-      → (offset extent : ℕ) × (meaning : Meaning) × IsImageAt limits input offset extent meaning
-      × (found ≡ scan_line offset extent meaning ∷ [])
+-- Of the images that are found at offsets, there is one for each image that is accepted at an offset
+-- of an input, and no other.
+pub record HasEachImage (limits : Limits) (input : List ℕ) (found : List (List ScannedImage))
+    : Type 0
+  where
+    pub each : (offset : ℕ) (meaning : Meaning) → Means limits (input_from offset input) meaning
+        → (extent : ℕ) × IsImageAt limits input offset extent meaning
+        × Contains found (scanned_image offset extent meaning ∷ [])
+    pub no_other : (images : List ScannedImage) → Contains found images → images ≢ []
+        → (offset extent : ℕ) × (meaning : Meaning) × IsImageAt limits input offset extent meaning
+        × (images ≡ scanned_image offset extent meaning ∷ [])
 
--- The lines of a scan do.
-abbrev pub EachImageHasItsLine : Type 0
-EachImageHasItsLine =
-    (limits : Limits) (input text : List ℕ) (is : IsScanText limits input text)
-    → HasEachImage limits input is.has.lines
+-- Those of a scan are such.
+abbrev pub EachImageIsFound : Type 0
+EachImageIsFound =
+    (format : Format) (limits : Limits) (input text : List ℕ)
+    (is : IsScanText format limits input text) → HasEachImage limits input is.has.found
 
--- An input has at most one scan.
+-- An input has at most one scan in a form.
 abbrev pub OneScan : Type 0
 OneScan =
-    (limits : Limits) (input one other : List ℕ)
-    → IsScanText limits input one → IsScanText limits input other → one ≡ other
+    (format : Format) (limits : Limits) (input one other : List ℕ)
+    → IsScanText format limits input one → IsScanText format limits input other → one ≡ other
 
 -- An input with a scan has no fault.
 abbrev pub ScanHasNoFault : Type 0
 ScanHasNoFault =
-    (limits : Limits) (input text : List ℕ) (fault : Fault)
-    → IsScanText limits input text → ¬ (IsScanFault limits input fault)
+    (format : Format) (limits : Limits) (input text : List ℕ) (fault : Fault)
+    → IsScanText format limits input text → ¬ (IsScanFault limits input fault)
 
--- A scan has at most as many lines as an input of the limit's length has room for headers of legacy
--- images.
-abbrev pub LinesAreFew : Type 0
-LinesAreFew =
-    (limits : Limits) (input text : List ℕ) (is : IsScanText limits input text)
-    → 64 * length (all_lines is.has.lines) ≤ limits.file
+-- A scan finds at most as many images as an input of the limit's length has room for headers of
+-- legacy images.
+abbrev pub FoundImagesAreFew : Type 0
+FoundImagesAreFew =
+    (format : Format) (limits : Limits) (input text : List ℕ)
+    (is : IsScanText format limits input text)
+    → 64 * length (all_found is.has.found) ≤ limits.file

@@ -1,5 +1,5 @@
-use Rattle.std.specs.Prelude.{ℕ, ◌≡◌, ◌≢◌, ◌⊎◌, ◌↔◌, ◌+◌, ◌<◌, ◌≤◌, Bool, IsTrue, List, [], ◌∷◌}
-use Rattle.std.specs.Prelude.{length, codes, flat_map}
+use Rattle.std.specs.Prelude.{ℕ, ◌≡◌, ◌≢◌, ◌⊎◌, ◌↔◌, ◌+◌, ◌<◌, ◌≤◌, Bool, true, false, IsTrue}
+use Rattle.std.specs.Prelude.{List, [], ◌∷◌, length, codes, flat_map, map}
 use Rattle.std.specs.List.{AllZip, range_with_len, sum}
 use Rattle.bi_base.specs.declared.fault.Error.{Error}
 use Rattle.bi_base.specs.declared.fault.Fault.{Fault}
@@ -18,7 +18,13 @@ use Rattle.bi_legacy.specs.Faults as legacy
 use Rattle.bi_norm.specs.declared.kind.Kind.TheVariants as kind
 use Rattle.bi_norm.specs.Kinds.{BeginsAs}
 use Rattle.bi_norm.specs.Meaning.{Meaning, OfLegacy, OfFit, Means, MeansNothing}
-use Rattle.bi_common.specs.Lines.{Line, Text, Name, Decimal, text_of_lines}
+use Rattle.bi_common.specs.declared.format.Format.{Format}
+use Rattle.bi_common.specs.declared.format.Format.TheVariants as form
+use Rattle.bi_common.specs.CommonLines.{name_member}
+use Rattle.bi_common.specs.Json.{Json, Member, json_array, json_line, json_number, json_object}
+use Rattle.bi_common.specs.Json.{json_string}
+use Rattle.bi_common.specs.JsonTokens.{JsonToken, json_tokens, value_tokens}
+use Rattle.bi_common.specs.Lines.{Field, Line, Text, Name, Decimal, text_of_lines}
 use Rattle.bi_common.specs.LineTokens.{LineToken, tokens_of_lines}
 use Rattle.bi_common.specs.Offsets.{input_from}
 use Rattle.bi_report.specs.Checking.{content_end}
@@ -89,7 +95,7 @@ pub record IsOverClaims (limits : Limits) (input : List ℕ) : Type 0 where
   pub are_claims : AreClaims input claims
   pub over : limits.file < sum claims
 
--- ---- the lines
+-- ---- what is found
 
 -- How many bytes an image with a meaning has: a legacy image ends with its data, and a flattened
 -- image tree ends where the blob ends, or the payload that ends last.
@@ -106,43 +112,127 @@ pub record IsImageAt (limits : Limits) (input : List ℕ) (offset extent : ℕ) 
     pub means : Means limits (input_from offset input) meaning
     pub has_extent : HasExtent limits (input_from offset input) meaning extent
 
+-- The kind of an image that is found: a legacy image with this name, or a flattened image tree with
+-- so many images.
+pub data ScannedKind : Type 0 where
+  LegacyNamed : (name : List ℕ) → ScannedKind
+  TreeOf : (images : ℕ) → ScannedKind
+
+-- An image that is found: where it begins, how many bytes it has, and its kind.
+pub record ScannedImage : Type 0 where
+  pub offset : ℕ
+  pub extent : ℕ
+  pub kind : ScannedKind
+
+-- The kind of an image with a meaning.
+abbrev pub scanned_kind : Meaning → ScannedKind
+scanned_kind (OfLegacy image) = LegacyNamed image.name
+scanned_kind (OfFit tree) = TreeOf (length tree.payloads)
+
+-- The image with this meaning and this extent at an offset.
+abbrev pub scanned_image : (offset extent : ℕ) → Meaning → ScannedImage
+scanned_image offset extent meaning =
+    record { offset = offset; extent = extent; kind = scanned_kind meaning }
+
+-- What a scan finds at an offset: the image that is accepted there, or nothing.
+pub data IsFoundAt (limits : Limits) (input : List ℕ) (offset : ℕ) (found : List ScannedImage)
+    : Type 0
+  where
+    WithImage : (extent : ℕ) (meaning : Meaning) → IsImageAt limits input offset extent meaning
+        → found ≡ scanned_image offset extent meaning ∷ [] → IsFoundAt limits input offset found
+    WithoutImage : MeansNothing limits (input_from offset input) → found ≡ []
+        → IsFoundAt limits input offset found
+
+-- The images at all offsets.
+abbrev pub all_found : (by_offset : List (List ScannedImage)) → List ScannedImage
+all_found by_offset = flat_map (λ found. found) by_offset
+
+-- Whether there are any.
+abbrev pub has_images : List ScannedImage → Bool
+has_images [] = false
+has_images (image ∷ later) = true
+
+-- ---- their texts
+
+-- The word for a kind, and what follows the size in a line and in JSON: the name, or the number of
+-- images.
+abbrev pub scanned_kind_word : ScannedKind → List ℕ
+scanned_kind_word (LegacyNamed name) = codes "legacy"
+scanned_kind_word (TreeOf images) = codes "fit"
+
+abbrev pub kind_field : ScannedKind → Field
+kind_field (LegacyNamed name) = Name name
+kind_field (TreeOf images) = Decimal images
+
+abbrev pub kind_member : ScannedKind → Member
+kind_member (LegacyNamed name) = name_member (codes "name") name
+kind_member (TreeOf images) = (codes "images", json_number images)
+
 -- The line of an image: where it begins, its kind, how many bytes it has, and its name or the
 -- number of its images.
-abbrev pub scan_line : (offset extent : ℕ) → Meaning → Line
-scan_line offset extent (OfLegacy image) =
-    Decimal offset ∷ Text (codes "legacy") ∷ Decimal extent ∷ Name image.name ∷ []
-scan_line offset extent (OfFit tree) =
-    Decimal offset ∷ Text (codes "fit") ∷ Decimal extent ∷ Decimal (length tree.payloads) ∷ []
+abbrev pub scan_line : ScannedImage → Line
+scan_line image =
+    Decimal image.offset ∷ Text (scanned_kind_word image.kind) ∷ Decimal image.extent
+    ∷ kind_field image.kind ∷ []
 
--- What a scan writes for an offset: the line of the image that is accepted there, or nothing.
-pub data IsLineAt (limits : Limits) (input : List ℕ) (offset : ℕ) (lines : List Line) : Type 0 where
-  WithImage : (extent : ℕ) (meaning : Meaning) → IsImageAt limits input offset extent meaning
-      → lines ≡ scan_line offset extent meaning ∷ [] → IsLineAt limits input offset lines
-  WithoutImage : MeansNothing limits (input_from offset input) → lines ≡ []
-      → IsLineAt limits input offset lines
+-- The same in JSON.
+abbrev pub scanned_object : ScannedImage → Json
+scanned_object image =
+    json_object
+    ((codes "offset", json_number image.offset)
+    ∷ (codes "kind", json_string (scanned_kind_word image.kind))
+    ∷ (codes "size", json_number image.extent)
+    ∷ kind_member image.kind ∷ [])
 
--- The lines of all offsets.
-abbrev pub all_lines : (by_offset : List (List Line)) → List Line
-all_lines by_offset = flat_map (λ lines. lines) by_offset
+-- The images that are found, in JSON.
+abbrev pub scan_object : List ScannedImage → Json
+scan_object images =
+    json_object ((codes "images", json_array (map scanned_object images)) ∷ [])
 
--- The text is what a scan writes for each offset, in order.
-pub record HasLines (limits : Limits) (input text : List ℕ) : Type 0 where
-  pub lines : List (List Line)
-  pub are_lines : AllZip (IsLineAt limits input) (input_offsets input) lines
-  pub is_text : text ≡ text_of_lines (all_lines lines)
+-- The text of a scan that finds these images, in a form.
+abbrev pub scan_text : Format → List ScannedImage → List ℕ
+scan_text form.Lines images = text_of_lines (map scan_line images)
+scan_text form.Json images = json_line (scan_object images)
 
--- What a scan writes for an offset was put to a pen,
-abbrev pub PutsLineAt : {S : Type 0} → (S → List LineToken → S → Type 0) → Limits
-    → (input : List ℕ) → (offset : ℕ) → (old new : S) → Type 0
-PutsLineAt puts limits input offset old new =
-    (lines : List Line) × IsLineAt limits input offset lines × puts old (tokens_of_lines lines) new
+-- The text is that of the images at each offset, in order.
+pub record HasFound (format : Format) (limits : Limits) (input text : List ℕ) : Type 0 where
+  pub found : List (List ScannedImage)
+  pub are_found : AllZip (IsFoundAt limits input) (input_offsets input) found
+  pub is_text : text ≡ scan_text format (all_found found)
 
--- or for each of the first offsets, in order.
-abbrev pub PutsFirstLines : {S : Type 0} → (S → List LineToken → S → Type 0) → Limits
-    → (input : List ℕ) → (count : ℕ) → (old new : S) → Type 0
-PutsFirstLines puts limits input count old new =
-    (lines : List (List Line)) × AllZip (IsLineAt limits input) (range_with_len 0 count) lines
-    × puts old (tokens_of_lines (all_lines lines)) new
+-- What a scan finds at an offset was put to a pen by its tokens, and this is whether it finds
+-- anything,
+abbrev pub PutsFoundAt : {S T : Type 0} → (S → List T → S → Type 0) → (List ScannedImage → List T)
+    → Limits → (input : List ℕ) → (offset : ℕ) → (any : Bool) → (old new : S) → Type 0
+PutsFoundAt puts tokens limits input offset any old new =
+    (found : List ScannedImage) × IsFoundAt limits input offset found × puts old (tokens found) new
+    × (any ≡ has_images found)
+
+-- or what it finds at each of the first offsets, in order.
+abbrev pub PutsFirstFound : {S T : Type 0} → (S → List T → S → Type 0)
+    → (List ScannedImage → List T) → Limits → (input : List ℕ) → (count : ℕ) → (any : Bool)
+    → (old new : S) → Type 0
+PutsFirstFound puts tokens limits input count any old new =
+    (found : List (List ScannedImage))
+    × AllZip (IsFoundAt limits input) (range_with_len 0 count) found
+    × puts old (tokens (all_found found)) new × (any ≡ has_images (all_found found))
+
+-- The tokens of their lines, and of their objects.
+abbrev pub scan_line_tokens : List ScannedImage → List LineToken
+scan_line_tokens images = tokens_of_lines (map scan_line images)
+
+abbrev pub scanned_tokens : List ScannedImage → List JsonToken
+scanned_tokens images = value_tokens (map scanned_object images)
+
+-- Those of the object of all of them.
+abbrev pub scan_object_tokens : List ScannedImage → List JsonToken
+scan_object_tokens images = json_tokens (scan_object images)
+
+-- The text of what a scan finds was put to a pen, and this is whether it finds anything.
+abbrev pub PutsScanText : {S : Type 0} → (S → List ℕ → S → Type 0) → Format → Limits
+    → (input : List ℕ) → (any : Bool) → (old new : S) → Type 0
+PutsScanText puts format limits input any old new =
+    PutsFirstFound puts (scan_text format) limits input (length input) any old new
 
 -- ---- scanning
 
@@ -151,15 +241,17 @@ pub record CanBeScanned (limits : Limits) (input : List ℕ) : Type 0 where
   pub short : length input ≤ limits.file
   pub within : IsWithinClaims limits input
 
--- The text is that of a scan of an input.
-pub record IsScanText (limits : Limits) (input text : List ℕ) : Type 0 where
+-- The text is that of a scan of an input, in a form.
+pub record IsScanText (format : Format) (limits : Limits) (input text : List ℕ) : Type 0 where
   pub can : CanBeScanned limits input
-  pub has : HasLines limits input text
+  pub has : HasFound format limits input text
 
--- So it is, and this is whether there is a line.
-pub record IsScanOutput (limits : Limits) (found : Bool) (input text : List ℕ) : Type 0 where
-  pub is_scan : IsScanText limits input text
-  pub is_found : IsTrue found ↔ (text ≢ [])
+-- So it is, and this is whether an image is found.
+pub record IsScanOutput (format : Format) (limits : Limits) (found : Bool) (input text : List ℕ)
+    : Type 0
+  where
+    pub is_scan : IsScanText format limits input text
+    pub is_found : IsTrue found ↔ (all_found is_scan.has.found ≢ [])
 
 -- The fault of an input: TooLarge at the limit, if the input is longer, or if its images claim
 -- more.
@@ -172,16 +264,16 @@ abbrev pub IsScanError : Limits → (input : List ℕ) → Error → Type 0
 IsScanError limits input = FailsWith (IsScanFault limits input) (CanBeScanned limits input)
 
 -- What scanning promises as a command.
-abbrev pub scan_promise : Limits → CommandPromise Bool Error
-scan_promise limits = record {
-  is_output = λ found input text. IsScanOutput limits found input text;
-  is_text = IsScanText limits;
+abbrev pub scan_promise : Format → Limits → CommandPromise Bool Error
+scan_promise format limits = record {
+  is_output = λ found input text. IsScanOutput format limits found input text;
+  is_text = IsScanText format limits;
   has_error = IsScanError limits;
   wraps = λ error. error;
 }
 
-pub scan_laws : (limits : Limits) → PromiseLaws (scan_promise limits)
-scan_laws limits = record {
+pub scan_laws : (format : Format) (limits : Limits) → PromiseLaws (scan_promise format limits)
+scan_laws format limits = record {
   is_text = λ found input text is. is.is_scan;
   wraps_once = λ a b same. same;
   no_read_error = λ input is. is;

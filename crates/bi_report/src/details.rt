@@ -3,19 +3,19 @@
 
 ghost use Rattle.std.specs.Prelude.{◌≡◌, [], ◌∷◌, filter, flat_map, map};
 ghost use Rattle.bi_fit.specs.JudgementCalls.{checked_hash_of};
-ghost use Rattle.bi_common.specs.HashedImages.{hashes_left};
 ghost use Rattle.bi_common.specs.Json.{json_array};
 ghost use Rattle.bi_common.specs.JsonTokens.{json_tokens, member_tokens, value_tokens};
 ghost use Rattle.bi_common.specs.LineTokens.{line_tokens, one_field};
 ghost use Rattle.bi_common.specs.VerdictCounts.{is_verdict};
+ghost use Rattle.bi_report.specs.ConcernValues.{used_left};
 ghost use Rattle.bi_report.specs.Details.{detail_member, detail_words, details_line};
 ghost use Rattle.bi_report.specs.Details.{details_object};
 ghost use Rattle.bi_report.specs.MadeDetails.{algorithm_strings, algorithm_words};
 ghost use Rattle.bi_report.specs.MadeDetails.{details_in, made_details};
 ghost use Rattle.bi_hash.specs.declared.verdicts.Verdict.TheVariants.{Good};
 
+use crate::used_hashes::UsedHashes;
 use bi_common::fields::{Field, digits_or_none, name_or_none};
-use bi_common::hash_nodes::HashNodes;
 use bi_common::json_writer::{
     JsonPen, JsonToken, JsonValue, digits_or_null, put_member, put_value, shown_or_null,
 };
@@ -30,6 +30,10 @@ pub(crate) enum Detail<'a, 'b> {
     Nothing,
     /// A name. If it is not there, the word is `-` and the value is `null`.
     Name(&'static str, Option<&'a [u8]>),
+    /// The path of a node that a signature must cover, as bytes.
+    Needed(&'static str, &'b [u8]),
+    /// The path of a node: the names of the nodes on the way to it, without the root.
+    Path(&'static str, &'b [&'a [u8]]),
     /// A word.
     Word(&'static str, &'static str),
     /// A number.
@@ -37,7 +41,7 @@ pub(crate) enum Detail<'a, 'b> {
     /// The digits of a value. If it is not there, the word is `-` and the value is `null`.
     Digits(&'static str, Option<&'a [u8]>),
     /// The algorithms of the Good ones of these hash nodes: a word for each, and an array.
-    Algorithms(&'static str, HashNodes<'a, 'b>),
+    Algorithms(&'static str, UsedHashes<'a, 'b>),
 }
 
 /// Puts the line of details.
@@ -66,6 +70,8 @@ fn put_detail_words<L: LinePen>(detail: Detail, pen: &mut L)
     match detail {
         Detail::Nothing => {}
         Detail::Name(_, name) => pen.put_word(name_or_none(name)),
+        Detail::Needed(_, path) => pen.put_word(Field::Shown(path)),
+        Detail::Path(_, names) => pen.put_word(Field::Path(names)),
         Detail::Word(_, word) => pen.put_word(Field::Text(word.as_bytes())),
         Detail::Number(_, number) => pen.put_word(Field::Decimal(number)),
         Detail::Digits(_, value) => pen.put_word(digits_or_none(value)),
@@ -74,8 +80,8 @@ fn put_detail_words<L: LinePen>(detail: Detail, pen: &mut L)
 }
 
 /// Puts the algorithms of the Good ones of these hash nodes.
-fn put_algorithms<L: LinePen>(hashes: HashNodes, pen: &mut L)
-    ensures { L.puts pen.old (flat_map one_field (algorithm_words (hashes_left hashes.entry)))
+fn put_algorithms<L: LinePen>(hashes: UsedHashes, pen: &mut L)
+    ensures { L.puts pen.old (flat_map one_field (algorithm_words (used_left hashes.entry)))
         pen.new }
 {
     for hash in hashes {
@@ -120,6 +126,12 @@ fn put_detail_member<J: JsonPen>(detail: Detail, json: &mut J)
     match detail {
         Detail::Nothing => {}
         Detail::Name(member, name) => put_member((member, shown_or_null(name)), json),
+        Detail::Needed(member, path) => {
+            put_member((member, JsonValue::String(Field::Shown(path))), json);
+        }
+        Detail::Path(member, names) => {
+            put_member((member, JsonValue::String(Field::Path(names))), json);
+        }
         Detail::Word(member, word) => {
             put_member(
                 (member, JsonValue::String(Field::Text(word.as_bytes()))),
@@ -136,9 +148,9 @@ fn put_detail_member<J: JsonPen>(detail: Detail, json: &mut J)
 }
 
 /// Puts the array of the algorithms of the Good ones of these hash nodes.
-fn put_algorithm_array<J: JsonPen>(hashes: HashNodes, json: &mut J)
+fn put_algorithm_array<J: JsonPen>(hashes: UsedHashes, json: &mut J)
     ensures { J.puts json.old (json_tokens
-        (json_array (algorithm_strings (hashes_left hashes.entry)))) json.new }
+        (json_array (algorithm_strings (used_left hashes.entry)))) json.new }
 {
     json.put(JsonToken::BeginArray);
     put_algorithm_strings(hashes, json);
@@ -146,8 +158,8 @@ fn put_algorithm_array<J: JsonPen>(hashes: HashNodes, json: &mut J)
 }
 
 /// Puts the algorithms of the Good ones of these hash nodes as strings.
-fn put_algorithm_strings<J: JsonPen>(hashes: HashNodes, json: &mut J)
-    ensures { J.puts json.old (value_tokens (algorithm_strings (hashes_left hashes.entry)))
+fn put_algorithm_strings<J: JsonPen>(hashes: UsedHashes, json: &mut J)
+    ensures { J.puts json.old (value_tokens (algorithm_strings (used_left hashes.entry)))
         json.new }
 {
     for hash in hashes {

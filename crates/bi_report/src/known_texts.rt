@@ -5,12 +5,15 @@
 ghost use Rattle.bi_report.specs.KnownChecks.{BuiltCheckIsKnown, CheckErrorsAreKnown};
 ghost use Rattle.bi_report.specs.KnownChecks.{PayloadBoundIsKnown, ProtectionIsKnown};
 ghost use Rattle.bi_report.specs.KnownConcerns.{ConcernsAreKnown, StrongAlgorithmsAreKnown};
+ghost use Rattle.bi_report.specs.KnownConcerns.{SkippedHashesAreKnown};
 ghost use Rattle.bi_report.specs.KnownConcerns.{TrailingBytesAreKnown, LegacyConcernsAreKnown};
 ghost use Rattle.bi_report.specs.KnownConcerns.{AllowedKindsAreKnown};
 ghost use Rattle.bi_report.specs.KnownOutputs.{VerifyOutputsAreKnown, CheckOutputsAreKnown};
 ghost use Rattle.bi_report.specs.KnownOutputs.{JsonListingsAreKnown};
 ghost use Rattle.bi_report.specs.KnownScans.{ClaimsAreKnown, OffsetsAreKnown, ScansAreKnown};
 ghost use Rattle.bi_report.specs.KnownScans.{ScanErrorsAreKnown};
+ghost use Rattle.bi_report.specs.KnownSignatures.{SignatureConcernsAreKnown};
+ghost use Rattle.bi_report.specs.KnownSignedFiles.{SignedFileIsKnown};
 ghost use Rattle.bi_report.specs.KnownTexts.{ReportsAreKnown, LegacyListingsAreKnown};
 ghost use Rattle.bi_report.specs.KnownTexts.{FitListingIsKnown, EachSourceIsListed};
 ghost use Rattle.bi_report.specs.KnownTexts.{ConfigurationLinesAreKnown};
@@ -54,6 +57,24 @@ pub fn strong_algorithms_are_known()
     ensures { StrongAlgorithmsAreKnown }
 {}
 
+/// A hash node that U-Boot skips has a line, and protects nothing. Only a property of four bytes
+/// that are not all zero makes U-Boot skip it.
+pub fn skipped_hashes_are_known()
+    ensures { SkippedHashesAreKnown }
+{}
+
+/// The concerns about signatures have known lines, and known JSON: about a signed node and what it
+/// does not cover, a configuration without one, and unit addresses.
+pub fn signature_concerns_are_known()
+    ensures { SignatureConcernsAreKnown }
+{}
+
+/// The concerns about a signed file of three images have known lines: about an image that the
+/// signature does not cover, and about variants of the file.
+pub fn signed_file_is_known()
+    ensures { SignedFileIsKnown }
+{}
+
 /// The bytes after the payload that ends last, here that of the first image, are those that have a
 /// line.
 pub fn trailing_bytes_are_known()
@@ -68,7 +89,8 @@ pub fn legacy_concerns_are_known()
     bi_legacy::laws::one_meaning();
 }
 
-/// Each kind of concerns is allowed by its own name.
+/// Each kind of concerns is allowed by its own name, and a lack of signatures is allowed unless it
+/// is asked about.
 pub fn allowed_kinds_are_known()
     ensures { AllowedKindsAreKnown }
 {}

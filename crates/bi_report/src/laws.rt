@@ -4,7 +4,8 @@
 ghost use Rattle.bi_report.specs.CleanFiles.{BuiltIsClean, BuiltTextIsClean, CheckTellsClean};
 ghost use Rattle.bi_report.specs.CleanFiles.{EmptyIsClean};
 ghost use Rattle.bi_report.specs.JsonLaws.{ConcernsAreJson, ListingsAreJson, ReportsAreJson};
-ghost use Rattle.bi_report.specs.ScanLaws.{EachImageHasItsLine, LinesAreFew, OneScan};
+ghost use Rattle.bi_report.specs.JsonLaws.{ScansAreJson};
+ghost use Rattle.bi_report.specs.ScanLaws.{EachImageIsFound, FoundImagesAreFew, OneScan};
 ghost use Rattle.bi_report.specs.ScanLaws.{ScanHasNoFault, ScannedImagesAreWhole};
 
 /// Checking a boot image writes nothing if and only if the image is clean: if everything in it is
@@ -19,8 +20,9 @@ pub fn check_tells_clean()
     ensures { CheckTellsClean }
 {}
 
-/// A built image tree is clean if and only if it has no images, or each of them has a hash node and
-/// one of a strong algorithm, but for what is allowed.
+/// A built image tree, which has no signature, is clean if and only if none is asked for, and it
+/// has no images, or each of them has a hash node and one of a strong algorithm, but for what is
+/// allowed.
 pub fn built_is_clean()
     ensures { BuiltIsClean }
 {}
@@ -28,7 +30,7 @@ pub fn built_is_clean()
 /// The text of such a tree, in any form, is clean if and only if the tree is, and checking it has
 /// no error but `OutOfMemory`, within limits that hold the text and four open nodes. So nothing
 /// follows its payloads, and together they are within the limit. If one of the algorithms is
-/// strong, checking it writes nothing.
+/// strong and no signature is asked for, checking it writes nothing.
 pub fn built_text_is_clean()
     ensures { BuiltTextIsClean }
 {}
@@ -39,15 +41,15 @@ pub fn scanned_images_are_whole()
     ensures { ScannedImagesAreWhole }
 {}
 
-/// A scan of a file has a line for each boot image that is accepted at an offset of the file, and
-/// no other line.
-pub fn each_image_has_its_line()
-    ensures { EachImageHasItsLine }
+/// A scan of a file finds each boot image that is accepted at an offset of the file, and nothing
+/// else.
+pub fn each_image_is_found()
+    ensures { EachImageIsFound }
 {
     bi_norm::laws::one_meaning();
 }
 
-/// A file has at most one scan within limits.
+/// A file has at most one scan within limits, in each form.
 pub fn one_scan()
     ensures { OneScan }
 {
@@ -59,10 +61,10 @@ pub fn scan_has_no_fault()
     ensures { ScanHasNoFault }
 {}
 
-/// A scan has at most one line for each 64 bytes of the limit: so many bytes each boot image claims
-/// at least.
-pub fn lines_are_few()
-    ensures { LinesAreFew }
+/// A scan finds at most one boot image for each 64 bytes of the limit: so many bytes each of them
+/// claims at least.
+pub fn found_images_are_few()
+    ensures { FoundImagesAreFew }
 {}
 
 /// A listing in JSON is one line of JSON.
@@ -73,6 +75,11 @@ pub fn listings_are_json()
 /// A report of `verify` in JSON is one line of JSON.
 pub fn reports_are_json()
     ensures { ReportsAreJson }
+{}
+
+/// A scan in JSON is one line of JSON.
+pub fn scans_are_json()
+    ensures { ScansAreJson }
 {}
 
 /// The concerns that `check` writes in JSON are one line of JSON.

@@ -8,4 +8,5 @@ pub mod laws;
 pub mod list;
 mod listed;
 pub mod scan;
+pub mod used_hashes;
 pub mod verify;

@@ -3,8 +3,12 @@ pub mod TableFacts
 pub mod ShownCells
 pub mod ShownRows
 pub mod ShownPages
+pub mod ShownSignatures
+pub mod ShownObjects
+pub mod SignedObjects
 pub mod LayoutFacts
 pub mod LayoutsOfFiles
 pub mod PageFacts
+pub mod ObjectFacts
 pub mod ShownTrees
 pub mod TreePageFacts

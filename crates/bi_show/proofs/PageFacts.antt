@@ -1,17 +1,20 @@
-use Rattle.std.proofs.Common.{◌≡◌, ℕ, ◌+◌, ◌/◌, ◌%◌, ◌<◌, ◌≤◌, zero, suc, List, [], ◌∷◌, ◌++◌, codes, get_or, length, sum, take, lit≤, refl}
+use Rattle.std.proofs.Common.{◌≡◌, ℕ, ◌+◌, ◌/◌, ◌%◌, ◌<◌, ◌≤◌, zero, suc, List, [], ◌∷◌, ◌++◌, None, codes, get_or, length, sum, take}
+use Rattle.std.proofs.Common.{inl, inr, lit≤, refl}
 use Rattle.std.proofs.Common.{arith, rules}
 use Rattle.std.specs.Fmt.{digits}
 use Rattle.std.specs.List.{AllAdjacentBelow}
 use Rattle.std.proofs.lemmas.List.Sorted.{IsPermutation-refl, IsNonDecreasingBy-from_all_adjacent}
 use Rattle.bi_base.specs.Cells.{cell}
-use Rattle.bi_base.specs.Limits.{widest}
+use Rattle.bi_base.specs.Limits.{Limits, widest}
 use Rattle.bi_legacy.specs.File.{header}
 use Rattle.bi_legacy.specs.KnownFiles.{kernel_file_with_rest}
 use Rattle.bi_legacy.specs.KnownImages.{kernel_image, multi_file, multi_image}
 use Rattle.bi_legacy.specs.Laws.{OneLegacyMeaning}
 use Rattle.bi_norm.specs.Meaning.{OfLegacy}
 use Rattle.bi_norm.proofs.ComparisonFacts.{kernel_with_rest_means, multi_means, only_image}
-use Rattle.bi_report.specs.Checking.{OfLegacyImage, TrailingBytes}
+use Rattle.bi_report.specs.Checking.{OfLegacyImage, TrailingBytes, Unsigned}
+use Rattle.bi_legacy.specs.Meaning.{LegacyImage}
+use Rattle.bi_report.specs.SignedTrees.{IsOverCheckBound}
 use Rattle.bi_report.proofs.LegacyConcernFacts.{is_read, known_model}
 use Rattle.bi_show.specs.declared.show.layout.LayoutRegion.{LayoutRegion}
 use Rattle.bi_show.specs.Dates.{IsTimeText, clock_text, date_text, days_of_years, month_lengths}
@@ -74,14 +77,19 @@ multi_rise (suc (suc (suc k))) d within = omega (arith, within)
 
 -- ---- pages
 
+-- A legacy image is within the bounds of checking.
+pub legacy_not_over : (limits : Limits) (image : LegacyImage) → ¬ (IsOverCheckBound limits (OfLegacy image))
+legacy_not_over limits image (inl over) = over
+legacy_not_over limits image (inr over) = over
+
 module _ (one_legacy : OneLegacyMeaning) where
   kernel_concerns : AreConcernLines widest kernel_file_with_rest (codes "trailing 7\n")
   unfolding header cell digits
   kernel_concerns = record {
     meaning = OfLegacy kernel_image;
     means = only_image one_legacy kernel_file_with_rest kernel_image kernel_with_rest_means;
-    within = λ over. over;
-    concerns = TrailingBytes 7 ∷ [];
+    within = legacy_not_over widest kernel_image;
+    concerns = Unsigned None ∷ TrailingBytes 7 ∷ [];
     are_concerns =
         OfLegacyImage (known_model one_legacy kernel_file_with_rest kernel_image kernel_with_rest_means 7 refl)
         (is_read one_legacy kernel_file_with_rest kernel_image kernel_with_rest_means 7 refl) refl;
@@ -93,8 +101,8 @@ module _ (one_legacy : OneLegacyMeaning) where
   multi_concerns = record {
     meaning = OfLegacy multi_image;
     means = only_image one_legacy multi_file multi_image multi_means;
-    within = λ over. over;
-    concerns = [];
+    within = legacy_not_over widest multi_image;
+    concerns = Unsigned None ∷ [];
     are_concerns =
         OfLegacyImage (known_model one_legacy multi_file multi_image multi_means 0 refl)
         (is_read one_legacy multi_file multi_image multi_means 0 refl) refl;

@@ -13,7 +13,7 @@ use Rattle.bi_fit.specs.Payloads.{PayloadSource, NoSource, Data, DataOffset, Dat
 use Rattle.bi_fit.specs.Reading.{IsReadFit}
 use Rattle.bi_common.specs.declared.format.Format.TheVariants.{Lines}
 use Rattle.bi_report.specs.CheckedFiles.{IsCheckError, concerns_text}
-use Rattle.bi_report.specs.Checking.{nothing_allowed}
+use Rattle.bi_report.specs.Checking.{allowed_by_default}
 use Rattle.bi_report.specs.FoundConcerns.{FoundConcern, HasConcerns, concerns_in}
 use Rattle.bi_report.specs.ReadChecking.{IsReadCheckError}
 use Rattle.bi_report.proofs.CheckedFiles.{check_error_of_tree, text_checks}
@@ -27,9 +27,9 @@ use Rattle.bi_show.specs.ShownFiles.{AreConcernLines}
 
 -- The text of the concerns about a file is that of its lines.
 pub lines_of_concerns : (limits : Limits) (file : List ℕ) (found all : List FoundConcern) → found ≡ all →
-    HasConcerns limits file all → AreConcernLines limits file (concerns_text Lines nothing_allowed (concerns_in found))
+    HasConcerns limits file all → AreConcernLines limits file (concerns_text Lines allowed_by_default (concerns_in found))
 lines_of_concerns limits file found all same has =
-    text_checks Lines nothing_allowed limits file found (subst (HasConcerns limits file) (sym same) has)
+    text_checks Lines allowed_by_default limits file found (subst (HasConcerns limits file) (sym same) has)
 
 -- The offset of a payload depends on its source.
 pub offset_found : (file : List ℕ) (source : PayloadSource) (place : Place) → place ≡ place_of file source →
@@ -60,7 +60,8 @@ pub tables_of_file : (limits : Limits) (file : List ℕ) (content : FitModel) (i
     ∷ reservations_table content.blob.reservations
     ∷ (image_heading ∷ read_image_rows (siblings (file_images content.blob)) content.images)
     ∷ configurations_table (siblings (file_configurations content.blob))
-    ∷ signatures_table (siblings (file_images content.blob)) (siblings (file_configurations content.blob)) ∷ regions ∷ []
+    ∷ signatures_table content.blob.file (root_of content.blob) (tree_of content) (siblings (file_images content.blob))
+    (siblings (file_configurations content.blob)) ∷ regions ∷ []
     ≡ fit_tables file is.means.is_file.root (tree_of content) time regions
 tables_of_file limits file content is time regions = search (rules, rows_of_images, images_of_file)
 

@@ -14,7 +14,8 @@ use Rattle.bi_hash.specs.Algos.{find_algorithm}
 use Rattle.bi_hash.specs.Digests.{digest_of}
 use Rattle.bi_hash.specs.Verdicts.{verdict_of}
 use Rattle.bi_hash.specs.declared.verdicts.Verdict.TheVariants.{Good}
-use Rattle.bi_report.specs.Checking.{Concern, WeakHash, tree_concerns}
+use Rattle.bi_report.specs.Checking.{Concern, Unsigned, WeakHash, tree_concerns}
+use Rattle.bi_report.specs.SignedTrees.{coverage_in}
 use Rattle.bi_show.specs.KnownTrees.{shown_file, shown_tree}
 
 -- What the file of a small flattened image tree means.
@@ -59,8 +60,8 @@ shown_hash = record {
 }
 
 abbrev pub shown_concerns : List Concern
-shown_concerns = WeakHash (codes "a") (shown_hash ∷ []) ∷ []
+shown_concerns = WeakHash (codes "a") (shown_hash ∷ []) ∷ Unsigned (Some (codes "c")) ∷ []
 
-pub concerns_of_tree : tree_concerns shown_meaning ≡ shown_concerns
+pub concerns_of_tree : tree_concerns shown_meaning (coverage_in shown_file file_root shown_meaning) ≡ shown_concerns
 unfolding text_before_nul verdict_of find_algorithm digest_of cell crc32 crc_after low_bits
 concerns_of_tree = search (rules, find-properties)

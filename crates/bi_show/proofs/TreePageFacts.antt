@@ -1,11 +1,12 @@
-use Rattle.std.proofs.Common.{zero, suc, [], ◌∷◌, ◌++◌, codes, lit≤, ap, sym, refl, arith}
+use Rattle.std.proofs.Common.{◌≡◌, zero, suc, [], ◌∷◌, ◌++◌, inl, inr, codes, lit≤, ap, sym, refl, arith}
 use Rattle.std.specs.Fmt.{digits}
 use Rattle.bi_base.specs.Cells.{cell, cell8, u32_at}
 use Rattle.bi_base.specs.Crc.{crc32, crc_after, low_bits}
 use Rattle.bi_base.specs.Limits.{widest}
 use Rattle.bi_base.specs.Strings.{text_before_nul}
 use Rattle.bi_blob.specs.Layout.{text_of_events, text_of_blocks}
-use Rattle.bi_fit.specs.Names.{default_name}
+use Rattle.bi_coverage.specs.Signatures.{all_needed_length}
+use Rattle.bi_fit.specs.Names.{default_name, value_name}
 use Rattle.bi_fit.proofs.JudgementFacts.{find-properties}
 use Rattle.bi_hash.specs.Algos.{find_algorithm}
 use Rattle.bi_hash.specs.Digests.{digest_of}
@@ -15,9 +16,10 @@ use Rattle.bi_norm.specs.Comparing.{MeansOnly}
 use Rattle.bi_norm.specs.Meaning.{OfFit}
 use Rattle.bi_norm.proofs.KindLaws.{one_file_meaning}
 use Rattle.bi_report.specs.Checking.{AreConcerns, OfImageTree as OfTreeConcerns}
+use Rattle.bi_report.specs.SignedTrees.{IsOverCheckBound}
 use Rattle.bi_show.specs.FitPages.{fit_regions}
 use Rattle.bi_show.specs.KnownTreePages.{TreePagesAreKnown}
-use Rattle.bi_show.specs.KnownTrees.{shown_default, shown_file}
+use Rattle.bi_show.specs.KnownTrees.{shown_default, shown_file, shown_signature}
 use Rattle.bi_show.specs.Layouts.{layout_table}
 use Rattle.bi_show.specs.ShownFiles.{AreConcernLines, OfImageTree}
 use Rattle.bi_show.proofs.PageFacts.{Rise, by_offset, first_time}
@@ -38,6 +40,14 @@ regions_rise (suc (suc zero)) d within = lit≤ tt
 regions_rise (suc (suc (suc zero))) d within = lit≤ tt
 regions_rise (suc (suc (suc (suc k)))) d within = omega (arith, within)
 
+-- Its payload is within the bound, and it has no signed node.
+nothing_needed : all_needed_length shown_meaning ≡ 0
+nothing_needed = rw (find-properties shown_signature value_name) refl
+
+not_over : ¬ (IsOverCheckBound widest (OfFit shown_meaning))
+not_over (inl over) = omega (arith, over)
+not_over (inr over) = omega (arith, over, nothing_needed)
+
 module _ (one_legacy : OneLegacyMeaning) where
   only_meaning : MeansOnly widest shown_file (OfFit shown_meaning)
   only_meaning = record {
@@ -49,7 +59,7 @@ module _ (one_legacy : OneLegacyMeaning) where
   concern_lines = record {
     meaning = OfFit shown_meaning;
     means = only_meaning;
-    within = λ over. omega (arith, over);
+    within = not_over;
     concerns = shown_concerns;
     are_concerns = are_concerns;
     is_text = refl;

@@ -1,20 +1,26 @@
 use Rattle.std.specs.Prelude.{ℕ, Bool, List, [], ◌∷◌, ◌++◌, Option, codes, filter, flat_map, length}
-use Rattle.std.specs.Prelude.{map, is_some, option_map}
+use Rattle.std.specs.Prelude.{map, is_some, option_map, if◌then◌else◌}
 use Rattle.std.specs.Fmt.{decimal}
 use Rattle.std.specs.List.{list_any}
 use Rattle.bi_blob.specs.Blob.{Reservation}
 use Rattle.bi_blob.specs.Lookups.{Sibling, siblings, value_named}
 use Rattle.bi_blob.specs.Tree.{FileNode, Root, properties_of}
 use Rattle.bi_fit.specs.declared.key.Key.{Key}
-use Rattle.bi_fit.specs.HashNodes.{file_hashes, file_signatures}
+use Rattle.bi_coverage.specs.Coverage.{SignatureConcern}
+use Rattle.bi_coverage.specs.Signatures.{has_bytes}
+use Rattle.bi_coverage.specs.Values.{meaning_of_sibling}
+use Rattle.bi_fit.specs.HashNodes.{file_signatures}
 use Rattle.bi_fit.specs.ImageTree.{ImageTree, children_of, image_nodes, nodes_or_none}
 use Rattle.bi_fit.specs.Judgement.{default_of}
 use Rattle.bi_fit.specs.Names.{all_keys, configurations_name, images_name, key_name, timestamp_name}
+use Rattle.bi_fit.specs.Names.{value_name}
 use Rattle.bi_fit.specs.Payloads.{source_of, payload_place}
+use Rattle.bi_common.specs.HashedImages.{found_hashes}
 use Rattle.bi_common.specs.Shown.{path}
 use Rattle.bi_common.specs.Shown.{hexadecimal_64}
 use Rattle.bi_common.specs.Shown.{shown_or_none}
 use Rattle.bi_common.specs.Shown.{shown_text}
+use Rattle.bi_report.specs.SignedTrees.{signature_coverage_in}
 use Rattle.bi_show.specs.declared.show.cells.CellForm.{CellForm}
 use Rattle.bi_show.specs.declared.show.cells.CellForm.TheVariants.{Value, Address, Names}
 use Rattle.bi_show.specs.declared.show.layout.LayoutRegion.{LayoutRegion}
@@ -74,7 +80,7 @@ image_row entry payload offset =
     ∷ number_cell offset
     ∷ image_cell Address entry (codes "load")
     ∷ image_cell Address entry (codes "entry")
-    ∷ hashes_cell (file_hashes entry.name payload (siblings entry.children)) ∷ []
+    ∷ hashes_cell (found_hashes entry.name payload (siblings entry.children)) ∷ []
 
 -- The rows of image nodes, with these payloads.
 abbrev pub image_rows : (file : List ℕ) → List (Sibling FileNode) → List (Option (List ℕ)) → Table
@@ -119,24 +125,65 @@ configurations_table entries =
 
 -- ---- signatures
 
--- The row of a signature node. Its parent is a child of `/images` or `/configurations`.
-abbrev pub signature_row : (parent : List ℕ) → (name : List ℕ) → Sibling FileNode → List (List ℕ)
-signature_row parent name signature =
+-- Whether a signature node has a signature: its value is not empty.
+abbrev pub has_signature : Sibling FileNode → Bool
+has_signature signature = has_bytes (value_in signature.own value_name)
+
+-- The row of a signature node, which covers this. Its parent is a child of `/images` or
+-- `/configurations`. No signature is verified.
+abbrev pub signature_row : (parent name covers : List ℕ) → Sibling FileNode → List (List ℕ)
+signature_row parent name covers signature =
     path (parent ∷ name ∷ signature.name ∷ [])
     ∷ property_cell Value (value_in signature.own (codes "algo"))
     ∷ property_cell Value (value_in signature.own (codes "key-name-hint"))
-    ∷ codes "not verified" ∷ []
+    ∷ codes "not verified" ∷ covers ∷ []
 
--- The rows of the signature nodes below the children of `/images` or `/configurations`.
-abbrev pub signature_rows : (parent : List ℕ) → List (Sibling FileNode) → Table
-signature_rows parent entries =
-    flat_map (λ entry. map (signature_row parent entry.name) (file_signatures entry)) entries
+-- The cell of what a signature node covers that has no signature.
+abbrev pub nothing_cell : List ℕ
+nothing_cell = codes "nothing"
 
--- The table of all signature nodes. None of them is verified.
-abbrev pub signatures_table : (images configurations : List (Sibling FileNode)) → Table
-signatures_table images configurations =
-    (codes "signature" ∷ codes "algorithm" ∷ codes "key" ∷ codes "verdict" ∷ [])
-    ∷ (signature_rows images_name images ++ signature_rows configurations_name configurations)
+-- The cell of what a signature node of an image covers, if it is valid.
+abbrev pub payload_cell : Sibling FileNode → List ℕ
+payload_cell signature = if has_signature signature then codes "payload" else nothing_cell
+
+-- The row of a signature node of an image.
+abbrev pub image_signature_row : (image signature : Sibling FileNode) → List (List ℕ)
+image_signature_row image signature =
+    signature_row images_name image.name (payload_cell signature) signature
+
+-- The cell of what a signed node of a configuration covers, if it is valid and there are these
+-- concerns about it.
+abbrev pub concerns_cell : List SignatureConcern → List ℕ
+concerns_cell [] = codes "whole configuration"
+concerns_cell (first ∷ later) = codes "not the whole configuration"
+
+-- The cell of what a signature node of a configuration of a file covers. The blob of the file has
+-- this root, and it means this tree.
+abbrev pub configuration_cell : (file : List ℕ) → Root FileNode → ImageTree
+    → (configuration signature : Sibling FileNode) → List ℕ
+configuration_cell file root tree configuration signature =
+    if has_signature signature
+    then concerns_cell (signature_coverage_in file root tree (meaning_of_sibling configuration)
+    (meaning_of_sibling signature)).concerns
+    else nothing_cell
+
+-- The row of such a signature node.
+abbrev pub configuration_signature_row : (file : List ℕ) → Root FileNode → ImageTree
+    → (configuration signature : Sibling FileNode) → List (List ℕ)
+configuration_signature_row file root tree configuration signature =
+    signature_row configurations_name configuration.name
+    (configuration_cell file root tree configuration signature)
+    signature
+
+-- The table of all signature nodes of a file with these image nodes and configuration nodes.
+abbrev pub signatures_table : (file : List ℕ) → Root FileNode → ImageTree
+    → (images configurations : List (Sibling FileNode)) → Table
+signatures_table file root tree images configurations =
+    (codes "signature" ∷ codes "algorithm" ∷ codes "key" ∷ codes "verdict" ∷ codes "covers" ∷ [])
+    ∷ (flat_map (λ entry. map (image_signature_row entry) (file_signatures entry)) images
+    ++ flat_map
+    (λ entry. map (configuration_signature_row file root tree entry) (file_signatures entry))
+    configurations)
 
 -- ---- all tables
 
@@ -162,5 +209,5 @@ fit_tables file root tree time regions =
     ∷ reservations_table tree.reservations
     ∷ (image_heading ∷ image_rows file (images_below root) tree.payloads)
     ∷ configurations_table (configurations_below root)
-    ∷ signatures_table (images_below root) (configurations_below root)
+    ∷ signatures_table file root tree (images_below root) (configurations_below root)
     ∷ regions ∷ []

@@ -8,7 +8,13 @@ use Rattle.bi_common.specs.KnownWords.{lines}
 use Rattle.bi_common.specs.CommonLines.{code_word}
 use Rattle.bi_show.specs.AllCodes.{all_arch_names, all_os_names, all_type_names}
 use Rattle.bi_show.specs.Dates.{IsTimeText}
-use Rattle.bi_show.specs.PageCells.{address_cell, names_cell, number_cell, size_cell}
+use Rattle.bi_blob.specs.Tree.{FileProperty, none}
+use Rattle.bi_common.specs.HashedImages.{FoundHash}
+use Rattle.bi_coverage.specs.Coverage.{NoImages}
+use Rattle.bi_hash.specs.declared.verdicts.Verdict.TheVariants.{Good}
+use Rattle.bi_report.specs.KnownTexts.{hash_with}
+use Rattle.bi_show.specs.FitPages.{concerns_cell}
+use Rattle.bi_show.specs.PageCells.{address_cell, hash_word, names_cell, number_cell, size_cell}
 use Rattle.bi_show.specs.PageCells.{text_cell, value_cell}
 use Rattle.bi_show.specs.Pages.{concerns_text_of_page, table_text}
 use Rattle.bi_show.specs.ShownFiles.{IsPage}
@@ -50,6 +56,22 @@ pub record TablesAreKnown : Type 0 where
   pub concerns : concerns_text_of_page (lines (codes "trailing 7" ∷ []))
       ≡ lines (codes "concerns" ∷ codes "trailing 7" ∷ [])
 
+-- A hash node with these properties, whose verdict is Good.
+abbrev pub shown_hash_node : List FileProperty → FoundHash
+shown_hash_node properties = record {
+  node = record {
+    name = codes "hash-1";
+    own = record { place = 0; properties = properties };
+    children = none;
+    later = none;
+  };
+  checked = record (hash_with Good) { algo = Some (codes "crc32") };
+}
+
+-- A property of it that tells U-Boot to skip it, or does not.
+abbrev pub ignore_property : (value : List ℕ) → FileProperty
+ignore_property value = record { name = codes "uboot-ignore"; value = value; place = 0 }
+
 -- Cells: codes with a name, of which a listing has only the first, and codes without one; numbers;
 -- texts that are words and texts that are not; and values of properties.
 pub record CellsAreKnown : Type 0 where
@@ -77,6 +99,13 @@ pub record CellsAreKnown : Type 0 where
   pub address : address_cell (cell 0x80080000) ≡ codes "0x80080000"
   pub long_address : address_cell (cell 1 ++ cell 0x80000000) ≡ codes "0x0000000180000000"
   pub no_address : address_cell (codes "x" ++ 0 ∷ []) ≡ codes "x"
+  pub hash : hash_word (shown_hash_node []) ≡ codes "crc32:good"
+  pub used_hash : hash_word (shown_hash_node (ignore_property (cell 0) ∷ []))
+      ≡ codes "crc32:good"
+  pub skipped_hash : hash_word (shown_hash_node (ignore_property (cell 1) ∷ []))
+      ≡ codes "crc32:good:skipped"
+  pub whole : concerns_cell [] ≡ codes "whole configuration"
+  pub not_whole : concerns_cell (NoImages ∷ []) ≡ codes "not the whole configuration"
   pub names : names_cell (codes "fdt-1" ++ 0 ∷ codes "a b" ++ 0 ∷ []) ≡ codes "fdt-1 a%20b"
 
 -- The page of a kernel image with seven bytes after its data, with its layout.

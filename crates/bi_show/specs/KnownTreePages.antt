@@ -26,8 +26,8 @@ shown_page regions =
     ∷ codes "configuration  kernel  compatible"
     ∷ codes "c              a       \"x y\""
     ∷ []
-    ∷ codes "signature                    algorithm  key  verdict"
-    ∷ codes "/configurations/c/signature  rsa        dev  not verified"
+    ∷ codes "signature                    algorithm  key  verdict       covers"
+    ∷ codes "/configurations/c/signature  rsa        dev  not verified  nothing"
     ∷ []
     ∷ regions ++ codes "concerns" ∷ codes "weak-hash a crc32" ∷ [])
 

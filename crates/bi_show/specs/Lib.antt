@@ -9,6 +9,9 @@ pub mod FitPages
 pub mod Layouts
 pub mod ReadPages
 pub mod ShownFiles
+pub mod ShownObjects
+pub mod ReadObjects
 pub mod KnownPages
+pub mod KnownObjects
 pub mod KnownTrees
 pub mod KnownTreePages

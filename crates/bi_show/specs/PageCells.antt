@@ -4,10 +4,12 @@ use Rattle.std.specs.Prelude.{MatchBool, if◌then◌else◌}
 use Rattle.std.specs.Fmt.{decimal}
 use Rattle.std.specs.List.{ends_with, join_with_byte, list_all}
 use Rattle.bi_base.specs.Cells.{u32_at}
-use Rattle.bi_fit.specs.Judgement.{CheckedHash, listed_names}
+use Rattle.bi_fit.specs.Judgement.{listed_names}
+use Rattle.bi_common.specs.HashedImages.{FoundHash}
 use Rattle.bi_common.specs.Shown.{shown_or_none, is_plain, shown_text}
 use Rattle.bi_common.specs.Json.{string_text}
 use Rattle.bi_common.specs.ValueTexts.{is_quotable, hexadecimal_digits, value_words}
+use Rattle.bi_report.specs.FoundConcerns.{is_skipped}
 use Rattle.bi_report.specs.Reports.{verdict_word}
 use Rattle.bi_show.specs.Dates.{IsTimeText}
 use Rattle.bi_show.specs.declared.show.cells.CellForm.{CellForm}
@@ -87,11 +89,15 @@ IsTimeCell (Some value) cell =
 
 -- ---- verdicts
 
--- The algorithm of a hash node and the verdict on it, as `sha256:good`.
-abbrev pub hash_word : CheckedHash → List ℕ
-hash_word hash = shown_or_none hash.algo ++ 58 ∷ verdict_word hash.verdict
+-- The algorithm of a hash node and the verdict on it, as `sha256:good`. A mark follows if U-Boot
+-- skips the node.
+abbrev pub hash_word : FoundHash → List ℕ
+hash_word hash =
+    shown_or_none hash.checked.algo
+    ++ 58 ∷ (verdict_word hash.checked.verdict
+    ++ (if is_skipped hash.node then codes ":skipped" else []))
 
 -- The cell of the hash nodes of an image.
-abbrev pub hashes_cell : List CheckedHash → List ℕ
+abbrev pub hashes_cell : List FoundHash → List ℕ
 hashes_cell hashes =
     if length hashes == 0 then missing_cell else join_with_byte 32 (map hash_word hashes)

@@ -8,7 +8,7 @@ use Rattle.bi_fit.specs.ImageTree.{ImageTree}
 use Rattle.bi_legacy.specs.Reading.{LegacyModel, IsReadLegacy}
 use Rattle.bi_common.specs.declared.format.Format.TheVariants.{Lines}
 use Rattle.bi_report.specs.CheckedFiles.{IsChecked, IsCheckError}
-use Rattle.bi_report.specs.Checking.{content_end, nothing_allowed}
+use Rattle.bi_report.specs.Checking.{allowed_by_default, content_end}
 use Rattle.bi_show.specs.Dates.{IsTimeText}
 use Rattle.bi_show.specs.FitPages.{fit_regions, fit_tables, timestamp_in}
 use Rattle.bi_show.specs.Layouts.{IsLayoutIf, legacy_regions}
@@ -18,9 +18,9 @@ use Rattle.bi_show.specs.Pages.{Table, page_text}
 
 -- Showing a boot image to a person (profile of this project).
 
--- These are the lines that checking the file gives.
+-- These are the lines that checking the file gives, if signatures are not asked for.
 abbrev pub AreConcernLines : Limits → (file lines : List ℕ) → Type 0
-AreConcernLines limits file lines = IsChecked Lines nothing_allowed limits file lines
+AreConcernLines limits file lines = IsChecked Lines allowed_by_default limits file lines
 
 -- The text is the page of a legacy image that was read from the file.
 pub record IsLegacyPage (layout : Bool) (limits : Limits) (file text : List ℕ) : Type 0 where

@@ -1,6 +1,7 @@
 //! Small boot images with their pages. Each function does nothing: what it ensures is a fact about
 //! the definitions. Two of them call the function of a law, from which their facts follow.
 
+ghost use Rattle.bi_show.specs.KnownObjects.{ObjectValuesAreKnown, ObjectsAreKnown};
 ghost use Rattle.bi_show.specs.KnownPages.{CellsAreKnown, PagesAreKnown, TablesAreKnown};
 ghost use Rattle.bi_show.specs.KnownPages.{TimesAreKnown};
 ghost use Rattle.bi_show.specs.KnownTreePages.{TreePagesAreKnown};
@@ -26,6 +27,18 @@ pub fn cells_are_known()
 /// without it.
 pub fn pages_are_known()
     ensures { PagesAreKnown }
+{
+    bi_legacy::laws::one_meaning();
+}
+
+/// Values of properties are texts or numbers in JSON, or none.
+pub fn object_values_are_known()
+    ensures { ObjectValuesAreKnown }
+{}
+
+/// The JSON of a kernel image with bytes after it is a known text.
+pub fn objects_are_known()
+    ensures { ObjectsAreKnown }
 {
     bi_legacy::laws::one_meaning();
 }

@@ -1,11 +1,11 @@
 use Rattle.std.proofs.Common.{◌≡◌, ℕ, Bool, true, false, List, [], ◌∷◌, ◌≤◌, ◌-◌, length}
-use Rattle.std.proofs.Common.{take, drop, get_or, refl, sym, ap, ap₂, arith, true≢false, Vec, Global, ◌==◌}
+use Rattle.std.proofs.Common.{take, drop, get_or, refl, sym, ap, ap₂, arith, true≢false, Bor, ◌==◌}
 use Rattle.std.proofs.lemmas.List.{take_all}
 use Rattle.std.proofs.Common.{bytes_eq}
 use Rattle.bi_blob.specs.Tree.{Nodes, none, node, Property, Root}
 use Rattle.bi_tree.specs.Changes.{with_node, with_new_node, with_change_at, with_node_at, without_node_at}
 use Rattle.bi_tree.specs.Properties.{with_own_property, with_value_at}
-use Rattle.bi_tree.specs.TreeNodes.{names_of_path}
+use Rattle.bi_base.specs.Slices.{bytes_of}
 
 -- Changes of trees, one after the other.
 
@@ -43,13 +43,16 @@ removed_below name [] root some = absurd (omega (arith, some))
 removed_below name (next ∷ later) root some = refl
 
 -- A list that is not empty has a name.
-pub some_names : (names : List (Vec ℕ Global)) → (length names == 0) ≡ false → 1 ≤ length (names_of_path names)
+pub some_names : (names : List (Bor (List ℕ))) → (length names == 0) ≡ false → 1 ≤ length (bytes_of names)
 some_names [] some = absurd (true≢false some)
 some_names (name ∷ later) some = omega arith
 
+-- The first name of a path, as the code reads it.
+abbrev pub first_name : List (Bor (List ℕ)) → List ℕ
+first_name path = (get_or path 0 (record { ref_ptr = (0, 0); now = [] })).now
+
 -- A path that has a name is its first name and the others.
-pub path_is : {V : Type 0} (path : List V) (first : V) → 1 ≤ length path → first ≡ get_or path 0 first →
-    path ≡ first ∷ take (length path - 1) (drop 1 path)
-path_is [] first some is = absurd (omega (arith, some))
-path_is (other ∷ rest) first some is =
-    ap₂ (λ x xs. x ∷ xs) (sym is) (sym (take_all (length (other ∷ rest) - 1) rest (omega arith)))
+pub path_is : (path : List (Bor (List ℕ))) → 1 ≤ length path →
+    bytes_of path ≡ first_name path ∷ bytes_of (take (length path - 1) (drop 1 path))
+path_is [] some = absurd (omega (arith, some))
+path_is (first ∷ rest) some = ap (λ names. first.now ∷ bytes_of names) (sym (take_all (length (first ∷ rest) - 1) rest (omega arith)))

@@ -1,10 +1,11 @@
 use Rattle.std.specs.Prelude.{⊤}
 use Rattle.std.proofs.Common.{◌≡◌, ℕ, List, [], map, ap, ◌∙◌}
-use Rattle.std.specs.FinMap.{empty, from_entries, insert, remove}
+use Rattle.std.specs.FinMap.{from_entries}
 use Rattle.bi_blob.specs.Tree.{Root, Property, PropertyMap, AreDistinct, as_nodes, tree_without_order, with_each}
 use Rattle.bi_tree.specs.Changes.{with_change_at, with_node_at}
 use Rattle.bi_tree.specs.Properties.{with_own_property, without_own_property, with_value_at}
-use Rattle.bi_tree.specs.Laws.{ChangesWithoutOrder, HasDistinctProperties}
+use Rattle.bi_tree.specs.Laws.{ChangesWithoutOrder}
+use Rattle.bi_tree.specs.Trees.{HasDistinctProperties, with_own_value, without_own_value, with_value_by_path, without_value_by_path}
 use Rattle.bi_tree.proofs.MappedChanges.{node_found, node_removed, nodes_added, changed_at, each_is}
 use Rattle.bi_tree.proofs.PropertyMaps.{set_without_order, removed_without_order}
 
@@ -14,27 +15,20 @@ use Rattle.bi_tree.proofs.PropertyMaps.{set_without_order, removed_without_order
 abbrev map_of : List Property → PropertyMap
 map_of properties = from_entries properties
 
--- A node with this value of a property, and a node without a property.
-abbrev with_mapped : (name value : List ℕ) → Root PropertyMap → Root PropertyMap
-with_mapped name value old = record old { own = insert old.own name value }
-
-abbrev without_mapped : (name : List ℕ) → Root PropertyMap → Root PropertyMap
-without_mapped name old = record old { own = remove old.own name }
-
 value_is : (root : Root (List Property)) (path : List (List ℕ)) (name value : List ℕ) →
     tree_without_order (with_value_at path name value root)
-    ≡ with_change_at path (with_mapped name value) (with_node_at empty path (tree_without_order root))
+    ≡ with_value_by_path path name value (tree_without_order root)
 value_is root path name value =
-    changed_at map_of (λ _. ⊤) (with_own_property name value) (with_mapped name value)
+    changed_at map_of (λ _. ⊤) (with_own_property name value) (with_own_value name value)
     (λ old _. ap (λ own. record { own = own; children = with_each map_of old.children }) (set_without_order name value old.own))
     path (with_node_at [] path root) (each_is map_of (as_nodes (with_node_at [] path root)))
-    ∙ ap (λ tree. with_change_at path (with_mapped name value) tree) (nodes_added map_of [] path root)
+    ∙ ap (λ tree. with_change_at path (with_own_value name value) tree) (nodes_added map_of [] path root)
 
 property_is : (root : Root (List Property)) (path : List (List ℕ)) (name : List ℕ) → HasDistinctProperties root →
     tree_without_order (with_change_at path (without_own_property name) root)
-    ≡ with_change_at path (without_mapped name) (tree_without_order root)
+    ≡ without_value_by_path path name (tree_without_order root)
 property_is root path name distinct =
-    changed_at map_of (λ own. AreDistinct (map (λ property. property.0) own)) (without_own_property name) (without_mapped name)
+    changed_at map_of (λ own. AreDistinct (map (λ property. property.0) own)) (without_own_property name) (without_own_value name)
     (λ old all. ap (λ own. record { own = own; children = with_each map_of old.children })
     (removed_without_order name old.own all.0))
     path root distinct

@@ -3,7 +3,8 @@ use Rattle.bi_base.proofs.EqualBytes.{same_bytes, other_bytes}
 use Rattle.bi_blob.specs.Tree.{Nodes, none, node, Root, Property, AreDistinct, IsNew, EachOwn, as_nodes}
 use Rattle.bi_tree.specs.Changes.{with_node, with_new_node, without_node, with_change_at, with_node_at, without_node_at}
 use Rattle.bi_tree.specs.Properties.{with_property_in, without_property_in, with_own_property, without_own_property, with_value_at}
-use Rattle.bi_tree.specs.Laws.{HasDistinctProperties, NamesStayDistinct}
+use Rattle.bi_tree.specs.Laws.{NamesStayDistinct}
+use Rattle.bi_tree.specs.Trees.{HasDistinctProperties}
 
 -- A condition on what each node has itself holds after changes that keep it.
 
@@ -131,13 +132,17 @@ distinct_without name (first ∷ later) distinct =
 abbrev IsDistinct : List Property → Type 0
 IsDistinct own = AreDistinct (names_in own)
 
+pub distinct_with_nodes : (path : List (List ℕ)) (root : Root (List Property)) → HasDistinctProperties root →
+    HasDistinctProperties (with_node_at [] path root)
+distinct_with_nodes path root distinct = kept_with IsDistinct [] tt path root distinct
+
 pub property_names_stay_distinct : NamesStayDistinct
 property_names_stay_distinct = record {
   removal = λ root path distinct. kept_without_node IsDistinct path root distinct;
   value = λ root path name value distinct.
       kept_at IsDistinct (with_own_property name value)
       (λ old all. (distinct_with name value old.own all.0, all.1, tt)) path (with_node_at [] path root)
-      (kept_with IsDistinct [] tt path root distinct);
+      (distinct_with_nodes path root distinct);
   property = λ root path name distinct.
       kept_at IsDistinct (without_own_property name)
       (λ old all. (distinct_without name old.own all.0, all.1, tt)) path root distinct;

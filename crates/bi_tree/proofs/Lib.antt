@@ -5,3 +5,4 @@ pub mod PropertyMaps
 pub mod MappedChanges
 pub mod ChangesWithoutOrder
 pub mod DistinctNames
+pub mod Trees

@@ -1,10 +1,14 @@
 use Rattle.std.proofs.Common.{◌≡◌, ℕ, ◌<◌, Bool, true, false, List, [], ◌∷◌, ◌++◌, map, length, set, refl, sym, ap, subst, ◌∙◌, arith}
-use Rattle.std.proofs.Common.{bytes_eq}
+use Rattle.std.proofs.Common.{bytes_eq, option_map, slice_get, ◌≤◌, Option, Some, None, Bor, MatchOption}
+use Rattle.std.proofs.lemmas.Option.{slice_get_past, slice_get_read}
+use Rattle.bi_base.proofs.EqualBytes.{same_bytes, other_bytes}
 use Rattle.std.specs.Cow.{cow_slice_items}
-use Rattle.std.specs.List.{remove}
+use Rattle.std.specs.List.{HoldsAt, remove}
 use Rattle.bi_tree.specs.Properties.{tree_property, tree_properties, with_property_in, without_property_in}
 use Rattle.bi_tree.specs.TreeNodes.{index_named}
+use Rattle.bi_tree.specs.Trees.{first_value}
 use Rattle.bi_tree.specs.declared.properties.TreeProperty.{TreeProperty}
+use Rattle.bi_tree.proofs.PropertyMaps.{no_value_found, first_value_found, other_value_found}
 
 -- What setting and removing a property makes of a list of them.
 
@@ -78,6 +82,36 @@ keep_first first later name rest false other none =
 kept : (items : List TreeProperty) (name : List ℕ) → IsKept name items
 kept [] name none = refl
 kept (first ∷ later) name none = keep_first first later name (kept later name) (bytes_eq first.name.now name) refl none
+
+-- The value of the first property with a name is that of the one at its index, if there is one.
+abbrev IsRead : List ℕ → List TreeProperty → Type 0
+IsRead name items =
+    first_value (tree_properties items) name
+    ≡ option_map (λ property. cow_slice_items property.value) (slice_get items (index_named name (tree_property_names items)))
+
+read_first : (first : TreeProperty) (later : List TreeProperty) (name : List ℕ) → IsRead name later → (b : Bool) →
+    bytes_eq first.name.now name ≡ b → IsRead name (first ∷ later)
+read_first first later name rest true same =
+    rw same (first_value_found name (tree_property first) (tree_properties later) (same_bytes first.name.now name same))
+read_first first later name rest false other =
+    rw other (other_value_found name (tree_property first) (tree_properties later) (other_bytes first.name.now name other) ∙ rest)
+
+read : (items : List TreeProperty) (name : List ℕ) → IsRead name items
+read [] name = no_value_found name
+read (first ∷ later) name = read_first first later name (read later name) (bytes_eq first.name.now name) refl
+
+-- What a slice of properties gives at the index of a name.
+pub property_value_at : (items : List TreeProperty) (name : List ℕ) (index : ℕ) (result : Option (Bor TreeProperty)) →
+    index ≡ index_named name (tree_property_names items) →
+    MatchOption result (length items ≤ index) (λ x. (index < length items) × HoldsAt (λ y. x.now ≡ y) items index) →
+    option_map (λ property. cow_slice_items property.now.value) result ≡ first_value (tree_properties items) name
+property_value_at items name index None is past =
+    ap (option_map (λ property. cow_slice_items property.value))
+    (sym (slice_get_past items index past) ∙ ap (λ n. slice_get items n) is) ∙ sym (read items name)
+property_value_at items name index (Some found) is there =
+    ap (option_map (λ property. cow_slice_items property.value))
+    (sym (slice_get_read items (length items) index found.now refl there.0 (there.1 found.now)) ∙ ap (λ n. slice_get items n) is)
+    ∙ sym (read items name)
 
 -- The same, by the index that a search of a slice of the properties gave.
 module _ (items slice : List TreeProperty) (same : slice ≡ items) (index : ℕ) where

@@ -4,10 +4,12 @@ use Rattle.std.specs.Ordering.{eq_by_cmp, nat_cmp}
 use Rattle.std.specs.Cmp.Lexicographic.{slice_cmp}
 use Rattle.std.proofs.lemmas.Cmp.{nat_list_cmp_total}
 use Rattle.std.proofs.lemmas.Map.Text.{is_eq-slice_cmp}
+use Rattle.std.proofs.lemmas.Slice.Eq.{bytes_eq-Decides}
 use Rattle.bi_base.proofs.EqualBytes.{same_bytes, other_bytes}
 use Rattle.bi_blob.specs.Tree.{Property, AreDistinct, IsNew}
 use Rattle.bi_blob.proofs.Texts.PropertyOrder.{order_tells}
 use Rattle.bi_tree.specs.Properties.{with_property_in, without_property_in}
+use Rattle.bi_tree.specs.Trees.{first_value}
 
 -- What setting and removing a property makes of the properties without their order.
 
@@ -37,6 +39,29 @@ either_first false b x y z apart = refl
 apart : (name first second : List ℕ) → bytes_eq first second ≡ false → is_same name first ≡ true → is_same name second ≡ true → ⊥
 apart name first second differs one other =
     other_bytes first second differs (sym (names_same name first one) ∙ names_same name second other)
+
+-- Two names that differ are not the same.
+new_first : (name other : List ℕ) → other ≢ name → (b : Bool) → is_same name other ≡ b → is_same name other ≡ false
+new_first name other differs true same = absurd (differs (sym (names_same name other same)))
+new_first name other differs false same = same
+
+-- A value is found in the first property with its name.
+pub no_value_found : (name : List ℕ) → first_value [] name ≡ None
+no_value_found name = get-from_entries nat_list_cmp_total [] name
+
+pub first_value_found : (name : List ℕ) (first : Property) (later : List Property) → first.0 ≡ name →
+    first_value (first ∷ later) name ≡ Some first.1
+first_value_found name first later is =
+    get-from_entries nat_list_cmp_total (first ∷ later) name
+    ∙ subst (λ other. cond (is_same name other) (Some first.1) (found name later) ≡ Some first.1) (sym is)
+    (rw (is_eq-slice_cmp name name ∙ (bytes_eq-Decides name name).1 refl) refl)
+
+pub other_value_found : (name : List ℕ) (first : Property) (later : List Property) → first.0 ≢ name →
+    first_value (first ∷ later) name ≡ first_value later name
+other_value_found name first later other =
+    get-from_entries nat_list_cmp_total (first ∷ later) name
+    ∙ ap (λ b. cond b (Some first.1) (found name later)) (new_first name first.0 other (is_same name first.0) refl)
+    ∙ sym (get-from_entries nat_list_cmp_total later name)
 
 -- A value that was set is found.
 abbrev IsSetIn : (name value : List ℕ) → (wanted : List ℕ) → List Property → Type 0
@@ -70,10 +95,6 @@ set_without_order name value properties =
     ∙ ap (λ o. cond (is_same wanted name) (Some value) o) (get-from_entries nat_list_cmp_total properties wanted)))
 
 -- A name that is new is not found.
-new_first : (name other : List ℕ) → other ≢ name → (b : Bool) → is_same name other ≡ b → is_same name other ≡ false
-new_first name other differs true same = absurd (differs (sym (names_same name other same)))
-new_first name other differs false same = same
-
 new_not_found : (name : List ℕ) (properties : List Property) → IsNew name (map (λ property. property.0) properties) →
     found name properties ≡ None
 new_not_found name [] new = refl

@@ -1,6 +1,5 @@
-use Rattle.std.specs.Prelude.{ℕ, ◌+◌, ◌≤◌, suc, List, [], ◌∷◌, refl, map, Vec, bytes_eq}
+use Rattle.std.specs.Prelude.{ℕ, ◌+◌, ◌≤◌, suc, List, [], ◌∷◌, refl, map, bytes_eq}
 use Rattle.std.specs.Prelude.{if◌then◌else◌}
-use Rattle.std.specs.declared.alloc.Global.{Global}
 use Rattle.std.proofs.Common.{arith}
 use Rattle.std.specs.Coded.{Coded, code_by, coded×, coded_list, coded_ℕ}
 use denote.Param.Weighed.{most}
@@ -51,7 +50,3 @@ index_named name (first ∷ later) = if bytes_eq first name then 0 else suc (ind
 -- The names of nodes.
 abbrev pub names_of_models : List TreeNodeModel → List (List ℕ)
 names_of_models nodes = map (λ top. top.name) nodes
-
--- Names, as the code has them.
-abbrev pub names_of_path : List (Vec ℕ Global) → List (List ℕ)
-names_of_path names = map (λ name. name.items) names

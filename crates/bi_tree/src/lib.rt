@@ -5,6 +5,8 @@ pub mod known_changes;
 pub mod laws;
 mod node;
 mod properties;
+mod tree;
 
 pub use node::TreeNode;
 pub use properties::TreeProperty;
+pub use tree::Tree;

@@ -1,15 +1,19 @@
 //! Nodes of trees that can be changed.
 
-ghost use Rattle.std.specs.Prelude.{◌≡◌, ◌<◌, ◌≤◌, [], OnOk, IfOk, length, option_map};
+ghost use Rattle.std.specs.Prelude.{◌≡◌, ◌<◌, ◌≤◌, ℕ, [], length, take, option_map};
+ghost use Rattle.std.specs.Prelude.{OnOk, OnErr, IfOk};
 ghost use Rattle.std.specs.Cow.{cow_slice_items};
+ghost use Rattle.bi_base.specs.Slices.{bytes_of};
 ghost use Rattle.bi_blob.specs.Tree.{none};
 ghost use Rattle.bi_tree.specs.Changes.{child_named, node_by_path, with_change_at, with_new_node};
+ghost use Rattle.bi_tree.specs.Changes.{with_node_at};
 ghost use Rattle.bi_tree.specs.Changes.{without_node, without_node_at};
 ghost use Rattle.bi_tree.specs.Properties.{with_value_at, without_own_property};
-ghost use Rattle.bi_tree.specs.TreeNodes.{below, index_named, names_of_path, names_of_models};
+ghost use Rattle.bi_tree.specs.TreeNodes.{below, index_named, names_of_models};
 ghost use Rattle.bi_tree.specs.TreeNodes.{nodes_of_models};
+ghost use Rattle.bi_tree.specs.Trees.{first_value};
 
-use crate::properties::{TreeProperty, remove_value, set_value};
+use crate::properties::{TreeProperty, remove_value, set_value, value_of};
 use std::alloc::{AllocError, Global};
 use std::borrow::CowSlice;
 use std::marker::Model;
@@ -17,9 +21,12 @@ use std::marker::Model;
 /// A node with all nodes below it. Names are borrowed, not copied.
 #[derive(Drop)]
 pub struct TreeNode<'a> {
-    name: &'a [u8],
-    properties: Vec<TreeProperty<'a>>,
-    children: Vec<TreeNode<'a>>,
+    /// The name.
+    pub name: &'a [u8],
+    /// The properties.
+    pub properties: Vec<TreeProperty<'a>>,
+    /// The children.
+    pub children: Vec<TreeNode<'a>>,
 }
 
 impl<'a> Model for TreeNode<'a> {
@@ -56,14 +63,14 @@ impl<'a> TreeNode<'a> {
     }
 
     /// Returns the node at a path below this one. Returns None if there is none.
-    pub fn node(&self, path: &[Vec<u8>]) -> Option<&TreeNode<'a>>
+    pub fn node(&self, path: &[&[u8]]) -> Option<&TreeNode<'a>>
         ensures { option_map (λ node. below node.now) result
-            ≡ node_by_path (below self.now) (names_of_path path.now) }
+            ≡ node_by_path (below self.now) (bytes_of path.now) }
     {
         let [first, later @ ..] = path else {
             return Some(self);
         };
-        self.child(first)?.node(later)
+        self.child(*first)?.node(later)
     }
 
     /// Returns the first child with this name. Returns None if there is none.
@@ -75,45 +82,57 @@ impl<'a> TreeNode<'a> {
         self.children.get(index)
     }
 
+    /// Returns the value of the first property with this name. Returns None if there is none.
+    pub fn value(&self, name: &[u8]) -> Option<&[u8]>
+        ensures { option_map (λ value. value.now) result
+            ≡ first_value self.now.own name.now }
+    {
+        value_of(&self.properties, name)
+    }
+
     /// Sets the value of a property of the node at a path below this one, or adds the property.
     /// Nodes of the path that are not there are added, each as the last child of its parent.
     ///
-    /// Fails if memory runs out. What the tree then has is not specified.
+    /// Fails if memory runs out. Some of those nodes may then have been added, and nothing else is
+    /// changed.
     pub fn set_property(
         &mut self,
         alloc: Global,
-        path: &'a [Vec<u8>],
+        path: &[&'a [u8]],
         name: &'a [u8],
         value: CowSlice<'a, u8, Global>,
     ) -> Result<(), AllocError>
         ensures set { OnOk result (below self.new
-            ≡ with_value_at (names_of_path path.entry.now) name.entry.now
+            ≡ with_value_at (bytes_of path.entry.now) name.entry.now
             (cow_slice_items value.entry) (below self.old)) }
-        ensures name { OnOk result (self.new.name ≡ self.old.name) }
+        ensures failed { OnErr result ((count : ℕ) × (below self.new
+            ≡ with_node_at [] (take count (bytes_of path.entry.now)) (below self.old))) }
+        ensures name { self.new.name ≡ self.old.name }
     {
         let [first, later @ ..] = path else {
-            return set_value(&mut self.properties, name, value);
+            set_value(&mut self.properties, name, value)?;
+            return Ok(());
         };
-        let index = child_or_new(alloc, &mut self.children, first)?;
+        let index = child_or_new(alloc, &mut self.children, *first)?;
         self.children[index].set_property(alloc, later, name, value)?;
         Ok(())
     }
 
     /// Removes the node at a path below this one, with all nodes below it. Without such a node, and
     /// for the path of this one, nothing changes.
-    pub fn remove_node(&mut self, path: &[Vec<u8>])
+    pub fn remove_node(&mut self, path: &[&[u8]])
         ensures removed { below self.new
-            ≡ without_node_at (names_of_path path.now) (below self.old) }
+            ≡ without_node_at (bytes_of path.now) (below self.old) }
         ensures name { self.new.name ≡ self.old.name }
     {
         let [first, later @ ..] = path else {
             return;
         };
         if later.is_empty() {
-            remove_child(&mut self.children, first);
+            remove_child(&mut self.children, *first);
             return;
         }
-        let index = find_child(&self.children, first);
+        let index = find_child(&self.children, *first);
         if index < self.children.len() {
             self.children[index].remove_node(later);
         }
@@ -121,9 +140,9 @@ impl<'a> TreeNode<'a> {
 
     /// Removes a property of the node at a path below this one. Without such a node or property
     /// nothing changes.
-    pub fn remove_property(&mut self, path: &[Vec<u8>], name: &[u8])
+    pub fn remove_property(&mut self, path: &[&[u8]], name: &[u8])
         ensures removed { below self.new
-            ≡ with_change_at (names_of_path path.now) (without_own_property name.now)
+            ≡ with_change_at (bytes_of path.now) (without_own_property name.now)
             (below self.old) }
         ensures name { self.new.name ≡ self.old.name }
     {
@@ -131,7 +150,7 @@ impl<'a> TreeNode<'a> {
             remove_value(&mut self.properties, name);
             return;
         };
-        let index = find_child(&self.children, first);
+        let index = find_child(&self.children, *first);
         if index < self.children.len() {
             self.children[index].remove_property(later, name);
         }
@@ -158,6 +177,7 @@ fn child_or_new<'a>(
     ensures index { IfOk result (λ index.
         index ≡ index_named name.entry.now (names_of_models children.new.items)) }
     ensures within { IfOk result (λ index. index < length children.new.items) }
+    ensures failed { OnErr result (children.new.items ≡ children.old.items) }
 {
     let index = find_child(children, name);
     if index == children.len() {

@@ -1,9 +1,11 @@
 //! The properties of nodes of trees that can be changed.
 
-ghost use Rattle.std.specs.Prelude.{◌≡◌, ◌≤◌, length, map, OnOk};
+ghost use Rattle.std.specs.Prelude.{◌≡◌, ◌≤◌, length, map, option_map};
+ghost use Rattle.std.specs.Prelude.{OnOk, OnErr};
 ghost use Rattle.std.specs.Cow.{cow_slice_items};
 ghost use Rattle.bi_tree.specs.Properties.{tree_properties, with_property_in, without_property_in};
 ghost use Rattle.bi_tree.specs.TreeNodes.{index_named};
+ghost use Rattle.bi_tree.specs.Trees.{first_value};
 
 use std::alloc::{AllocError, Global};
 use std::borrow::CowSlice;
@@ -17,6 +19,18 @@ pub struct TreeProperty<'a> {
     pub value: CowSlice<'a, u8, Global>,
 }
 
+/// Returns the value of the first of these properties with this name. Returns None if there is none.
+pub(crate) fn value_of<'b>(properties: &'b [TreeProperty<'_>], name: &[u8]) -> Option<&'b [u8]>
+    ensures { option_map (λ value. value.now) result
+        ≡ first_value (tree_properties properties.now) name.now }
+{
+    let index = find_property(properties, name);
+    match properties.get(index) {
+        Some(property) => Some(property.value.as_slice()),
+        None => None,
+    }
+}
+
 /// Sets the value of the first of these properties with this name. If there is none, it is added as
 /// the last. Fails if memory runs out, and then changes nothing.
 pub(crate) fn set_value<'a>(
@@ -24,9 +38,10 @@ pub(crate) fn set_value<'a>(
     name: &'a [u8],
     value: CowSlice<'a, u8, Global>,
 ) -> Result<(), AllocError>
-    ensures { OnOk result (tree_properties properties.new.items
+    ensures set { OnOk result (tree_properties properties.new.items
         ≡ with_property_in name.entry.now (cow_slice_items value.entry)
         (tree_properties properties.old.items)) }
+    ensures failed { OnErr result (properties.new.items ≡ properties.old.items) }
 {
     let index = find_property(properties, name);
     let property = TreeProperty { name, value };

@@ -12,17 +12,26 @@ use Rattle.bootimg.specs.CommandLine.{IsAllowed, IsKindWord, NoneIs}
 
 -- Nothing is allowed if each kind is not.
 pub allows_nothing : (allowed : Allowed)
-    → (allowed.bad_hash ≡ false) ×
-    ((allowed.unhashed ≡ false) × ((allowed.weak_hash ≡ false) × ((allowed.bad_list ≡ false) × ((allowed.missing ≡ false)
-    × ((allowed.bad_default ≡ false) × (allowed.trailing ≡ false))))))
+    → (allowed.bad_hash ≡ false) × ((allowed.skipped_hash ≡ false) × ((allowed.unhashed ≡ false) × ((allowed.weak_hash ≡ false)
+    × ((allowed.bad_list ≡ false) × ((allowed.missing ≡ false) × ((allowed.unsigned ≡ false) × ((allowed.no_nodes ≡ false)
+    × ((allowed.no_images ≡ false) × ((allowed.uncovered ≡ false) × ((allowed.foreign ≡ false) × ((allowed.strings ≡ false)
+    × ((allowed.unit_address ≡ false) × ((allowed.bad_default ≡ false) × ((allowed.trailing ≡ false)))))))))))))))
     → (kind : ConcernKind) → allows allowed kind ≡ false
 allows_nothing allowed none kind.BadHash = none.0
-allows_nothing allowed none kind.Unhashed = none.1.0
-allows_nothing allowed none kind.WeakHash = none.1.1.0
-allows_nothing allowed none kind.BadList = none.1.1.1.0
-allows_nothing allowed none kind.Missing = none.1.1.1.1.0
-allows_nothing allowed none kind.BadDefault = none.1.1.1.1.1.0
-allows_nothing allowed none kind.Trailing = none.1.1.1.1.1.1
+allows_nothing allowed none kind.SkippedHash = none.1.0
+allows_nothing allowed none kind.Unhashed = none.1.1.0
+allows_nothing allowed none kind.WeakHash = none.1.1.1.0
+allows_nothing allowed none kind.BadList = none.1.1.1.1.0
+allows_nothing allowed none kind.Missing = none.1.1.1.1.1.0
+allows_nothing allowed none kind.Unsigned = none.1.1.1.1.1.1.0
+allows_nothing allowed none kind.NoNodes = none.1.1.1.1.1.1.1.0
+allows_nothing allowed none kind.NoImages = none.1.1.1.1.1.1.1.1.0
+allows_nothing allowed none kind.Uncovered = none.1.1.1.1.1.1.1.1.1.0
+allows_nothing allowed none kind.Foreign = none.1.1.1.1.1.1.1.1.1.1.0
+allows_nothing allowed none kind.Strings = none.1.1.1.1.1.1.1.1.1.1.1.0
+allows_nothing allowed none kind.UnitAddress = none.1.1.1.1.1.1.1.1.1.1.1.1.0
+allows_nothing allowed none kind.BadDefault = none.1.1.1.1.1.1.1.1.1.1.1.1.1.0
+allows_nothing allowed none kind.Trailing = none.1.1.1.1.1.1.1.1.1.1.1.1.1.1
 
 -- No words allow no kind.
 pub none_allowed : (allowed : Allowed) → ((kind : ConcernKind) → allows allowed kind ≡ false) → IsAllowed [] allowed

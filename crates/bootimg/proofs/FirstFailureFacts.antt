@@ -13,15 +13,14 @@ use Rattle.clap.proofs.OnLiterals.{clap_on_literals}
 use Rattle.bootimg.specs.CommandLine.{ChangesHashes, HasFitValues, HasNoForm, IsBadPlan, IsChanges, IsChangesFailure}
 use Rattle.bootimg.specs.CommandLine.{IsFirstBad, IsFitPlanFailure, IsForm, IsFormWith, IsImageText, IsLimits, IsNewTime}
 use Rattle.bootimg.specs.CommandLine.{IsTaskFailure, NoneIs, NotAllowed, NotChanged, NotCompared, NotExplained, NotFit, NotFormed}
-use Rattle.bootimg.specs.CommandLine.{NotFormedChanged, NotLegacy, NotLimited, NotPlaced, NotSelected, align_option, external_flag}
-use Rattle.bootimg.specs.CommandLine.{given_offset, hashes_flag, limit_of, name_of_task, option_of, value_of, values_of}
+use Rattle.bootimg.specs.CommandLine.{NotFormedChanged, NotLegacy, NotLimited, NotNamed, NotPlaced, NotSelected, NotShown, align_option, external_flag}
+use Rattle.bootimg.specs.CommandLine.{given_offset, hashes_flag, limit_of, option_of, value_of, values_of}
 use Rattle.bootimg.specs.ConfigurationWords.{AreHashes, IsDefault, IsFirstBadConfiguration}
 use Rattle.bootimg.specs.KnownBuildRequests.{FirstFailuresAreKnown, IsTheOne}
 use Rattle.bootimg.specs.Numbers.{IsNumber}
 use Rattle.bootimg.specs.Program.{program_app}
 use Rattle.bootimg.specs.Words.{parts_of}
 use Rattle.bootimg.specs.declared.codes.CodeField.TheVariants.{Os, Arch, ImageType, Compression}
-use Rattle.bootimg.specs.declared.command_line.Task.{Task}
 use Rattle.bootimg.specs.declared.command_line.Task.TheVariants as task
 use Rattle.bootimg.specs.declared.command_line.image.ImageWord.{ImageWord}
 use Rattle.bootimg.specs.declared.command_line.part.PartSource.TheVariants as part
@@ -31,6 +30,7 @@ use Rattle.bootimg.proofs.ArgumentFacts.{code_with_name, decimal_digits, is_no_n
 use Rattle.bootimg.proofs.BuildRequestFacts.{first_is_bad, no_first_word, unknown_md4, without_list}
 use Rattle.bootimg.proofs.OptionFacts.{found_values}
 use Rattle.bootimg.proofs.RequestFacts.{flag_is, no_change_fails, no_time_given, not_given_and_missing, option_is, value_is}
+use Rattle.bootimg.proofs.TaskNames.{not_a_task}
 
 -- Which of two failures small command lines have is known.
 
@@ -234,18 +234,6 @@ second_of word other later (image ∷ images) none are = no_first other later im
 
 -- ---- tasks
 
-not_a_task : (given : Task) → ¬ (codes "build-fit" ≡ name_of_task given)
-not_a_task (task.Normalise form) = other_bytes (codes "build-fit") (codes "normalise") refl
-not_a_task (task.Show presenter) = other_bytes (codes "build-fit") (codes "show") refl
-not_a_task (task.List format) = other_bytes (codes "build-fit") (codes "list") refl
-not_a_task (task.Describe format) = other_bytes (codes "build-fit") (codes "describe") refl
-not_a_task (task.Verify format) = other_bytes (codes "build-fit") (codes "verify") refl
-not_a_task (task.Check allowed format) = other_bytes (codes "build-fit") (codes "check") refl
-not_a_task task.Scan = other_bytes (codes "build-fit") (codes "scan") refl
-not_a_task (task.Update changes form) = other_bytes (codes "build-fit") (codes "update") refl
-not_a_task (task.Extract selection) = other_bytes (codes "build-fit") (codes "extract") refl
-not_a_task task.Convert = other_bytes (codes "build-fit") (codes "convert") refl
-
 -- The failures of `build-fit` are those of its limit and of its plan.
 abbrev IsFitTaskFailure : ArgMatches → Failure → Type 0
 IsFitTaskFailure options failure =
@@ -255,10 +243,12 @@ IsFitTaskFailure options failure =
 fit_failure : (options : ArgMatches) (failure : Failure) → IsTaskFailure (codes "build-fit") options failure →
     IsFitTaskFailure options failure
 fit_failure options failure (NotFormed name fails) = absurd (other_bytes (codes "build-fit") (codes "normalise") refl name)
+fit_failure options failure (NotShown name fails) = absurd (other_bytes (codes "build-fit") (codes "show") refl name)
 fit_failure options failure (NotAllowed name fails) = absurd (other_bytes (codes "build-fit") (codes "check") refl name)
 fit_failure options failure (NotChanged name fails) = absurd (other_bytes (codes "build-fit") (codes "update") refl name)
 fit_failure options failure (NotFormedChanged name changes are fails) =
     absurd (other_bytes (codes "build-fit") (codes "update") refl name)
+fit_failure options failure (NotNamed name fails) = absurd (other_bytes (codes "build-fit") (codes "get") refl name)
 fit_failure options failure (NotSelected name all fails) = absurd (other_bytes (codes "build-fit") (codes "extract") refl name)
 fit_failure options failure (NotPlaced given is fails) = absurd (not_a_task given is.0)
 fit_failure options failure (NotLegacy name fails) = absurd (other_bytes (codes "build-fit") (codes "build-legacy") refl name)
@@ -291,9 +281,11 @@ IsUpdateTaskFailure options failure =
 update_failure : (options : ArgMatches) (failure : Failure) → IsTaskFailure (codes "update") options failure →
     IsUpdateTaskFailure options failure
 update_failure options failure (NotFormed name fails) = absurd (other_bytes (codes "update") (codes "normalise") refl name)
+update_failure options failure (NotShown name fails) = absurd (other_bytes (codes "update") (codes "show") refl name)
 update_failure options failure (NotAllowed name fails) = absurd (other_bytes (codes "update") (codes "check") refl name)
 update_failure options failure (NotChanged name fails) = inl fails
 update_failure options failure (NotFormedChanged name changes are fails) = inr (inl (changes, are, fails.0))
+update_failure options failure (NotNamed name fails) = absurd (other_bytes (codes "update") (codes "get") refl name)
 update_failure options failure (NotSelected name all fails) = absurd (other_bytes (codes "update") (codes "extract") refl name)
 update_failure options failure (NotPlaced given is fails) = inr (inr fails)
 update_failure options failure (NotLegacy name fails) = absurd (other_bytes (codes "update") (codes "build-legacy") refl name)

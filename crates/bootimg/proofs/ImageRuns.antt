@@ -1,5 +1,5 @@
 use Rattle.std.proofs.Common.{◌≡◌, ◌∷◌, ℕ, List, [], Option, None, Some, Bor, Result, Ok, Err, IfOk, IfErr, refl, subst, sym}
-use Rattle.bi_base.specs.declared.fault.Cause.{Cause}
+use Rattle.bootimg.specs.declared.explanations.Topic.{Topic}
 use Rattle.bi_base.specs.Limits.{Limits}
 use Rattle.bi_base.specs.Reading.{IsInputRead}
 use Rattle.bi_base.specs.Traces.{ReadTrace, WriteTrace, WritesWell}
@@ -134,9 +134,9 @@ pub images_are_compared : (files : KnownFiles) (job : Job) (plan : ComparePlan) 
 images_are_compared files job plan limits work old new is done = subst (λ j. IsJobWork files j limits work old new) (sym is) done
 
 -- The job is to explain.
-pub explained_work : (files : KnownFiles) (job : Job) (cause : Option Cause) (limits : Limits) (work : Work)
-    (steps : Option (List FileStep)) → job ≡ Explain cause → IsExplainWork cause work → IsJobWork files job limits work steps steps
-explained_work files job cause limits work steps is done =
+pub explained_work : (files : KnownFiles) (job : Job) (topic : Option Topic) (limits : Limits) (work : Work)
+    (steps : Option (List FileStep)) → job ≡ Explain topic → IsExplainWork topic work → IsJobWork files job limits work steps steps
+explained_work files job topic limits work steps is done =
     subst (λ j. IsJobWork files j limits work steps steps) (sym is) (done, refl)
 
 -- The job is to build an image.

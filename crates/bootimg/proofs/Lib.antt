@@ -22,6 +22,9 @@ pub mod MemoryRuns
 pub mod ArgumentFacts
 pub mod OptionFacts
 pub mod RequestFacts
+pub mod GetFacts
+pub mod GetWords
+pub mod TaskNames
 pub mod BuildRequestFacts
 pub mod FirstFailureFacts
 pub mod RunEnds

@@ -2,21 +2,19 @@ use Rattle.std.proofs.Common.{◌≡◌, ◌∙◌, ℕ, true≢false, List, Non
 use Rattle.std.proofs.Common.{ap, refl, sym, subst}
 use Rattle.std.specs.Prelude.{option_map}
 use Rattle.bi_base.proofs.EqualBytes.{other_bytes}
-use Rattle.bi_common.specs.declared.format.Format.TheVariants.{Json}
 use Rattle.bootimg.specs.KnownWords.{words_of_line}
 use Rattle.clap.specs.Simple.{subcommand_of}
 use Rattle.clap.specs.Walk.{Row, Text}
 use Rattle.clap.specs.declared.parser.matches.ArgMatches.{ArgMatches}
 use Rattle.clap.proofs.OnLiterals.{clap_on_literals}
-use Rattle.bootimg.specs.CommandLine.{Gives, IsJob, IsLimits, IsTask, IsTaskFailure, NoJob, NoLimits, NoMemory}
+use Rattle.bootimg.specs.CommandLine.{Gives, IsJob, IsLimits, IsTaskFailure, NoJob, NoLimits, NoMemory}
 use Rattle.bootimg.specs.CommandLine.{NotAll, NotAllowed, NotChanged, NotCompared, NotExplained, NotFit, NotFormed, NotFormedChanged}
-use Rattle.bootimg.specs.CommandLine.{NotLegacy, NotLimited, NotPlaced, NotSelected, all_flag, hashes_flag, json_flag, limit_of}
+use Rattle.bootimg.specs.CommandLine.{NotLegacy, NotLimited, NotNamed, NotPlaced, NotSelected, NotShown, all_flag, hashes_flag, limit_of}
 use Rattle.bootimg.specs.CommandLine.{option_of}
 use Rattle.bootimg.specs.KnownOrders.{IsListOfFile, IsRejectedFor, RejectionsAreKnown, RequestsAreKnown}
 use Rattle.bootimg.specs.Program.{program_app}
 use Rattle.bootimg.specs.declared.command_line.Job.{Job}
 use Rattle.bootimg.specs.declared.command_line.Job.TheVariants.{Run, Compare, Build, Explain}
-use Rattle.bootimg.specs.declared.command_line.Task.{Task}
 use Rattle.bootimg.specs.declared.command_line.Task.TheVariants as task
 use Rattle.bootimg.specs.declared.command_line.build.BuildPlan.TheVariants as build
 use Rattle.bootimg.specs.declared.failure.Failure.{Failure}
@@ -24,7 +22,8 @@ use Rattle.bootimg.specs.declared.failure.Failure.TheVariants.{BadValue, NoChang
 use Rattle.bootimg.proofs.ArgumentFacts.{decimal_digits, limits_are_known}
 use Rattle.bootimg.proofs.FirstFailureFacts.{change_fails}
 use Rattle.bootimg.proofs.RequestFacts.{all_requests_are_known, file_is_named, flag_is}
-use Rattle.bootimg.proofs.RequestFacts.{no_time_given, number_of_argument, option_is, value_is}
+use Rattle.bootimg.proofs.RequestFacts.{number_of_argument, option_is, value_is}
+use Rattle.bootimg.proofs.TaskNames.{list_task, no_update_task}
 
 -- What whole command lines request, or why they request nothing, is known.
 
@@ -37,19 +36,6 @@ command_is line name options is wanted given =
     cc
 
 -- ---- requests
-
-list_task : (options : ArgMatches) → json_flag options ≡ Some (codes "true") → (given : Task) → IsTask (codes "list") options given →
-    given ≡ task.List Json
-list_task options flag (task.Normalise form) is = absurd (other_bytes (codes "list") (codes "normalise") refl is.0)
-list_task options flag (task.Show presenter) is = absurd (other_bytes (codes "list") (codes "show") refl is.0)
-list_task options flag (task.List format) is = ap task.List (is.1.given flag)
-list_task options flag (task.Describe format) is = absurd (other_bytes (codes "list") (codes "describe") refl is.0)
-list_task options flag (task.Verify format) is = absurd (other_bytes (codes "list") (codes "verify") refl is.0)
-list_task options flag (task.Check allowed format) is = absurd (other_bytes (codes "list") (codes "check") refl is.0)
-list_task options flag task.Scan is = absurd (other_bytes (codes "list") (codes "scan") refl is.0)
-list_task options flag (task.Update changes form) is = absurd (other_bytes (codes "list") (codes "update") refl is.0)
-list_task options flag (task.Extract selection) is = absurd (other_bytes (codes "list") (codes "extract") refl is.0)
-list_task options flag task.Convert is = absurd (other_bytes (codes "list") (codes "convert") refl is.0)
 
 abbrev list_line : List ℕ
 list_line = codes "list --json --offset 7 --limit 64 -o out in"
@@ -108,20 +94,6 @@ update_rejected line name only none failure (NotAll options is all fails) =
 update_rejected line name only none failure (NoMemory is) = inr is
 
 -- No job is an update without a change.
-no_update_task : (options : ArgMatches) → option_of options (codes "time") ≡ None → hashes_flag options ≡ Some (codes "false") →
-    (given : Task) → ¬ (IsTask (codes "update") options given)
-no_update_task options time flag (task.Normalise form) is = other_bytes (codes "update") (codes "normalise") refl is.0
-no_update_task options time flag (task.Show presenter) is = other_bytes (codes "update") (codes "show") refl is.0
-no_update_task options time flag (task.List format) is = other_bytes (codes "update") (codes "list") refl is.0
-no_update_task options time flag (task.Describe format) is = other_bytes (codes "update") (codes "describe") refl is.0
-no_update_task options time flag (task.Verify format) is = other_bytes (codes "update") (codes "verify") refl is.0
-no_update_task options time flag (task.Check allowed format) is = other_bytes (codes "update") (codes "check") refl is.0
-no_update_task options time flag task.Scan is = other_bytes (codes "update") (codes "scan") refl is.0
-no_update_task options time flag (task.Update changes form) is =
-    is.1.0.some (no_time_given _ time changes.time is.1.0.time, is.1.0.hashes.not_given flag)
-no_update_task options time flag (task.Extract selection) is = other_bytes (codes "update") (codes "extract") refl is.0
-no_update_task options time flag task.Convert is = other_bytes (codes "update") (codes "convert") refl is.0
-
 no_update_job : (options : ArgMatches) → option_of options (codes "time") ≡ None → hashes_flag options ≡ Some (codes "false") →
     (job : Job) → ¬ (IsJob (codes "update") options job)
 no_update_job options time flag (Run plan) is = no_update_task options time flag plan.task is.task
@@ -133,9 +105,11 @@ no_update_job options time flag (Build (build.Fit plan)) is = other_bytes (codes
 -- Each failure of `scan` is that of a bad value.
 scan_failure : (options : ArgMatches) (failure : Failure) → IsTaskFailure (codes "scan") options failure → failure ≡ BadValue
 scan_failure options failure (NotFormed name fails) = fails.0
+scan_failure options failure (NotShown name fails) = fails.0
 scan_failure options failure (NotAllowed name fails) = fails.0
 scan_failure options failure (NotChanged name fails) = absurd (other_bytes (codes "scan") (codes "update") refl name)
 scan_failure options failure (NotFormedChanged name changes are fails) = fails.0
+scan_failure options failure (NotNamed name fails) = fails.0
 scan_failure options failure (NotSelected name all fails) = absurd (other_bytes (codes "scan") (codes "extract") refl name)
 scan_failure options failure (NotPlaced given is fails) = fails.0
 scan_failure options failure (NotLegacy name fails) = fails.0
@@ -159,9 +133,11 @@ scan_rejected failure (NoMemory is) = inr is
 all_failure : (options : ArgMatches) → all_flag options ≡ Some (codes "true") → (failure : Failure) →
     IsTaskFailure (codes "extract") options failure → failure ≡ BadValue
 all_failure options flag failure (NotFormed name fails) = fails.0
+all_failure options flag failure (NotShown name fails) = fails.0
 all_failure options flag failure (NotAllowed name fails) = fails.0
 all_failure options flag failure (NotChanged name fails) = absurd (other_bytes (codes "extract") (codes "update") refl name)
 all_failure options flag failure (NotFormedChanged name changes are fails) = fails.0
+all_failure options flag failure (NotNamed name fails) = fails.0
 all_failure options flag failure (NotSelected name all fails) = absurd (true≢false (sym (all.given flag)))
 all_failure options flag failure (NotPlaced given is fails) = fails.0
 all_failure options flag failure (NotLegacy name fails) = fails.0

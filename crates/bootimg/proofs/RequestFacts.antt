@@ -27,7 +27,7 @@ use Rattle.clap.specs.declared.parser.matches.ArgMatches.{ArgMatches}
 use Rattle.clap.proofs.OnLiterals.{clap_on_literals}
 use Rattle.clap.proofs.WalkLemmas.{first_value-rows, one_text-rows}
 use Rattle.bootimg.specs.CodeWords.{IsCode}
-use Rattle.bootimg.specs.CommandLine.{IsFormWith}
+use Rattle.bootimg.specs.CommandLine.{IsFormWith, IsShown, json_flag, layout_flag}
 use Rattle.bootimg.specs.CommandLine.{Gives, IsAddress, IsAllowed, IsChangesFailure, IsFields, IsImageSource, IsImageText, IsNewTime}
 use Rattle.bootimg.specs.CommandLine.{IsPartSource, IsSelection, IsSelectionFailure, IsBuildPlan, NamesAFile, NoneIs}
 use Rattle.bootimg.specs.CommandLine.{IsAllFailure, IsEntry, IsNameOf, IsNoneGiven, SelectsDefault, default_flag}
@@ -51,6 +51,8 @@ use Rattle.bootimg.specs.declared.command_line.extract.Selected.TheVariants as s
 use Rattle.bootimg.specs.declared.command_line.image.ImageWord.{ImageWord}
 use Rattle.bootimg.specs.declared.command_line.part.PartSource.{PartSource}
 use Rattle.bootimg.specs.declared.command_line.part.PartSource.TheVariants as part
+use Rattle.bootimg.specs.declared.command_line.show.ShowForm.{ShowForm}
+use Rattle.bootimg.specs.declared.command_line.show.ShowForm.TheVariants as show_form
 use Rattle.bootimg.specs.declared.command_line.source.ImageSource.{ImageSource}
 use Rattle.bootimg.specs.declared.command_line.source.ImageSource.TheVariants.{Standard, File}
 use Rattle.bootimg.specs.declared.failure.Failure.TheVariants.{NoChange, NoSelection, BadValue}
@@ -99,6 +101,17 @@ not_aligned_3 (Aligned align) is =
     let three : align_bytes align ≡ 3 = (decimal_digits (codes "3") refl refl).1 (align_bytes align) is in
     omega (arith, alignment-positive (align_bytes align) align.is_alignment, three)
 
+-- With `--json` an image is shown as JSON, and then not with its layout.
+shown_in_json : (options : ArgMatches) (how : ShowForm) → json_flag options ≡ Some (codes "true") →
+    IsShown options how → how ≡ show_form.Json
+shown_in_json options (show_form.Page presenter) flag is = absurd (let other = is.0.given flag in cc)
+shown_in_json options show_form.Json flag is = refl
+
+no_layout_in_json : (options : ArgMatches) (how : ShowForm) → json_flag options ≡ Some (codes "true") →
+    layout_flag options ≡ Some (codes "true") → ¬ (IsShown options how)
+no_layout_in_json options (show_form.Page presenter) flag layout is = let other = is.0.given flag in cc
+no_layout_in_json options show_form.Json flag layout is = true≢false (sym (is.1.given layout))
+
 pub flags_are_known : FlagsAreKnown
 unfolding program_app clap_on_literals
 flags_are_known = record {
@@ -128,8 +141,15 @@ flags_are_known = record {
   lines = λ options is format holds. holds.not_given (flag_is (codes "list") (codes "list") options is (codes "json") ∙ refl);
   layout = λ options is layout holds. holds.given (flag_is (codes "show --layout") (codes "show") options is (codes "layout") ∙ refl);
   no_layout = λ options is layout holds. holds.not_given (flag_is (codes "show") (codes "show") options is (codes "layout") ∙ refl);
+  json_of_page = λ options is how holds.
+      shown_in_json options how (flag_is (codes "show --json") (codes "show") options is (codes "json") ∙ refl) holds;
+  layout_in_json = λ options is how holds.
+      no_layout_in_json options how (flag_is (codes "show --layout --json") (codes "show") options is (codes "json") ∙ refl)
+      (flag_is (codes "show --layout --json") (codes "show") options is (codes "layout") ∙ refl) holds;
   quiet = λ options is quiet holds. holds.given (flag_is (codes "compare --quiet a b") (codes "compare") options is (codes "quiet") ∙ refl);
   not_quiet = λ options is quiet holds. holds.not_given (flag_is (codes "compare a b") (codes "compare") options is (codes "quiet") ∙ refl);
+  signed = λ options is signed holds. holds.given (flag_is (codes "check --signed") (codes "check") options is (codes "signed") ∙ refl);
+  not_signed = λ options is signed holds. holds.not_given (flag_is (codes "check") (codes "check") options is (codes "signed") ∙ refl);
   hashes = λ options is hashes holds. holds.given (flag_is (codes "update --hashes") (codes "update") options is (codes "hashes") ∙ refl);
   no_hashes = λ options is hashes holds. holds.not_given (flag_is (codes "update") (codes "update") options is (codes "hashes") ∙ refl);
   default_configuration = λ options is default holds.
@@ -217,11 +237,13 @@ image_offsets_are_known = record {
       number_of_argument _ (codes "0") 0 (value_is (codes "list in") (codes "list") options is (codes "offset") (codes "0") ∙ refl)
       (decimal_digits (codes "0") refl refl);
   of_show = λ options is.
-      number_of_argument _ (codes "0") 0 (value_is (codes "show in") (codes "show") options is (codes "offset") (codes "0") ∙ refl)
-      (decimal_digits (codes "0") refl refl);
+      number_of_argument _ (codes "0x10") 16
+      (value_is (codes "show --offset 0x10 in") (codes "show") options is (codes "offset") (codes "0") ∙ refl)
+      (hexadecimal_digits_after (codes "10") refl);
   of_scan = λ options is.
-      number_of_argument _ (codes "0") 0 (value_is (codes "scan in") (codes "scan") options is (codes "offset") (codes "0") ∙ refl)
-      (decimal_digits (codes "0") refl refl);
+      number_of_argument _ (codes "74") 74
+      (value_is (codes "scan --offset 74 in") (codes "scan") options is (codes "offset") (codes "0") ∙ refl)
+      (decimal_digits (codes "74") refl refl);
   bad = λ options is number holds.
       is_no_number (codes "x") refl refl number
       (subst (λ a. IsNumber a number)
@@ -267,19 +289,35 @@ allowed_is words allowed is given =
 
 good_is_no_kind : (given : ConcernKind) → ¬ (codes "good" ≡ kind_word given)
 good_is_no_kind kind.BadHash = other_bytes _ _ refl
+good_is_no_kind kind.SkippedHash = other_bytes _ _ refl
 good_is_no_kind kind.Unhashed = other_bytes _ _ refl
 good_is_no_kind kind.WeakHash = other_bytes _ _ refl
 good_is_no_kind kind.BadList = other_bytes _ _ refl
 good_is_no_kind kind.Missing = other_bytes _ _ refl
+good_is_no_kind kind.Unsigned = other_bytes _ _ refl
+good_is_no_kind kind.NoNodes = other_bytes _ _ refl
+good_is_no_kind kind.NoImages = other_bytes _ _ refl
+good_is_no_kind kind.Uncovered = other_bytes _ _ refl
+good_is_no_kind kind.Foreign = other_bytes _ _ refl
+good_is_no_kind kind.Strings = other_bytes _ _ refl
+good_is_no_kind kind.UnitAddress = other_bytes _ _ refl
 good_is_no_kind kind.BadDefault = other_bytes _ _ refl
 good_is_no_kind kind.Trailing = other_bytes _ _ refl
 
 nothing_is_no_kind : (given : ConcernKind) → ¬ ([] ≡ kind_word given)
 nothing_is_no_kind kind.BadHash = other_bytes _ _ refl
+nothing_is_no_kind kind.SkippedHash = other_bytes _ _ refl
 nothing_is_no_kind kind.Unhashed = other_bytes _ _ refl
 nothing_is_no_kind kind.WeakHash = other_bytes _ _ refl
 nothing_is_no_kind kind.BadList = other_bytes _ _ refl
 nothing_is_no_kind kind.Missing = other_bytes _ _ refl
+nothing_is_no_kind kind.Unsigned = other_bytes _ _ refl
+nothing_is_no_kind kind.NoNodes = other_bytes _ _ refl
+nothing_is_no_kind kind.NoImages = other_bytes _ _ refl
+nothing_is_no_kind kind.Uncovered = other_bytes _ _ refl
+nothing_is_no_kind kind.Foreign = other_bytes _ _ refl
+nothing_is_no_kind kind.Strings = other_bytes _ _ refl
+nothing_is_no_kind kind.UnitAddress = other_bytes _ _ refl
 nothing_is_no_kind kind.BadDefault = other_bytes _ _ refl
 nothing_is_no_kind kind.Trailing = other_bytes _ _ refl
 
@@ -288,6 +326,9 @@ allowed_words_are_known = record {
   no_value = λ allowed is. (λ i. map kind_word (filter (λ given. is given i) each_kind)) ∙ refl;
   two = λ allowed is.
       (λ i. map kind_word (filter (λ given. allowed_is (listed_words (codes "trailing,weak-hash")) allowed is given i) each_kind)) ∙ refl;
+  about_signatures = λ allowed is.
+      (λ i. map kind_word
+      (filter (λ given. allowed_is (listed_words (codes "unit-address,skipped-hash,uncovered")) allowed is given i) each_kind)) ∙ refl;
   other_word = λ allowed is. good_is_no_kind is.known.1.0.0 is.known.1.0.1;
   empty_word = λ allowed is. nothing_is_no_kind is.known.0.0 is.known.0.1;
 }

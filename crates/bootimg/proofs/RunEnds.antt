@@ -3,6 +3,7 @@ use Rattle.std.specs.Fmt.{digits}
 use Rattle.bi_base.specs.Traces.{WriteTrace}
 use Rattle.clap.specs.declared.error.kind.ErrorKind.{ErrorKind}
 use Rattle.bootimg.specs.KnownRuns.{FailureLinesAreKnown, ExtractLinesAreKnown, CompareLinesAreKnown, NotesAreKnown, StatusesAreKnown}
+use Rattle.bootimg.specs.KnownRuns.{ValueLinesAreKnown}
 use Rattle.bootimg.specs.Runs.{Run, IsAskedFor, IsEnd, EndsWell, EndsWithFailure, IsMistake, IsTextRun, IsWritten, IsNotWritten, IsUsage}
 use Rattle.bootimg.specs.Tasks.{status_of}
 use Rattle.bootimg.specs.declared.jobs.SourceFailure.{SourceFailure}
@@ -76,6 +77,9 @@ extract_lines_are_known = record {
   no_index = refl;
   no_payload = refl;
 }
+
+pub value_lines_are_known : ValueLinesAreKnown
+value_lines_are_known = record { no_property = refl; no_text = refl; no_number = refl; of_input = refl }
 
 pub compare_lines_are_known : CompareLinesAreKnown
 unfolding digits

@@ -1,6 +1,5 @@
 use Rattle.std.proofs.Common.{◌≡◌, ◌∙◌, ℕ, List, Option, None, Some, Bor, Result, ap}
 use Rattle.clap.specs.declared.error.kind.ErrorKind.{ErrorKind}
-use Rattle.bi_base.specs.declared.fault.Cause.{Cause}
 use Rattle.bi_base.specs.Limits.{Limits}
 use Rattle.bi_base.specs.Traces.{WriteTrace}
 use Rattle.bi_commands.specs.declared.parts.Part.{Part}
@@ -10,6 +9,7 @@ use Rattle.bootimg.specs.declared.command_line.ImagePlan.{ImagePlan}
 use Rattle.bootimg.specs.declared.command_line.build.BuildPlan.{BuildPlan}
 use Rattle.bootimg.specs.declared.command_line.source.ComparePlan.{ComparePlan}
 use Rattle.bootimg.specs.declared.command_line.source.ImageSource.{ImageSource}
+use Rattle.bootimg.specs.declared.explanations.Topic.{Topic}
 use Rattle.bootimg.specs.declared.failure.Failure.{Failure}
 use Rattle.bi_files.specs.Files.{FileStep, KnownFiles}
 use Rattle.bootimg.specs.declared.command_line.Request.{Request}
@@ -113,12 +113,12 @@ compare_work_keeps files plan limits work old new (OtherNotRead one middle failu
   writer = ap (λ trace. trace.writer) failed.nothing_written;
 }
 
-explain_work_keeps : (cause : Option Cause) (work : Work) → IsExplainWork cause work → KeepsWork work
-explain_work_keeps cause work (WroteExplanation wrote done ended outcome input) =
+explain_work_keeps : (topic : Option Topic) (work : Work) → IsExplainWork topic work → KeepsWork work
+explain_work_keeps topic work (WroteExplanation wrote done ended outcome input) =
     record { reader = ap (λ trace. trace.reader) input; writer = wrote.same_writer }
-explain_work_keeps cause work (ExplanationNotWritten error stopped outcome input) =
+explain_work_keeps topic work (ExplanationNotWritten error stopped outcome input) =
     record { reader = ap (λ trace. trace.reader) input; writer = stopped.same_writer }
-explain_work_keeps cause work (NoMemoryForExplanation failed input) =
+explain_work_keeps topic work (NoMemoryForExplanation failed input) =
     record { reader = ap (λ trace. trace.reader) input; writer = ap (λ trace. trace.writer) failed.nothing_written }
 
 -- Building keeps the input and the output.

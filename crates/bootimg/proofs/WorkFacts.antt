@@ -1,10 +1,12 @@
 use Rattle.std.proofs.Common.{◌≡◌, ◌∙◌, ◌⊎◌, ℕ, Bool, true, false, true≢false, List, [], ◌∷◌, ◌++◌, Option, None, Some, Result, Ok, Err}
-use Rattle.std.proofs.Common.{codes, length, map, inl, inr, ap, refl, sym, subst, arith}
+use Rattle.std.proofs.Common.{codes, flat_map, length, map, inl, inr, ap, refl, sym, subst, arith, length-append}
 use Rattle.std.specs.Borrow.{Bor}
+use Rattle.std.specs.List.{join_with_byte}
 use Rattle.std.specs.Io.KnownBytes.{Appends}
 use Rattle.std.specs.Prelude.{IfSome, IsTrue, option_map}
 use Rattle.bi_base.specs.Cells.{u32_at}
-use Rattle.bi_base.specs.declared.fault.Cause.{Cause}
+use Rattle.bootimg.specs.declared.explanations.Topic.{Topic}
+use Rattle.bootimg.specs.declared.explanations.Topic.TheVariants as topic
 use Rattle.bi_base.specs.declared.fault.Cause.TheVariants.{BadDataCrc}
 use Rattle.bi_base.specs.declared.fault.Error.{Error}
 use Rattle.bi_base.specs.declared.fault.Error.TheVariants.{Refused, OutOfMemory, ReadFailed, WriteFailed}
@@ -28,6 +30,9 @@ use Rattle.bi_legacy.specs.Meaning.{LegacyImage}
 use Rattle.bi_legacy.proofs.FaultLaws.{one_legacy_fault}
 use Rattle.bi_legacy.proofs.KnownImages.{kernel_text}
 use Rattle.bi_legacy.proofs.LegacyFaultFacts.{legacy_checks_have_order}
+use Rattle.bi_common.specs.declared.format.Format.TheVariants.{Lines}
+use Rattle.bi_common.specs.Lines.{field_texts, line_text}
+use Rattle.bi_report.specs.Scanning.{ScannedImage, all_found, scan_line, scan_text}
 use Rattle.bi_norm.specs.Converting.{IsConvertError, IsConvertedFile, fit_of, NotLegacy, NotConvertible, TextTooLong}
 use Rattle.bi_norm.specs.KnownComparisons.{file_without_magic, no_magic}
 use Rattle.bi_norm.specs.Meaning.{OfLegacy, OfFit, normal_text}
@@ -37,7 +42,7 @@ use Rattle.bi_norm.proofs.ComparisonFacts.{kernel_with_rest_means, no_magic_is_e
 use Rattle.bi_norm.proofs.KindLaws.{one_file_fault}
 use Rattle.clap.specs.declared.parser.matches.ArgMatches.{ArgMatches}
 use Rattle.clap.proofs.OnLiterals.{clap_on_literals}
-use Rattle.bootimg.specs.CommandLine.{Gives, IsExplained, IsJob, name_of_task}
+use Rattle.bootimg.specs.CommandLine.{Gives, IsExplained, IsJob}
 use Rattle.bootimg.specs.Explanations.{explain_text}
 use Rattle.bootimg.specs.Failures.{failure_of}
 use Rattle.bootimg.specs.KnownInputs.{two_files, without_files}
@@ -55,7 +60,6 @@ use Rattle.bootimg.specs.Runs.{NotesAlignment, NotesCount, inputs_after, inputs_
 use Rattle.bootimg.specs.Tasks.{IsCallFailure, EndedWith, plan_promise, status_of}
 use Rattle.bootimg.specs.declared.command_line.Job.{Job}
 use Rattle.bootimg.specs.declared.command_line.Job.TheVariants.{Run as RunTask, Compare, Build, Explain}
-use Rattle.bootimg.specs.declared.command_line.Task.{Task}
 use Rattle.bootimg.specs.declared.command_line.Task.TheVariants as task
 use Rattle.bootimg.specs.declared.command_line.build.BuildPlan.TheVariants as build
 use Rattle.bootimg.specs.declared.command_line.part.PartSource.{PartSource}
@@ -70,6 +74,7 @@ use Rattle.bootimg.proofs.InputFacts.{file_was_not_read, file_was_read, first_st
 use Rattle.bootimg.proofs.MemoryRuns.{same_steps}
 use Rattle.bootimg.proofs.OrderFacts.{command_is}
 use Rattle.bootimg.proofs.RequestFacts.{option_is}
+use Rattle.bootimg.proofs.TaskNames.{no_task_explains}
 
 -- What tasks and jobs do with small files is known.
 
@@ -93,6 +98,14 @@ is_true : (answer : Bool) → IsTrue answer → answer ≡ true
 is_true true is = refl
 is_true false is = absurd (true≢false (sym is))
 
+-- A scan without a line finds nothing.
+no_line_no_image : (images : List ScannedImage) → scan_text Lines images ≡ [] → images ≡ []
+no_line_no_image [] none = refl
+no_line_no_image (image ∷ later) none =
+    let words = join_with_byte 32 (flat_map field_texts (scan_line image)) in
+    absurd
+    (omega (arith, ap length none, length-append (line_text (scan_line image)) (scan_text Lines later), length-append words (10 ∷ [])))
+
 pub task_outputs_are_known : TaskOutputsAreKnown
 task_outputs_are_known = record {
   normalise = record {
@@ -106,9 +119,12 @@ task_outputs_are_known = record {
   };
   converted = λ done output is. is.1.is_answer;
   nothing_found = λ input done is.
-      is.2.is_answer ∙ is_false is.0 (λ found. is.1.is_found.0 found refl);
+      is.2.is_answer
+      ∙ is_false is.0 (λ found. is.1.is_found.0 found (no_line_no_image (all_found is.1.is_scan.has.found) (sym is.1.is_scan.has.is_text)));
   found = λ input byte later done is.
-      is.2.is_answer ∙ is_true is.0 (is.1.is_found.1 (λ same. absurd (omega (arith, ap length same))));
+      is.2.is_answer
+      ∙ is_true is.0
+      (is.1.is_found.1 (λ none. absurd (omega (arith, ap length (is.1.is_scan.has.is_text ∙ ap (scan_text Lines) none)))));
   at_offset = λ done output is. kernel_output output is.holds.0.output.normal;
 }
 
@@ -164,14 +180,14 @@ same_done outcome one other is also = let same : Ok one ≡ Ok other = sym is �
 pub one_failure : (outcome : Result Done SourceFailure) (one other : SourceFailure) → outcome ≡ Err one → outcome ≡ Err other → one ≡ other
 one_failure outcome one other is also = let same : Err one ≡ Err other = sym is ∙ also in cc
 
-explained : (work : Work) (done : Done) → IsExplainWork (Some BadDataCrc) work → work.outcome ≡ Ok done →
+explained : (work : Work) (done : Done) → IsExplainWork (Some (topic.Cause BadDataCrc)) work → work.outcome ≡ Ok done →
     Writes work.output explanation work.new_output × EndedWith true done
 explained work done (WroteExplanation wrote other ended is same) good =
     (wrote.written, subst (EndedWith true) (same_done work.outcome other done is good) ended)
 explained work done (ExplanationNotWritten error stopped is same) good = absurd (not_failed work.outcome good is)
 explained work done (NoMemoryForExplanation failed same) good = absurd (not_failed work.outcome good failed.outcome)
 
-not_explained : (work : Work) (failed : SourceFailure) → IsExplainWork (Some BadDataCrc) work → work.outcome ≡ Err failed →
+not_explained : (work : Work) (failed : SourceFailure) → IsExplainWork (Some (topic.Cause BadDataCrc)) work → work.outcome ≡ Err failed →
     (failed ≡ source_failure Standard (Call WriteFailed))
     ⊎ ((failed ≡ source_failure Standard (Call OutOfMemory)) × (work.new_output ≡ work.output))
 not_explained work failed (WroteExplanation wrote other ended is same) bad = absurd (not_failed work.outcome is bad)
@@ -180,7 +196,7 @@ not_explained work failed (ExplanationNotWritten error stopped is same) bad =
 not_explained work failed (NoMemoryForExplanation was same) bad =
     inr (one_failure work.outcome failed _ bad was.outcome, was.nothing_written)
 
-reads_nothing : (work : Work) → IsExplainWork (Some BadDataCrc) work → work.new_input ≡ work.input
+reads_nothing : (work : Work) → IsExplainWork (Some (topic.Cause BadDataCrc)) work → work.new_input ≡ work.input
 reads_nothing work (WroteExplanation wrote other ended is same) = same
 reads_nothing work (ExplanationNotWritten error stopped is same) = same
 reads_nothing work (NoMemoryForExplanation was same) = same
@@ -208,23 +224,11 @@ no_notes done old new ended notes =
 abbrev explain_line : List ℕ
 explain_line = codes "explain"
 
-no_cause : (argument : Option (List ℕ)) (cause : Option Cause) → argument ≡ None → IsExplained argument cause → cause ≡ None
+no_cause : (argument : Option (List ℕ)) (cause : Option Topic) → argument ≡ None → IsExplained argument cause → cause ≡ None
 no_cause argument cause is explains = by cause (subst (λ a. IsExplained a cause) is explains) where
-  by : (cause : Option Cause) → IsExplained None cause → cause ≡ None
+  by : (cause : Option Topic) → IsExplained None cause → cause ≡ None
   by None explains = refl
   by (Some given) explains = absurd explains
-
-no_task_explains : (given : Task) → ¬ (codes "explain" ≡ name_of_task given)
-no_task_explains (task.Normalise form) same = other_bytes (codes "explain") (codes "normalise") refl same
-no_task_explains (task.Show presenter) same = other_bytes (codes "explain") (codes "show") refl same
-no_task_explains (task.List format) same = other_bytes (codes "explain") (codes "list") refl same
-no_task_explains (task.Describe format) same = other_bytes (codes "explain") (codes "describe") refl same
-no_task_explains (task.Verify format) same = other_bytes (codes "explain") (codes "verify") refl same
-no_task_explains (task.Check allowed format) same = other_bytes (codes "explain") (codes "check") refl same
-no_task_explains task.Scan same = other_bytes (codes "explain") (codes "scan") refl same
-no_task_explains (task.Update changes form) same = other_bytes (codes "explain") (codes "update") refl same
-no_task_explains (task.Extract selection) same = other_bytes (codes "explain") (codes "extract") refl same
-no_task_explains task.Convert same = other_bytes (codes "explain") (codes "convert") refl same
 
 explain_job : (options : ArgMatches) → Gives (words_of_line explain_line) (codes "explain") options → (job : Job) →
     IsJob (codes "explain") options job → job ≡ Explain None

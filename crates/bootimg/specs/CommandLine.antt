@@ -23,6 +23,8 @@ use Rattle.bi_norm.specs.declared.fit_building.ImageSpec.{ImageSpec}
 use Rattle.bi_norm.specs.declared.fit_building.ImageTexts.{ImageTexts}
 use Rattle.bootimg.specs.CodeWords.{IsCode, text_of_code, four_texts}
 use Rattle.bootimg.specs.ConfigurationWords.{AreConfigurations, AreHashes, IsDefault}
+use Rattle.bootimg.specs.Explanations.{name_of_topic}
+use Rattle.bootimg.specs.declared.explanations.Topic.{Topic}
 use Rattle.bootimg.specs.ConfigurationWords.{IsFirstBadConfiguration}
 use Rattle.bootimg.specs.Words.{listed_words, parts_of}
 use Rattle.bootimg.specs.Numbers.{IsNumber}
@@ -45,6 +47,8 @@ use Rattle.bootimg.specs.declared.command_line.image.ImageFields.{ImageFields}
 use Rattle.bootimg.specs.declared.command_line.image.ImageWord.{ImageWord}
 use Rattle.bootimg.specs.declared.command_line.part.PartSource.{PartSource}
 use Rattle.bootimg.specs.declared.command_line.part.PartSource.TheVariants as part
+use Rattle.bootimg.specs.declared.command_line.show.ShowForm.{ShowForm}
+use Rattle.bootimg.specs.declared.command_line.show.ShowForm.TheVariants as show_form
 use Rattle.bootimg.specs.declared.command_line.source.ComparePlan.{ComparePlan}
 use Rattle.bootimg.specs.declared.command_line.source.ImageSource.{ImageSource}
 use Rattle.bootimg.specs.declared.command_line.source.ImageSource.TheVariants.{Standard, File}
@@ -53,7 +57,13 @@ use Rattle.bi_common.specs.declared.format.Format.TheVariants.{Lines, Json}
 use Rattle.bi_common.specs.Unshown.{IsNameShownAs}
 use Rattle.bi_report.specs.Checking.{kind_word, allows as allows_kind}
 use Rattle.bi_report.specs.declared.check.Allowed.{Allowed}
+use Rattle.bi_report.specs.declared.check.Policy.{Policy}
 use Rattle.bi_report.specs.declared.check.ConcernKind.{ConcernKind}
+use Rattle.bi_values.specs.NameWords.{AreWordsOf}
+use Rattle.bi_values.specs.ValueNames.{value_name_models, words_of_value}
+use Rattle.bi_values.specs.declared.value_form.ValueForm.TheVariants.{Raw}
+use Rattle.bootimg.specs.ValueWords.{form_argument, texts_of_value}
+use Rattle.bootimg.specs.declared.command_line.values.GetPlan.{GetPlan}
 use Rattle.bootimg.specs.declared.command_line.extract.AllRequest.{AllRequest}
 use Rattle.bootimg.specs.declared.command_line.extract.Selected.{Selected}
 use Rattle.bootimg.specs.declared.command_line.extract.Selected.TheVariants.{Part, Image, Config}
@@ -84,7 +94,7 @@ HasLengths (Fit plan) = length plan.payloads.items ≡ length plan.images.items
 abbrev pub HasJobLengths : Job → Type 0
 HasJobLengths (Run plan) = ⊤
 HasJobLengths (Compare plan) = ⊤
-HasJobLengths (Explain cause) = ⊤
+HasJobLengths (Explain topic) = ⊤
 HasJobLengths (Build plan) = HasLengths plan
 
 -- The parts of the image to be built.
@@ -211,6 +221,18 @@ layout_flag options = one_text (found_of options) (codes "layout")
 abbrev pub ShowsLayout : ArgMatches → Bool → Type 0
 ShowsLayout options layout = IsFlag (layout_flag options) layout
 
+-- An image is shown in this way: as JSON with `--json`, and else as a page. The layout of the file
+-- is only on a page.
+abbrev pub IsShown : ArgMatches → ShowForm → Type 0
+IsShown options (show_form.Page presenter) =
+    IsFormat options Lines × ShowsLayout options presenter.layout
+IsShown options show_form.Json = IsFormat options Json × ShowsLayout options false
+
+-- The failure of options that ask for both.
+abbrev pub IsShowFailure : ArgMatches → Failure → Type 0
+IsShowFailure options failure =
+    (failure ≡ BadValue) × IsFormat options Json × ShowsLayout options true
+
 -- ---- images
 
 -- The argument names this image. Without an argument it is standard input, as with `-`.
@@ -265,6 +287,19 @@ IsAllowedBy (Some text) allowed = IsAllowed (listed_words text) allowed
 abbrev pub allow_option : ArgMatches → Option (List ℕ)
 allow_option options = option_of options (codes "allow")
 
+-- The text of the flag `--signed`: `true` or `false`.
+abbrev pub signed_flag : ArgMatches → Option (List ℕ)
+signed_flag options = one_text (found_of options) (codes "signed")
+
+-- Signatures are asked for with `--signed`, and else not.
+abbrev pub AsksForSignatures : ArgMatches → Bool → Type 0
+AsksForSignatures options signed = IsFlag (signed_flag options) signed
+
+-- The options give this policy.
+pub record IsPolicy (options : ArgMatches) (policy : Policy) : Type 0 where
+  pub allowed : IsAllowedBy (allow_option options) policy.allowed
+  pub signed : AsksForSignatures options policy.signed
+
 -- ---- update
 
 -- The text of the flag `--hashes`: `true` or `false`.
@@ -296,17 +331,28 @@ IsChangesFailure options BadValue = (argument : List ℕ)
     × (option_of options (codes "time") ≡ Some argument) × NoneIs (IsNumber argument)
 IsChangesFailure options failure = ⊥
 
+-- ---- get
+
+-- The options of `get` are this plan: the names of the values that the words name, and the words
+-- for each. If the values are written raw there is one.
+pub record IsGetPlan (options : ArgMatches) (plan : GetPlan) : Type 0 where
+  pub form : option_of options (codes "as") ≡ form_argument plan.form
+  pub names : AreWordsOf (values_of options (codes "where")) (value_name_models plan.names.items)
+  pub words : map texts_of_value plan.words.items
+      ≡ map words_of_value (value_name_models plan.names.items)
+  pub one : plan.form ≡ Raw → length plan.names.items ≡ 1
+
 -- ---- explain
 
 -- The argument is the name of this cause.
 abbrev pub NamesCause : List ℕ → Cause → Type 0
 NamesCause argument cause = argument ≡ name_of cause
 
--- The argument is the name of this cause. Without an argument there is no cause.
-abbrev pub IsExplained : Option (List ℕ) → Option Cause → Type 0
+-- The argument names this, a cause or a kind of concerns. Without an argument there is nothing.
+abbrev pub IsExplained : Option (List ℕ) → Option Topic → Type 0
 IsExplained None None = ⊤
-IsExplained (Some argument) (Some cause) = NamesCause argument cause
-IsExplained argument cause = ⊥
+IsExplained (Some argument) (Some topic) = argument ≡ name_of_topic topic
+IsExplained argument topic = ⊥
 
 -- ---- extract
 
@@ -585,27 +631,29 @@ IsFitPlanFailure options failure = ⊥
 -- The name of the command for a task.
 abbrev pub name_of_task : Task → List ℕ
 name_of_task (task.Normalise form) = codes "normalise"
-name_of_task (task.Show presenter) = codes "show"
+name_of_task (task.Show how) = codes "show"
 name_of_task (task.List format) = codes "list"
 name_of_task (task.Describe format) = codes "describe"
 name_of_task (task.Verify format) = codes "verify"
-name_of_task (task.Check allowed format) = codes "check"
-name_of_task task.Scan = codes "scan"
+name_of_task (task.Check policy format) = codes "check"
+name_of_task (task.Scan format) = codes "scan"
 name_of_task (task.Update changes form) = codes "update"
+name_of_task (task.Get plan) = codes "get"
 name_of_task (task.Extract selection) = codes "extract"
 name_of_task task.Convert = codes "convert"
 
 -- These options of the command for a task give this task.
 abbrev pub AreTaskOptions : ArgMatches → Task → Type 0
 AreTaskOptions options (task.Normalise form) = IsForm options form
-AreTaskOptions options (task.Show presenter) = ShowsLayout options presenter.layout
+AreTaskOptions options (task.Show how) = IsShown options how
 AreTaskOptions options (task.List format) = IsFormat options format
 AreTaskOptions options (task.Describe format) = IsFormat options format
 AreTaskOptions options (task.Verify format) = IsFormat options format
-AreTaskOptions options (task.Check allowed format) =
-    IsAllowedBy (allow_option options) allowed × IsFormat options format
-AreTaskOptions options task.Scan = ⊤
+AreTaskOptions options (task.Check policy format) =
+    IsPolicy options policy × IsFormat options format
+AreTaskOptions options (task.Scan format) = IsFormat options format
 AreTaskOptions options (task.Update changes form) = IsChanges options changes × IsForm options form
+AreTaskOptions options (task.Get plan) = IsGetPlan options plan
 AreTaskOptions options (task.Extract selection) =
     SelectsAll options false × IsSelected options selection
 AreTaskOptions options task.Convert = ⊤
@@ -630,13 +678,15 @@ IsBuildPlan name options (Fit plan) = (name ≡ codes "build-fit") × IsFitPlan 
 abbrev pub IsJob : List ℕ → ArgMatches → Job → Type 0
 IsJob name options (Run plan) = IsImagePlan name options plan
 IsJob name options (Compare plan) = (name ≡ codes "compare") × IsComparePlan options plan
-IsJob name options (Explain cause) =
-    (name ≡ codes "explain") × IsExplained (option_of options (codes "cause")) cause
+IsJob name options (Explain topic) =
+    (name ≡ codes "explain") × IsExplained (option_of options (codes "cause")) topic
 IsJob name options (Build plan) = IsBuildPlan name options plan
 
 -- Why the options of the command of this name are not a task.
 pub data IsTaskFailure (name : List ℕ) (options : ArgMatches) (failure : Failure) : Type 0 where
   NotFormed : name ≡ codes "normalise" → IsFormFailure options failure
+      → IsTaskFailure name options failure
+  NotShown : name ≡ codes "show" → IsShowFailure options failure
       → IsTaskFailure name options failure
   NotAllowed : name ≡ codes "check" → IsBadValue (IsAllowedBy (allow_option options)) failure
       → IsTaskFailure name options failure
@@ -644,6 +694,8 @@ pub data IsTaskFailure (name : List ℕ) (options : ArgMatches) (failure : Failu
       → IsTaskFailure name options failure
   NotFormedChanged : name ≡ codes "update" → (changes : Changes) → IsChanges options changes
       → IsFormFailure options failure → IsTaskFailure name options failure
+  NotNamed : name ≡ codes "get" → IsBadValue (IsGetPlan options) failure
+      → IsTaskFailure name options failure
   NotSelected : name ≡ codes "extract" → SelectsAll options false
       → IsSelectionFailure options failure → IsTaskFailure name options failure
   NotPlaced : (task : Task) → IsTask name options task

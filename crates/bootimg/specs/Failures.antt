@@ -1,4 +1,5 @@
-use Rattle.std.specs.Prelude.{◌++◌, ℕ, Bool, true, false, List, [], codes, if◌then◌else◌}
+use Rattle.std.specs.Prelude.{◌≡◌, ◌<◌, ◌++◌, ⊤, ℕ, Bool, true, false, List, [], Some, codes}
+use Rattle.std.specs.Prelude.{slice_get, if◌then◌else◌}
 use Rattle.std.specs.Fmt.{decimal}
 use Rattle.bi_base.specs.declared.fault.Error.{Error}
 use Rattle.bi_base.specs.declared.fault.Error.TheVariants.{Refused, OutOfMemory, ReadFailed}
@@ -8,17 +9,22 @@ use Rattle.bi_common.specs.Shown.{shown_text}
 use Rattle.bi_fit.specs.declared.configurations.ConfigError.TheVariants as list
 use Rattle.bi_commands.specs.declared.extract.ExtractError.{ExtractError}
 use Rattle.bi_commands.specs.declared.extract.ExtractError.TheVariants as extract
+use Rattle.bi_values.specs.declared.get_error.GetError.{GetError}
+use Rattle.bi_values.specs.declared.get_error.GetError.TheVariants as get
 use Rattle.bi_files.specs.declared.saving.SaveError.{SaveError}
 use Rattle.bi_files.specs.declared.saving.SaveError.TheVariants as save
+use Rattle.bootimg.specs.declared.command_line.values.ValueWords.{ValueWords}
 use Rattle.bootimg.specs.declared.command_line.source.ImageSource.{ImageSource}
 use Rattle.bootimg.specs.declared.command_line.source.ImageSource.TheVariants.{Standard, File}
 use Rattle.bootimg.specs.declared.failure.Failure.{Failure}
 use Rattle.bootimg.specs.declared.failure.Failure.TheVariants.{Call, WrongKind, NoPart, NoImage}
 use Rattle.bootimg.specs.declared.failure.Failure.TheVariants.{NoConfig, NoKey, BadList, Missing}
 use Rattle.bootimg.specs.declared.failure.Failure.TheVariants.{NoIndex, NoPayload, NoSelection}
+use Rattle.bootimg.specs.declared.failure.Failure.TheVariants.{NoProperty, NoText, NoNumber}
 use Rattle.bootimg.specs.declared.failure.Failure.TheVariants.{NoChange, BadValue, BadImage}
 use Rattle.bootimg.specs.declared.failure.Failure.TheVariants.{BadConfiguration}
 use Rattle.bootimg.specs.declared.failure.Failure.TheVariants.{CannotOpen, NotWritten}
+use Rattle.bootimg.specs.ValueWords.{value_words_text}
 
 -- The failures of the program, and the text of each (profile of this project).
 
@@ -35,6 +41,26 @@ failure_of (extract.Config (list.Missing index)) = Missing index
 failure_of (extract.Config list.OutOfMemory) = Call OutOfMemory
 failure_of extract.NoIndex = NoIndex
 failure_of extract.NoPayload = NoPayload
+
+-- An error of getting values with these words is this failure: it has the words for the value of the
+-- error.
+abbrev pub IsFailureOfGetting : List ValueWords → GetError → Failure → Type 0
+IsFailureOfGetting words (get.Failed error) failure = failure ≡ Call error
+IsFailureOfGetting words get.WrongKind failure = failure ≡ WrongKind
+IsFailureOfGetting words (get.NoProperty index) failure =
+    (value : ValueWords) × (slice_get words index ≡ Some value) × (failure ≡ NoProperty value)
+IsFailureOfGetting words (get.NoText index) failure =
+    (value : ValueWords) × (slice_get words index ≡ Some value) × (failure ≡ NoText value)
+IsFailureOfGetting words (get.NoNumber index) failure =
+    (value : ValueWords) × (slice_get words index ≡ Some value) × (failure ≡ NoNumber value)
+
+-- If the error names a value, its index is below this number.
+abbrev pub IsIndexOfValue : (number : ℕ) → GetError → Type 0
+IsIndexOfValue number (get.Failed error) = ⊤
+IsIndexOfValue number get.WrongKind = ⊤
+IsIndexOfValue number (get.NoProperty index) = index < number
+IsIndexOfValue number (get.NoText index) = index < number
+IsIndexOfValue number (get.NoNumber index) = index < number
 
 -- The failure of saving an output or payloads.
 abbrev pub failure_to_save : SaveError → Failure
@@ -60,6 +86,9 @@ failure_text BadList = codes "bad list"
 failure_text (Missing index) = codes "missing image " ++ decimal index
 failure_text NoIndex = codes "no such entry"
 failure_text NoPayload = codes "no payload"
+failure_text (NoProperty words) = codes "no such property " ++ value_words_text words
+failure_text (NoText words) = codes "no text " ++ value_words_text words
+failure_text (NoNumber words) = codes "no number " ++ value_words_text words
 failure_text NoSelection = codes "usage: give one of --part, --image, --config"
 failure_text NoChange = codes "usage: give --time or --hashes"
 failure_text BadValue = codes "usage: bad value"

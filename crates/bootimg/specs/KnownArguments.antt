@@ -46,14 +46,11 @@ pub record GivesValues (line name : List ℕ) (values : List ValuesOf) : Type 0 
 abbrev pub default_limit : ValuesOf
 default_limit = with_value (codes "limit") (codes "2147483647")
 
--- What `show` and `scan` have without options, beside `--layout`. They have no `--offset`.
-abbrev pub defaults_without_offset : List ValuesOf
-defaults_without_offset =
-    default_limit ∷ without_value (codes "output") ∷ without_value (codes "file") ∷ []
-
--- What any other command on one image has without options.
+-- What a command on one image has without options.
 abbrev pub only_defaults : List ValuesOf
-only_defaults = with_value (codes "offset") (codes "0") ∷ defaults_without_offset
+only_defaults =
+    with_value (codes "offset") (codes "0") ∷ default_limit ∷ without_value (codes "output")
+    ∷ without_value (codes "file") ∷ []
 
 -- The same of a command that can write JSON.
 abbrev pub defaults_with_json : List ValuesOf
@@ -66,9 +63,7 @@ pub record DefaultsAreKnown : Type 0 where
       ∷ without_value (codes "align")
       ∷ only_defaults)
   pub show : GivesValues (codes "show") (codes "show")
-      (with_value (codes "layout") (codes "false")
-      ∷ without_value (codes "offset")
-      ∷ defaults_without_offset)
+      (with_value (codes "layout") (codes "false") ∷ defaults_with_json)
   pub list : GivesValues (codes "list") (codes "list") defaults_with_json
   pub describe : GivesValues (codes "describe") (codes "describe") defaults_with_json
   pub compare : GivesValues (codes "compare a b") (codes "compare")
@@ -79,15 +74,22 @@ pub record DefaultsAreKnown : Type 0 where
       ∷ [])
   pub verify : GivesValues (codes "verify") (codes "verify") defaults_with_json
   pub check : GivesValues (codes "check") (codes "check")
-      (without_value (codes "allow") ∷ defaults_with_json)
-  pub scan : GivesValues (codes "scan") (codes "scan")
-      (without_value (codes "offset") ∷ defaults_without_offset)
+      (without_value (codes "allow")
+      ∷ with_value (codes "signed") (codes "false")
+      ∷ defaults_with_json)
+  pub scan : GivesValues (codes "scan") (codes "scan") defaults_with_json
   pub update : GivesValues (codes "update") (codes "update")
       (without_value (codes "time")
       ∷ with_value (codes "hashes") (codes "false")
       ∷ with_value (codes "external") (codes "false")
       ∷ without_value (codes "align")
       ∷ only_defaults)
+  pub get : GivesValues (codes "get a load") (codes "get")
+      (without_value (codes "as")
+      ∷ with_value (codes "offset") (codes "0")
+      ∷ default_limit
+      ∷ without_value (codes "output")
+      ∷ [])
   pub extract : GivesValues (codes "extract") (codes "extract")
       (without_value (codes "part")
       ∷ without_value (codes "image")
@@ -126,17 +128,14 @@ pub record DefaultsAreKnown : Type 0 where
   pub explain : GivesValues (codes "explain") (codes "explain")
       (without_value (codes "output") ∷ without_value (codes "cause") ∷ [])
 
--- What `show` and `scan` have with `--limit 64 -o out in`.
-abbrev pub limit_output_and_file : List ValuesOf
-limit_output_and_file =
-    with_value (codes "limit") (codes "64")
+-- What a command on one image has with `--offset 7 --limit 64 -o out in`, and with `--json` too.
+abbrev pub offset_and_others : List ValuesOf
+offset_and_others =
+    with_value (codes "offset") (codes "7")
+    ∷ with_value (codes "limit") (codes "64")
     ∷ with_value (codes "output") (codes "out")
     ∷ with_value (codes "file") (codes "in")
     ∷ []
-
--- What any other command on one image has with `--offset 7` too, and with `--json` too.
-abbrev pub offset_and_others : List ValuesOf
-offset_and_others = with_value (codes "offset") (codes "7") ∷ limit_output_and_file
 
 abbrev pub json_and_others : List ValuesOf
 json_and_others = with_value (codes "json") (codes "true") ∷ offset_and_others
@@ -151,8 +150,9 @@ pub record OptionsAreKnown : Type 0 where
       ∷ offset_and_others)
   pub normalize : GivesValues (codes "normalize in") (codes "normalise")
       (with_value (codes "file") (codes "in") ∷ [])
-  pub show : GivesValues (codes "show --layout --limit 64 -o out in") (codes "show")
-      (with_value (codes "layout") (codes "true") ∷ limit_output_and_file)
+  pub show : GivesValues (codes "show --layout --json --offset 7 --limit 64 -o out in")
+      (codes "show")
+      (with_value (codes "layout") (codes "true") ∷ json_and_others)
   pub list : GivesValues (codes "list --json --offset 7 --limit 64 --output out in") (codes "list")
       json_and_others
   pub describe : GivesValues (codes "describe --json --offset=7 --limit=64 -o out in")
@@ -173,10 +173,14 @@ pub record OptionsAreKnown : Type 0 where
       (codes "verify")
       json_and_others
   pub check : GivesValues
-      (codes "check --allow weak-hash,missing --json --offset 7 --limit 64 -o out in")
+      (codes
+      "check --allow weak-hash,missing --signed --json --offset 7 --limit 64 -o out in")
       (codes "check")
-      (with_value (codes "allow") (codes "weak-hash,missing") ∷ json_and_others)
-  pub scan : GivesValues (codes "scan --limit 64 -o out in") (codes "scan") limit_output_and_file
+      (with_value (codes "allow") (codes "weak-hash,missing")
+      ∷ with_value (codes "signed") (codes "true")
+      ∷ json_and_others)
+  pub scan : GivesValues (codes "scan --json --offset 7 --limit 64 -o out in") (codes "scan")
+      json_and_others
   pub update : GivesValues
       (codes "update --time 5 --hashes --external --align 8 --offset 7 --limit 64 -o out in")
       (codes "update")
@@ -184,6 +188,10 @@ pub record OptionsAreKnown : Type 0 where
       ∷ with_value (codes "hashes") (codes "true")
       ∷ with_value (codes "external") (codes "true")
       ∷ with_value (codes "align") (codes "8")
+      ∷ offset_and_others)
+  pub get : GivesValues (codes "get --as raw --offset 7 --limit 64 -o out in / x load") (codes "get")
+      (with_value (codes "as") (codes "raw")
+      ∷ (codes "where", codes "/" ∷ codes "x" ∷ codes "load" ∷ [])
       ∷ offset_and_others)
   pub extract : GivesValues
       (codes
@@ -253,14 +261,16 @@ pub record MistakesAreKnown : Type 0 where
       ≡ MissingRequiredArgument ∷ []
   pub one_image : fault_of program_app (words_of_line (codes "compare a"))
       ≡ MissingRequiredArgument ∷ []
+  pub no_image_of_values : fault_of program_app (words_of_line (codes "get"))
+      ≡ MissingRequiredArgument ∷ []
+  pub no_values : fault_of program_app (words_of_line (codes "get a"))
+      ≡ MissingRequiredArgument ∷ []
   pub two_files : fault_of program_app (words_of_line (codes "list a b")) ≡ UnknownArgument ∷ []
   pub other_option : fault_of program_app (words_of_line (codes "list --external"))
       ≡ UnknownArgument ∷ []
   pub no_json : fault_of program_app (words_of_line (codes "convert --json"))
       ≡ UnknownArgument ∷ []
-  pub no_offset : fault_of program_app (words_of_line (codes "scan --offset 0"))
-      ≡ UnknownArgument ∷ []
-  pub no_offset_of_page : fault_of program_app (words_of_line (codes "show --offset 0"))
+  pub no_offset : fault_of program_app (words_of_line (codes "compare --offset 0 a b"))
       ≡ UnknownArgument ∷ []
   pub no_layout : fault_of program_app (words_of_line (codes "list --layout"))
       ≡ UnknownArgument ∷ []

@@ -22,7 +22,11 @@ use Rattle.bi_legacy.specs.KnownFiles.{kernel_file_with_rest}
 use Rattle.bi_legacy.specs.KnownImages.{kernel_file, multi_file}
 use Rattle.bi_norm.specs.KnownComparisons.{file_without_magic, no_magic}
 use Rattle.bootimg.specs.ComparedFiles.{IsCompareFailure, IsCompareOutput}
-use Rattle.bootimg.specs.Explanations.{all_causes, explain_text, line_of_cause}
+use Rattle.bootimg.specs.Explanations.{all_causes, all_kinds, explain_text, line_of_cause}
+use Rattle.bootimg.specs.Explanations.{line_of_kind}
+use Rattle.bootimg.specs.declared.explanations.Topic.TheVariants as topic
+use Rattle.bi_report.specs.Checking.{kind_word}
+use Rattle.bi_report.specs.declared.check.ConcernKind.TheVariants as kind
 use Rattle.bootimg.specs.KnownRequests.{IsFileNamed}
 use Rattle.bootimg.specs.KnownRuns.{compared_plan}
 use Rattle.bootimg.specs.Offsets.{HasImageAt, promise_at}
@@ -147,22 +151,35 @@ cause_names =
     ∷ codes "TooLarge" ∷ codes "NoCodeName" ∷ codes "TooManyParts" ∷ codes "EmptyPart"
     ∷ codes "BadField" ∷ codes "Unsupported" ∷ []
 
--- What `explain` writes for a cause is one line. Without a cause it writes a line for each, which
--- begins with its name.
+-- The words for the kinds of concerns, in the order of the manual page.
+abbrev pub kind_names : List (List ℕ)
+kind_names =
+    codes "bad-hash" ∷ codes "skipped-hash" ∷ codes "unhashed" ∷ codes "weak-hash"
+    ∷ codes "bad-list" ∷ codes "missing" ∷ codes "unsigned" ∷ codes "no-nodes"
+    ∷ codes "no-images" ∷ codes "uncovered" ∷ codes "foreign" ∷ codes "strings"
+    ∷ codes "unit-address" ∷ codes "bad-default" ∷ codes "trailing" ∷ []
+
+-- What `explain` writes for a cause, or for a kind of concerns, is one line. Without an argument it
+-- writes a line for each of both, which begins with its name.
 pub record ExplanationsAreKnown : Type 0 where
-  pub one : explain_text (Some BadDataCrc)
+  pub one : explain_text (Some (topic.Cause BadDataCrc))
       ≡ lines
       (codes "The data checksum of a legacy image is wrong: fetch the image again."
       ∷ [])
-  pub other : explain_text (Some BadMagic)
+  pub other : explain_text (Some (topic.Cause BadMagic))
       ≡ codes "The file is not of a kind that the command reads: decompress it if it is "
       ++ (codes "compressed, or remove what is before the image. convert reads only legacy "
       ++ codes "images.\n")
   pub line : line_of_cause BadDataCrc
       ≡ codes "BadDataCrc: The data checksum of a legacy image is wrong: "
       ++ codes "fetch the image again.\n"
+  pub concern : explain_text (Some (topic.Kind kind.Foreign))
+      ≡ codes "A signature of a configuration covers a node that the configuration does not "
+      ++ (codes "use. A newer U-Boot makes the list of nodes itself, and then finds the signature "
+      ++ codes "wrong: sign the image again with mkimage -F -k.\n")
   pub names : map name_of all_causes ≡ cause_names
+  pub kinds : map kind_word all_kinds ≡ kind_names
   pub all : explain_text None
       ≡ codes "Truncated: The file ends before something that it must hold, for example before "
       ++ (codes "the end of the data of a legacy image: copy it again, as a whole.\n"
-      ++ flat_map line_of_cause (drop 1 all_causes))
+      ++ (flat_map line_of_cause (drop 1 all_causes) ++ flat_map line_of_kind all_kinds))

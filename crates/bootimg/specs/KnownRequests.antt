@@ -1,5 +1,5 @@
 use Rattle.std.specs.Prelude.{◌≡◌, ◌++◌, ℕ, true, false, List, [], ◌∷◌}
-use Rattle.std.specs.Prelude.{None, Some, codes}
+use Rattle.std.specs.Prelude.{None, Some, codes, map}
 use Rattle.bi_common.specs.declared.format.Format.TheVariants.{Lines, Json}
 use Rattle.bi_report.specs.KnownConcerns.{allowed_words}
 use Rattle.bi_report.specs.declared.check.Allowed.{Allowed}
@@ -12,14 +12,20 @@ use Rattle.bi_fit.specs.declared.key.Key.{Key}
 use Rattle.bi_fit.specs.declared.key.Key.TheVariants.{Fdt}
 use Rattle.bi_legacy.specs.declared.fields.Fields.{Fields}
 use Rattle.bi_norm.specs.declared.fit_building.ImageSpec.{ImageSpec}
+use Rattle.bi_values.specs.KnownValues.{load_and_default}
+use Rattle.bi_values.specs.ValueNames.{FieldAt, ValueNameModel, value_name_models}
+use Rattle.bi_values.specs.declared.value_form.ValueForm.{ValueForm}
+use Rattle.bi_values.specs.declared.value_form.ValueForm.TheVariants as value_form
+use Rattle.bi_values.specs.declared.value_name.HeaderField.TheVariants as field
 use Rattle.clap.specs.declared.parser.matches.ArgMatches.{ArgMatches}
-use Rattle.bootimg.specs.CommandLine.{AreEscaped, ChangesHashes, Gives, IsAllowedBy, IsBuildPlan}
+use Rattle.bootimg.specs.CommandLine.{AreEscaped, AsksForSignatures, ChangesHashes, Gives, IsAllowedBy, IsBuildPlan}
 use Rattle.bootimg.specs.CommandLine.{IsChanges, IsChangesFailure, IsComparePlan, IsFields, IsForm}
 use Rattle.bootimg.specs.CommandLine.{IsFormat, IsImageSource, IsImageText, IsJob, IsPartSource}
-use Rattle.bootimg.specs.CommandLine.{IsQuiet, IsSelected, IsSelectionFailure, NoneIs}
+use Rattle.bootimg.specs.CommandLine.{IsGetPlan, IsQuiet, IsSelected, IsSelectionFailure, NoneIs}
 use Rattle.bootimg.specs.CommandLine.{IsAllFailure, IsAllRequest, IsNoneGiven, SelectsAll}
-use Rattle.bootimg.specs.CommandLine.{SelectsDefault, ShowsLayout, given_offset}
+use Rattle.bootimg.specs.CommandLine.{IsShown, SelectsDefault, ShowsLayout, given_offset}
 use Rattle.bootimg.specs.Numbers.{IsNumber}
+use Rattle.bootimg.specs.ValueWords.{texts_of_value}
 use Rattle.bootimg.specs.declared.command_line.Job.TheVariants.{Compare, Explain}
 use Rattle.bootimg.specs.declared.command_line.Task.TheVariants as task
 use Rattle.bootimg.specs.declared.command_line.build.BuildPlan.{BuildPlan}
@@ -27,9 +33,11 @@ use Rattle.bootimg.specs.declared.command_line.build.BuildPlan.TheVariants as bu
 use Rattle.bootimg.specs.declared.command_line.extract.AllRequest.{AllRequest}
 use Rattle.bootimg.specs.declared.command_line.extract.Selected.{Selected}
 use Rattle.bootimg.specs.declared.command_line.extract.Selected.TheVariants as select
+use Rattle.bootimg.specs.declared.command_line.values.GetPlan.{GetPlan}
 use Rattle.bootimg.specs.declared.command_line.image.ImageWord.{ImageWord}
 use Rattle.bootimg.specs.declared.command_line.part.PartSource.{PartSource}
 use Rattle.bootimg.specs.declared.command_line.part.PartSource.TheVariants as part
+use Rattle.bootimg.specs.declared.command_line.show.ShowForm.TheVariants as show_form
 use Rattle.bootimg.specs.declared.command_line.source.ComparePlan.{ComparePlan}
 use Rattle.bootimg.specs.declared.command_line.source.ImageSource.{ImageSource}
 use Rattle.bootimg.specs.declared.command_line.source.ImageSource.TheVariants.{Standard, File}
@@ -74,10 +82,18 @@ pub record FlagsAreKnown : Type 0 where
       (λ options. IsOnlyOne (ShowsLayout options) true)
   pub no_layout : HoldsFor (codes "show") (codes "show")
       (λ options. IsOnlyOne (ShowsLayout options) false)
+  pub json_of_page : HoldsFor (codes "show --json") (codes "show")
+      (λ options. IsOnlyOne (IsShown options) show_form.Json)
+  pub layout_in_json : HoldsFor (codes "show --layout --json") (codes "show")
+      (λ options. NoneIs (IsShown options))
   pub quiet : HoldsFor (codes "compare --quiet a b") (codes "compare")
       (λ options. IsOnlyOne (IsQuiet options) true)
   pub not_quiet : HoldsFor (codes "compare a b") (codes "compare")
       (λ options. IsOnlyOne (IsQuiet options) false)
+  pub signed : HoldsFor (codes "check --signed") (codes "check")
+      (λ options. IsOnlyOne (AsksForSignatures options) true)
+  pub not_signed : HoldsFor (codes "check") (codes "check")
+      (λ options. IsOnlyOne (AsksForSignatures options) false)
   pub hashes : HoldsFor (codes "update --hashes") (codes "update")
       (λ options. IsOnlyOne (ChangesHashes options) true)
   pub no_hashes : HoldsFor (codes "update") (codes "update")
@@ -139,10 +155,10 @@ pub record ImageOffsetsAreKnown : Type 0 where
       (λ options. IsOnlyOne (IsNumber (given_offset options)) 74)
   pub not_given : HoldsFor (codes "list in") (codes "list")
       (λ options. IsOnlyOne (IsNumber (given_offset options)) 0)
-  pub of_show : HoldsFor (codes "show in") (codes "show")
-      (λ options. IsOnlyOne (IsNumber (given_offset options)) 0)
-  pub of_scan : HoldsFor (codes "scan in") (codes "scan")
-      (λ options. IsOnlyOne (IsNumber (given_offset options)) 0)
+  pub of_show : HoldsFor (codes "show --offset 0x10 in") (codes "show")
+      (λ options. IsOnlyOne (IsNumber (given_offset options)) 16)
+  pub of_scan : HoldsFor (codes "scan --offset 74 in") (codes "scan")
+      (λ options. IsOnlyOne (IsNumber (given_offset options)) 74)
   pub bad : HoldsFor (codes "list --offset x in") (codes "list")
       (λ options. NoneIs (IsNumber (given_offset options)))
 
@@ -165,6 +181,10 @@ pub record AllowedWordsAreKnown : Type 0 where
   pub no_value : (allowed : Allowed) → IsAllowedBy None allowed → allowed_words allowed ≡ []
   pub two : (allowed : Allowed) → IsAllowedBy (Some (codes "trailing,weak-hash")) allowed
       → allowed_words allowed ≡ codes "weak-hash" ∷ codes "trailing" ∷ []
+  pub about_signatures : (allowed : Allowed)
+      → IsAllowedBy (Some (codes "unit-address,skipped-hash,uncovered")) allowed
+      → allowed_words allowed
+      ≡ codes "skipped-hash" ∷ codes "uncovered" ∷ codes "unit-address" ∷ []
   pub other_word : NoneIs (IsAllowedBy (Some (codes "weak-hash,good")))
   pub empty_word : NoneIs (IsAllowedBy (Some []))
 
@@ -180,6 +200,38 @@ pub record ChangesAreKnown : Type 0 where
       (λ options. NoneIs (IsChanges options) × IsOnlyOne (IsChangesFailure options) NoChange)
   pub bad_time : HoldsFor (codes "update --time x") (codes "update")
       (λ options. NoneIs (IsChanges options) × IsOnlyOne (IsChangesFailure options) BadValue)
+
+-- ---- get
+
+-- The plan has this form, the names of these values, and these words for each of them.
+pub record IsPlanOf (form : ValueForm) (names : List ValueNameModel)
+    (words : List (List (List ℕ))) (plan : GetPlan) : Type 0
+  where
+    pub form_is : plan.form ≡ form
+    pub names_are : value_name_models plan.names.items ≡ names
+    pub words_are : map texts_of_value plan.words.items ≡ words
+
+-- What the options of `get` mean, and options that mean nothing.
+pub record GetPlansAreKnown : Type 0 where
+  pub two : HoldsFor (codes "get in /images/kernel-1 load /configurations default") (codes "get")
+      (λ options. (plan : GetPlan) → IsGetPlan options plan
+      → IsPlanOf value_form.Shown load_and_default
+      ((codes "/images/kernel-1" ∷ codes "load" ∷ [])
+      ∷ (codes "/configurations" ∷ codes "default" ∷ []) ∷ [])
+      plan)
+  pub text : HoldsFor (codes "get --as text in load name") (codes "get")
+      (λ options. (plan : GetPlan) → IsGetPlan options plan
+      → IsPlanOf value_form.Text (FieldAt field.Load ∷ FieldAt field.Name ∷ [])
+      ((codes "load" ∷ []) ∷ (codes "name" ∷ []) ∷ []) plan)
+  pub number : HoldsFor (codes "get --as number in load name") (codes "get")
+      (λ options. (plan : GetPlan) → IsGetPlan options plan → plan.form ≡ value_form.Number)
+  pub raw : HoldsFor (codes "get --as raw in load") (codes "get")
+      (λ options. (plan : GetPlan) → IsGetPlan options plan → plan.form ≡ value_form.Raw)
+  pub two_raw : HoldsFor (codes "get --as raw in load name") (codes "get")
+      (λ options. NoneIs (IsGetPlan options))
+  pub other_form : HoldsFor (codes "get --as shown in load") (codes "get")
+      (λ options. NoneIs (IsGetPlan options))
+  pub no_name : HoldsFor (codes "get in /") (codes "get") (λ options. NoneIs (IsGetPlan options))
 
 -- ---- extract
 

@@ -17,6 +17,7 @@ use Rattle.bootimg.specs.Failures.{failure_of}
 use Rattle.bootimg.specs.Runs.{failure_line, note_line, alignment_line, positions_line, IsEnd}
 use Rattle.bootimg.specs.Runs.{IsMistake, IsRejection, IsTextRun, Run}
 use Rattle.bootimg.specs.Tasks.{status_of}
+use Rattle.bootimg.specs.declared.command_line.values.ValueWords.TheVariants.{Property, Field}
 use Rattle.bootimg.specs.declared.command_line.source.ComparePlan.{ComparePlan}
 use Rattle.bootimg.specs.declared.command_line.source.ImageSource.{ImageSource}
 use Rattle.bootimg.specs.declared.command_line.source.ImageSource.TheVariants.{Standard, File}
@@ -25,6 +26,7 @@ use Rattle.bootimg.specs.declared.jobs.SourceFailure.{SourceFailure}
 use Rattle.bootimg.specs.declared.failure.Failure.TheVariants.{Call, NoSelection, NoChange}
 use Rattle.bootimg.specs.declared.failure.Failure.TheVariants.{BadValue, BadImage, CannotOpen}
 use Rattle.bootimg.specs.declared.failure.Failure.TheVariants.{BadConfiguration}
+use Rattle.bootimg.specs.declared.failure.Failure.TheVariants.{NoProperty, NoText, NoNumber}
 use Rattle.bootimg.specs.declared.failure.Failure.TheVariants.{NotWritten}
 use Rattle.bootimg.specs.declared.tasks.Done.{Done}
 
@@ -101,6 +103,18 @@ pub record ExtractLinesAreKnown : Type 0 where
       ≡ codes "bootimg: out of memory\n"
   pub no_index : line_of_extracting extract.NoIndex ≡ codes "bootimg: r1: no such entry\n"
   pub no_payload : line_of_extracting extract.NoPayload ≡ codes "bootimg: r1: no payload\n"
+
+-- So has each error of getting values, with the words for the value.
+pub record ValueLinesAreKnown : Type 0 where
+  pub no_property : line_of_failure
+      (NoProperty (Property (lent (codes "/images/none")) (lent (codes "x"))))
+      ≡ codes "bootimg: r1: no such property /images/none x\n"
+  pub no_text : line_of_failure (NoText (Property (lent (codes "/")) (lent (codes "a%20b"))))
+      ≡ codes "bootimg: r1: no text / a%20b\n"
+  pub no_number : line_of_failure (NoNumber (Field (lent (codes "name"))))
+      ≡ codes "bootimg: r1: no number name\n"
+  pub of_input : failure_line Standard (NoProperty (Property (lent (codes "/")) (lent (codes "x"))))
+      ≡ codes "bootimg: no such property / x\n"
 
 -- The line of an error of comparing `a` and `b`.
 abbrev pub compared_plan : ComparePlan

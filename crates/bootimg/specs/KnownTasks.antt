@@ -23,27 +23,40 @@ use Rattle.bi_fit.specs.KnownJudgements.{good_crc, short_crc}
 use Rattle.bi_fit.specs.KnownKept.{kept}
 use Rattle.bi_hash.specs.declared.algo.Algo.TheVariants.{Sha256}
 use Rattle.bi_legacy.specs.KnownFiles.{kernel_file_with_rest}
-use Rattle.bi_legacy.specs.KnownImages.{multi_file, multi_image}
+use Rattle.bi_legacy.specs.KnownImages.{kernel_file, multi_file, multi_image}
 use Rattle.bi_legacy.specs.Meaning.{image_of}
 use Rattle.bi_legacy.specs.Text.{legacy_text}
 use Rattle.bi_norm.specs.KnownBuildFaults.{head_like}
 use Rattle.bi_norm.specs.KnownBuiltTexts.{kernel_and_ramdisk}
+use Rattle.bi_report.specs.declared.check.Allowed.{Allowed}
+use Rattle.bi_report.specs.declared.check.Policy.{Policy}
 use Rattle.bi_report.specs.Checking.{nothing_allowed}
 use Rattle.bi_report.specs.KnownOutputs.{bad_lines, file_with_hash, file_without_hash}
 use Rattle.bi_report.specs.KnownOutputs.{good_lines, kernel_object}
-use Rattle.bi_report.specs.KnownScans.{scan_limits, two_images, two_lines}
+use Rattle.bi_report.specs.KnownScans.{scan_limits, two_images, two_lines, two_objects}
+use Rattle.bi_show.specs.KnownObjects.{page_object}
 use Rattle.bi_show.specs.KnownPages.{kernel_page, multi_page}
+use Rattle.bi_values.specs.ValueNames.{FieldAt, value_name_models}
+use Rattle.bi_values.specs.declared.get_error.GetError.TheVariants as get
+use Rattle.bi_values.specs.declared.value_form.ValueForm.TheVariants.{Shown, Number}
+use Rattle.bi_values.specs.declared.value_name.HeaderField.TheVariants as field
 use Rattle.bootimg.specs.KnownInputs.{two_files, without_files}
 use Rattle.bootimg.specs.KnownWorks.{HasAnswer, Makes, parts_a_and_b}
 use Rattle.bootimg.specs.Runs.{IsBuildWork, IsBuiltWork, Work, build_promise, source_failure}
-use Rattle.bootimg.specs.Tasks.{TaskDone}
+use Rattle.bootimg.specs.Failures.{IsFailureOfGetting}
+use Rattle.bootimg.specs.Tasks.{TaskDone, TaskFails}
 use Rattle.bootimg.specs.declared.command_line.Task.TheVariants as task
 use Rattle.bootimg.specs.declared.command_line.build.BuildPlan.TheVariants.{Legacy, Fit}
 use Rattle.bootimg.specs.declared.command_line.build.FitPlan.{FitPlan}
 use Rattle.bootimg.specs.declared.command_line.build.LegacyPlan.{LegacyPlan}
 use Rattle.bootimg.specs.declared.command_line.extract.Selected.TheVariants as selected
+use Rattle.bootimg.specs.declared.command_line.show.ShowForm.TheVariants as show_form
+use Rattle.bootimg.specs.declared.command_line.values.GetPlan.{GetPlan}
+use Rattle.bootimg.specs.declared.command_line.values.ValueWords.{ValueWords}
 use Rattle.bootimg.specs.declared.command_line.source.ImageSource.TheVariants.{Standard, File}
-use Rattle.bootimg.specs.declared.failure.Failure.TheVariants.{Call, CannotOpen}
+use Rattle.bootimg.specs.declared.failure.Failure.{Failure}
+use Rattle.bootimg.specs.declared.failure.Failure.TheVariants.{Call, CannotOpen, WrongKind}
+use Rattle.bootimg.specs.declared.failure.Failure.TheVariants.{NoProperty, NoText, NoNumber}
 use Rattle.bootimg.specs.declared.tasks.Done.{Done}
 
 -- How tasks on small files end, and what is built of small parts, by which a reader can judge the
@@ -55,15 +68,21 @@ use Rattle.bootimg.specs.declared.tasks.Done.{Done}
 abbrev pub without_notes : (good : Bool) → Done
 without_notes good = record { good = good; kept = kept None 0 }
 
+-- These kinds are allowed, and signatures are not asked for.
+abbrev pub policy_of_kinds : Allowed → Policy
+policy_of_kinds allowed = record { allowed = allowed; signed = false }
+
 -- What each task makes of a small file, and how it ends: with the answer that its output gives. A
 -- text that is normalised or updated may lose the alignment of its payloads.
 pub record TaskEndsAreKnown : Type 0 where
   pub normalise : TaskDone (task.Normalise External) widest
       (record { good = true; kept = kept (Some 4096) 0 }) (three_aligned 4096 4096) three_external
-  pub layout : TaskDone (task.Show (record { layout = true })) widest (without_notes true)
-      kernel_file_with_rest kernel_page
-  pub no_layout : TaskDone (task.Show (record { layout = false })) widest (without_notes true)
-      multi_file (multi_page [])
+  pub layout : TaskDone (task.Show (show_form.Page (record { layout = true }))) widest
+      (without_notes true) kernel_file_with_rest kernel_page
+  pub no_layout : TaskDone (task.Show (show_form.Page (record { layout = false }))) widest
+      (without_notes true) multi_file (multi_page [])
+  pub page_in_json : TaskDone (task.Show show_form.Json) widest (without_notes true)
+      kernel_file_with_rest page_object
   pub list : TaskDone (task.List Json) widest (without_notes true) kernel_file_with_rest
       kernel_object
   pub describe : TaskDone (task.Describe Lines) widest (without_notes true) smallest_text
@@ -75,15 +94,22 @@ pub record TaskEndsAreKnown : Type 0 where
       (file_with_hash short_crc)
       bad_lines
   pub bad_answer : HasAnswer (task.Verify Lines) (file_with_hash short_crc) false
-  pub check : TaskDone (task.Check nothing_allowed Json) widest (without_notes true) smallest_text
+  pub check : TaskDone (task.Check (policy_of_kinds nothing_allowed) Json) widest
+      (without_notes true) smallest_text
       (lines (codes "{\"concerns\":[]}" ∷ []))
-  pub concern : TaskDone (task.Check nothing_allowed Lines) widest (without_notes false)
+  pub concern : TaskDone (task.Check (policy_of_kinds nothing_allowed) Lines) widest
+      (without_notes false)
       file_without_hash
       (lines (codes "unhashed a" ∷ []))
-  pub allowed : TaskDone (task.Check (record nothing_allowed { unhashed = true }) Lines) widest
-      (without_notes true) file_without_hash []
-  pub scan : TaskDone task.Scan (scan_limits 162) (without_notes true) two_images two_lines
-  pub nothing_found : TaskDone task.Scan (scan_limits 162) (without_notes false) (codes "hello") []
+  pub allowed :
+      TaskDone
+      (task.Check (policy_of_kinds (record nothing_allowed { unhashed = true })) Lines)
+      widest (without_notes true) file_without_hash []
+  pub scan : TaskDone (task.Scan Lines) (scan_limits 162) (without_notes true) two_images two_lines
+  pub scan_in_json : TaskDone (task.Scan Json) (scan_limits 162) (without_notes true) two_images
+      two_objects
+  pub nothing_found : TaskDone (task.Scan Lines) (scan_limits 162) (without_notes false)
+      (codes "hello") []
   pub update : (form : Form)
       → Makes (task.Update (only_time 5) form) multi_file
       (legacy_text (record multi_image { time = 5 }))
@@ -92,9 +118,34 @@ pub record TaskEndsAreKnown : Type 0 where
       (legacy_text (record multi_image { time = 5 }))
   pub lost_alignment : TaskDone (task.Update no_changes External) widest
       (record { good = true; kept = kept (Some 4096) 0 }) (three_aligned 4096 4096) three_external
+  pub get : (plan : GetPlan) → plan.form ≡ Shown
+      → value_name_models plan.names.items ≡ FieldAt field.Load ∷ FieldAt field.Name ∷ []
+      → Makes (task.Get plan) kernel_file (codes "0x00008000\nk\n")
+  pub got : (plan : GetPlan) → plan.form ≡ Shown
+      → value_name_models plan.names.items ≡ FieldAt field.Load ∷ FieldAt field.Name ∷ []
+      → TaskDone (task.Get plan) widest (without_notes true) kernel_file
+      (codes "0x00008000\nk\n")
   pub extract : Makes (task.Extract (selected.Part 1)) multi_file (codes "abc")
   pub extracted : TaskDone (task.Extract (selected.Part 1)) widest (without_notes true) multi_file
       (codes "abc")
+
+-- The failures of getting values: those of the calls behind them, and of a value one with its words.
+pub record GetFailuresAreKnown : Type 0 where
+  pub failed : (failure : Failure) → IsFailureOfGetting [] (get.Failed OutOfMemory) failure
+      → failure ≡ Call OutOfMemory
+  pub wrong_kind : (failure : Failure) → IsFailureOfGetting [] get.WrongKind failure
+      → failure ≡ WrongKind
+  pub no_property : (one other : ValueWords) (failure : Failure)
+      → IsFailureOfGetting (one ∷ other ∷ []) (get.NoProperty 1) failure
+      → failure ≡ NoProperty other
+  pub no_text : (one other : ValueWords) (failure : Failure)
+      → IsFailureOfGetting (one ∷ other ∷ []) (get.NoText 0) failure → failure ≡ NoText one
+  pub no_words : (failure : Failure) → ¬ (IsFailureOfGetting [] (get.NoText 0) failure)
+  pub no_number : (plan : GetPlan) (one other : ValueWords) (failure : Failure)
+      → plan.form ≡ Number
+      → value_name_models plan.names.items ≡ FieldAt field.Load ∷ FieldAt field.Name ∷ []
+      → plan.words.items ≡ one ∷ other ∷ [] → TaskFails (task.Get plan) widest kernel_file failure
+      → (failure ≡ NoNumber other) ⊎ (failure ≡ Call OutOfMemory)
 
 -- ---- building
 

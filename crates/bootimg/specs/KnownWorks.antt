@@ -13,6 +13,7 @@ use Rattle.bi_commands.specs.declared.extract.Select.TheVariants as select
 use Rattle.bi_commands.specs.declared.parts.Part.{Part}
 use Rattle.bi_commands.specs.declared.parts.Part.TheVariants.{Bytes, Length}
 use Rattle.bi_common.specs.KnownWords.{lines}
+use Rattle.bi_common.specs.declared.format.Format.TheVariants.{Lines}
 use Rattle.bootimg.specs.KnownWords.{words_of_line}
 use Rattle.bi_files.specs.declared.saving.SaveError.TheVariants as save
 use Rattle.bi_files.specs.Files.{FileStep, KnownFiles, NotOpened}
@@ -26,6 +27,7 @@ use Rattle.bi_norm.specs.Converting.{fit_of}
 use Rattle.bi_norm.specs.KnownComparisons.{file_without_magic, no_magic}
 use Rattle.bootimg.specs.CommandLine.{HasJobLengths, sources_of}
 use Rattle.bootimg.specs.Explanations.{explain_text}
+use Rattle.bootimg.specs.declared.explanations.Topic.TheVariants as topic
 use Rattle.bootimg.specs.Failures.{failure_to_save}
 use Rattle.bootimg.specs.KnownInputs.{one_file, two_files, without_files}
 use Rattle.bootimg.specs.Runs.{ArePartsRead, AreFirstRead, IsAllWork, IsExplainWork, IsHeldFailure}
@@ -70,16 +72,16 @@ pub record Makes (given : Task) (input output : List ℕ) : Type 0 where
   pub text : (other : List ℕ) → TaskText given widest input other → other ≡ output
 
 -- The output of `normalise` and that of `convert`, and their answers. `scan` has a good answer if
--- it writes something.
+-- it writes a line.
 pub record TaskOutputsAreKnown : Type 0 where
   pub normalise : Makes (task.Normalise Embedded) kernel_file_with_rest kernel_file
   pub normalised : HasAnswer (task.Normalise Embedded) kernel_file_with_rest true
   pub convert : Makes task.Convert kernel_file_with_rest (fit_text Embedded (fit_of kernel_image))
   pub converted : HasAnswer task.Convert kernel_file_with_rest true
   pub nothing_found : (input : List ℕ) (done : Done)
-      → TaskDone task.Scan widest done input [] → done.good ≡ false
+      → TaskDone (task.Scan Lines) widest done input [] → done.good ≡ false
   pub found : (input : List ℕ) (byte : ℕ) (later : List ℕ) (done : Done)
-      → TaskDone task.Scan widest done input (byte ∷ later) → done.good ≡ true
+      → TaskDone (task.Scan Lines) widest done input (byte ∷ later) → done.good ≡ true
   pub at_offset : (done : Done) (output : List ℕ)
       → (plan_promise (record { task = task.Normalise Embedded; offset = 3; source = Standard })
       widest).is_output done (codes "xyz" ++ kernel_file_with_rest) output
@@ -110,15 +112,16 @@ explanation =
 
 -- It writes this and reads nothing, or memory runs out, or the output fails.
 pub record ExplainWorkIsKnown : Type 0 where
-  pub done : (work : Work) (done : Done) → IsExplainWork (Some BadDataCrc) work
+  pub done : (work : Work) (done : Done) → IsExplainWork (Some (topic.Cause BadDataCrc)) work
       → work.outcome ≡ Ok done
       → Writes work.output explanation work.new_output × (done.good ≡ true)
-  pub failed : (work : Work) (failed : SourceFailure) → IsExplainWork (Some BadDataCrc) work
+  pub failed : (work : Work) (failed : SourceFailure)
+      → IsExplainWork (Some (topic.Cause BadDataCrc)) work
       → work.outcome ≡ Err failed
       → (failed ≡ source_failure Standard (Call WriteFailed))
       ⊎ ((failed ≡ source_failure Standard (Call OutOfMemory))
       × (work.new_output ≡ work.output))
-  pub reads_nothing : (work : Work) → IsExplainWork (Some BadDataCrc) work
+  pub reads_nothing : (work : Work) → IsExplainWork (Some (topic.Cause BadDataCrc)) work
       → work.new_input ≡ work.input
 
 -- A whole run: standard input is `x`, both outputs are empty, and there are no files.

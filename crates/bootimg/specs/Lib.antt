@@ -1,5 +1,6 @@
 pub mod CodeWords
 pub mod TextsOfWords
+pub mod ValueWords
 pub mod CommandLine
 pub mod ConfigurationWords
 pub mod Words

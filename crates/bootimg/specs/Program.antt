@@ -55,6 +55,13 @@ positionals name = record (positional name) {
   action = Some Append;
 }
 
+-- One or more positional arguments.
+abbrev pub required_positionals : (name : List ℕ) → Rule
+required_positionals name = record (positionals name) {
+  range = Some (record { start_inclusive = 1; end_inclusive = usize_max });
+  required = true;
+}
+
 -- ---- options of several commands
 
 -- `--limit`.
@@ -104,7 +111,8 @@ normalise =
 
 -- `show`.
 abbrev pub show : Shape
-show = command (codes "show") (flag_option (codes "layout") ∷ limit ∷ output ∷ file ∷ [])
+show = command (codes "show")
+    (flag_option (codes "layout") ∷ json ∷ offset ∷ limit ∷ output ∷ file ∷ [])
 
 -- `list`.
 abbrev pub list : Shape
@@ -130,17 +138,24 @@ verify = command (codes "verify") (json ∷ offset ∷ limit ∷ output ∷ file
 -- `check`.
 abbrev pub check : Shape
 check = command (codes "check")
-    (value_option (codes "allow") ∷ json ∷ offset ∷ limit ∷ output ∷ file ∷ [])
+    (value_option (codes "allow") ∷ flag_option (codes "signed") ∷ json ∷ offset ∷ limit ∷ output
+    ∷ file ∷ [])
 
 -- `scan`.
 abbrev pub scan : Shape
-scan = command (codes "scan") (limit ∷ output ∷ file ∷ [])
+scan = command (codes "scan") (json ∷ offset ∷ limit ∷ output ∷ file ∷ [])
 
 -- `update`.
 abbrev pub update : Shape
 update = command (codes "update")
     (value_option (codes "time") ∷ flag_option (codes "hashes") ∷ external ∷ align ∷ offset
     ∷ limit ∷ output ∷ file ∷ [])
+
+-- `get`.
+abbrev pub get : Shape
+get = command (codes "get")
+    (value_option (codes "as") ∷ offset ∷ limit ∷ output ∷ required_positional (codes "file")
+    ∷ required_positionals (codes "where") ∷ [])
 
 -- `extract`.
 abbrev pub extract : Shape
@@ -179,13 +194,17 @@ explain = command (codes "explain") (output ∷ positional (codes "cause") ∷ [
 
 -- ---- the program
 
--- The commands that show what an image is, the one that normalises it, and the one that finds it.
+-- The commands that write what an image is.
 abbrev pub reading_commands : List Shape
-reading_commands = normalise ∷ show ∷ list ∷ describe ∷ compare ∷ verify ∷ check ∷ scan ∷ []
+reading_commands = normalise ∷ show ∷ list ∷ describe ∷ []
 
--- The commands that make something else of an image.
+-- The commands that compare images, check one, and find the images in a file.
+abbrev pub checking_commands : List Shape
+checking_commands = compare ∷ verify ∷ check ∷ scan ∷ []
+
+-- The commands that make something else of an image, or take something out of it.
 abbrev pub changing_commands : List Shape
-changing_commands = update ∷ extract ∷ convert ∷ []
+changing_commands = update ∷ get ∷ extract ∷ convert ∷ []
 
 -- The commands that build an image.
 abbrev pub building_commands : List Shape
@@ -193,7 +212,9 @@ building_commands = build_legacy ∷ build_fit ∷ []
 
 -- All commands.
 abbrev pub commands : List Shape
-commands = reading_commands ++ (changing_commands ++ (building_commands ++ explain ∷ []))
+commands =
+    reading_commands
+    ++ (checking_commands ++ (changing_commands ++ (building_commands ++ explain ∷ [])))
 
 -- The name is one of these.
 abbrev pub IsAmongNames : List (List ℕ) → List ℕ → Type 0

@@ -4,7 +4,6 @@ use Rattle.std.specs.Prelude.{Option, None, Some, option_map}
 use Rattle.std.specs.Prelude.{Result, Ok, Err, codes}
 use Rattle.std.specs.Borrow.{Bor}
 use Rattle.std.specs.Fmt.{decimal}
-use Rattle.bi_base.specs.declared.fault.Cause.{Cause}
 use Rattle.bi_base.specs.declared.fault.Error.{Error}
 use Rattle.bi_base.specs.declared.fault.Error.TheVariants.{OutOfMemory, WriteFailed}
 use Rattle.bi_base.specs.Limits.{Limits}
@@ -49,6 +48,7 @@ use Rattle.bootimg.specs.ComparedFiles.{failure_of_comparing, refused_source}
 use Rattle.bi_files.specs.declared.saving.SaveError.{SaveError}
 use Rattle.bi_files.specs.Directories.{IsDirectorySaved, IsDirectoryNotSaved, IsWithoutSlashes}
 use Rattle.bootimg.specs.Explanations.{explain_text}
+use Rattle.bootimg.specs.declared.explanations.Topic.{Topic}
 use Rattle.bootimg.specs.Failures.{failure_text, failure_to_save, name_text}
 use Rattle.bi_files.specs.Files.{FileStep, KnownFiles, WasOpened, WasNotOpened, IsSaved, IsNotSaved}
 use Rattle.bi_files.specs.Files.{WereReadInTurn}
@@ -260,16 +260,16 @@ pub data IsCompareWork (files : KnownFiles) (plan : ComparePlan) (limits : Limit
 -- ---- explaining
 
 -- What this cause means, or what each one means, was written, or that failed. Nothing was read.
-pub data IsExplainWork (cause : Option Cause) (work : Work) : Type 0 where
-  WroteExplanation : WroteAndFlushed work.output (explain_text cause) work.new_output
+pub data IsExplainWork (topic : Option Topic) (work : Work) : Type 0 where
+  WroteExplanation : WroteAndFlushed work.output (explain_text topic) work.new_output
       → (done : Done) → EndedWith true done → work.outcome ≡ Ok done → work.new_input ≡ work.input
-      → IsExplainWork cause work
+      → IsExplainWork topic work
   ExplanationNotWritten : (error : Error)
-      → WriteOrFlushStopped work.output (explain_text cause) work.new_output error
+      → WriteOrFlushStopped work.output (explain_text topic) work.new_output error
       → work.outcome ≡ Err (source_failure Standard (Call error)) → work.new_input ≡ work.input
-      → IsExplainWork cause work
+      → IsExplainWork topic work
   NoMemoryForExplanation : IsFailedWork Standard (Call OutOfMemory) work
-      → work.new_input ≡ work.input → IsExplainWork cause work
+      → work.new_input ≡ work.input → IsExplainWork topic work
 
 -- ---- building
 
@@ -382,7 +382,7 @@ abbrev pub IsJobWork : KnownFiles → Job → Limits → Work → (old new : Opt
     → Type 0
 IsJobWork files (RunTask plan) limits work old new = IsImageWork files plan limits work old new
 IsJobWork files (Compare plan) limits work old new = IsCompareWork files plan limits work old new
-IsJobWork files (Explain cause) limits work old new = IsExplainWork cause work × (new ≡ old)
+IsJobWork files (Explain topic) limits work old new = IsExplainWork topic work × (new ≡ old)
 IsJobWork files (Build plan) limits work old new = IsBuildWork files plan limits work old new
 
 -- ---- an output in a file

@@ -3,7 +3,8 @@ use Rattle.clap.specs.Walk.{Rule}
 use Rattle.clap.specs.Simple.{App, Shape, with_subcommand}
 use Rattle.bootimg.specs.Program.{command, flag_option, option_with_default, required_option}
 use Rattle.bootimg.specs.Program.{positional, positionals, required_positional}
-use Rattle.bootimg.specs.Program.{repeated_option, short_option, value_option}
+use Rattle.bootimg.specs.Program.{repeated_option, required_positionals, short_option}
+use Rattle.bootimg.specs.Program.{value_option}
 use Rattle.bootimg.specs.declared.command_line.table.CommandText.{CommandText}
 use Rattle.bootimg.specs.declared.command_line.table.OptionForm.{OptionForm}
 use Rattle.bootimg.specs.declared.command_line.table.OptionForm.TheVariants as form
@@ -22,6 +23,7 @@ rule_of_form (form.Default value) name = option_with_default name value.now
 rule_of_form form.Positional name = positional name
 rule_of_form form.RequiredPositional name = required_positional name
 rule_of_form form.Positionals name = positionals name
+rule_of_form form.RequiredPositionals name = required_positionals name
 
 -- The option of a text.
 abbrev pub rule_of_option : OptionText → Rule

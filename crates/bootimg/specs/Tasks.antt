@@ -10,11 +10,18 @@ use Rattle.bi_norm.specs.Converting.{IsConvertedFile, IsConvertError}
 use Rattle.bi_norm.specs.NormalForm.{IsNormalForm, IsNormaliseError, IsNormaliseKept}
 use Rattle.bi_norm.specs.Reading.{IsBootImageReadError}
 use Rattle.bi_report.specs.CheckedFiles.{IsChecked, IsCheckError, IsCheckOutput}
+use Rattle.bi_report.specs.Checking.{allowed_under}
 use Rattle.bi_report.specs.ListedFiles.{IsListing}
 use Rattle.bi_report.specs.Scanning.{IsScanText, IsScanError, IsScanOutput}
 use Rattle.bi_report.specs.VerifiedFiles.{IsReport, IsVerifyOutput}
 use Rattle.bi_describe.specs.Describing.{IsDescription, IsDescribeError}
 use Rattle.bi_show.specs.ShownFiles.{IsPage}
+use Rattle.bi_show.specs.ShownObjects.{IsShownObject}
+use Rattle.bi_values.specs.Getting.{IsGetError, IsTextOfValues}
+use Rattle.bi_values.specs.ValueNames.{ValueNameModel, value_name_models}
+use Rattle.bi_values.specs.declared.get_error.GetError.{GetError}
+use Rattle.bi_values.specs.declared.get_error.GetError.TheVariants as get
+use Rattle.bi_values.specs.declared.value_form.ValueForm.{ValueForm}
 use Rattle.bi_commands.specs.declared.extract.ExtractError.{ExtractError}
 use Rattle.bi_commands.specs.declared.extract.ExtractError.TheVariants as extract
 use Rattle.bi_commands.specs.Extracting.{IsChosen, IsExtractError}
@@ -24,11 +31,14 @@ use Rattle.bootimg.specs.declared.command_line.ImagePlan.{ImagePlan}
 use Rattle.bootimg.specs.declared.command_line.Task.{Task}
 use Rattle.bootimg.specs.declared.command_line.Task.TheVariants.{Normalise, List as ListImage}
 use Rattle.bootimg.specs.declared.command_line.Task.TheVariants.{Verify, Check, Describe, Extract}
-use Rattle.bootimg.specs.declared.command_line.Task.TheVariants.{Update, Convert, Scan, Show}
+use Rattle.bootimg.specs.declared.command_line.Task.TheVariants.{Update, Convert, Scan, Show, Get}
+use Rattle.bootimg.specs.declared.command_line.show.ShowForm.{ShowForm}
+use Rattle.bootimg.specs.declared.command_line.show.ShowForm.TheVariants as show_form
+use Rattle.bootimg.specs.declared.command_line.values.ValueWords.{ValueWords}
 use Rattle.bootimg.specs.declared.failure.Failure.{Failure}
 use Rattle.bootimg.specs.declared.failure.Failure.TheVariants.{Call}
 use Rattle.bootimg.specs.declared.tasks.Done.{Done}
-use Rattle.bootimg.specs.Failures.{failure_of}
+use Rattle.bootimg.specs.Failures.{IsFailureOfGetting, failure_of}
 use Rattle.bootimg.specs.Offsets.{laws_at, promise_at}
 use Rattle.bootimg.specs.Selections.{select_of}
 
@@ -45,27 +55,36 @@ pub record EndedWith (good : Bool) (done : Done) : Type 0 where
   pub no_signatures : done.kept.signatures ≡ 0
   pub says_nothing : SaysNothing done.kept
 
+-- An image is shown in this way: as a page, or as JSON.
+abbrev pub IsShownAs : ShowForm → Limits → (input output : List ℕ) → Type 0
+IsShownAs (show_form.Page presenter) limits input output =
+    IsPage presenter.layout limits input output
+IsShownAs show_form.Json limits input output = IsShownObject limits input output
+
 -- The task makes this output of the input, and ends so. The answer of `verify` is good if no
 -- verdict is other than Good, that of `check` if it wrote no concern, and that of `scan` if it
--- wrote a line. The answer of any other task is good.
+-- found an image. The answer of any other task is good.
 abbrev pub TaskDone : Task → Limits → Done → (input output : List ℕ) → Type 0
 TaskDone (Normalise form) limits done input output =
     IsNormaliseKept limits form done.kept input output × (done.good ≡ true)
-TaskDone (Show presenter) limits done input output =
-    IsPage presenter.layout limits input output × EndedWith true done
+TaskDone (Show how) limits done input output =
+    IsShownAs how limits input output × EndedWith true done
 TaskDone (ListImage format) limits done input output =
     IsListing format limits input output × EndedWith true done
 TaskDone (Describe format) limits done input output =
     IsDescription format limits input output × EndedWith true done
 TaskDone (Verify format) limits done input output =
     (good : Bool) × IsVerifyOutput format limits good input output × EndedWith good done
-TaskDone (Check allowed format) limits done input output =
-    (clean : Bool) × IsCheckOutput format allowed limits clean input output
+TaskDone (Check policy format) limits done input output =
+    (clean : Bool) × IsCheckOutput format (allowed_under policy) limits clean input output
     × EndedWith clean done
-TaskDone Scan limits done input output =
-    (found : Bool) × IsScanOutput limits found input output × EndedWith found done
+TaskDone (Scan format) limits done input output =
+    (found : Bool) × IsScanOutput format limits found input output × EndedWith found done
 TaskDone (Update changes form) limits done input output =
     IsUpdateKept changes limits form done.kept input output × (done.good ≡ true)
+TaskDone (Get plan) limits done input output =
+    IsTextOfValues plan.form (value_name_models plan.names.items) limits input output
+    × EndedWith true done
 TaskDone (Extract selection) limits done input output =
     IsChosen (select_of selection) limits input output × EndedWith true done
 TaskDone Convert limits done input output =
@@ -74,13 +93,16 @@ TaskDone Convert limits done input output =
 -- The task may begin to write this output for the input.
 abbrev pub TaskText : Task → Limits → (input output : List ℕ) → Type 0
 TaskText (Normalise form) limits input output = IsNormalForm limits form input output
-TaskText (Show presenter) limits input output = IsPage presenter.layout limits input output
+TaskText (Show how) limits input output = IsShownAs how limits input output
 TaskText (ListImage format) limits input output = IsListing format limits input output
 TaskText (Describe format) limits input output = IsDescription format limits input output
 TaskText (Verify format) limits input output = IsReport format limits input output
-TaskText (Check allowed format) limits input output = IsChecked format allowed limits input output
-TaskText Scan limits input output = IsScanText limits input output
+TaskText (Check policy format) limits input output =
+    IsChecked format (allowed_under policy) limits input output
+TaskText (Scan format) limits input output = IsScanText format limits input output
 TaskText (Update changes form) limits input output = IsUpdated changes limits form input output
+TaskText (Get plan) limits input output =
+    IsTextOfValues plan.form (value_name_models plan.names.items) limits input output
 TaskText (Extract selection) limits input output =
     IsChosen (select_of selection) limits input output
 TaskText Convert limits input output = IsConvertedFile limits input output
@@ -97,11 +119,19 @@ pub record IsExtractFailure (HasError : ExtractError → Type 0) (failure : Fail
   pub has_error : HasError error
   pub is : failure ≡ failure_of error
 
+-- The failure is that of getting values with these words.
+pub record IsGetFailure (HasError : GetError → Type 0) (words : List ValueWords)
+    (failure : Failure) : Type 0
+  where
+    pub error : GetError
+    pub has_error : HasError error
+    pub is : IsFailureOfGetting words error failure
+
 -- The task fails so for the input.
 abbrev pub TaskFails : Task → Limits → (input : List ℕ) → Failure → Type 0
 TaskFails (Normalise form) limits input failure =
     IsCallFailure (IsNormaliseError limits form input) failure
-TaskFails (Show presenter) limits input failure =
+TaskFails (Show how) limits input failure =
     IsCallFailure (IsCheckError limits input) failure
 TaskFails (ListImage format) limits input failure =
     IsCallFailure (IsBootImageReadError limits input) failure
@@ -109,11 +139,15 @@ TaskFails (Describe format) limits input failure =
     IsCallFailure (IsDescribeError format limits input) failure
 TaskFails (Verify format) limits input failure =
     IsCallFailure (IsBootImageReadError limits input) failure
-TaskFails (Check allowed format) limits input failure =
+TaskFails (Check policy format) limits input failure =
     IsCallFailure (IsCheckError limits input) failure
-TaskFails Scan limits input failure = IsCallFailure (IsScanError limits input) failure
+TaskFails (Scan format) limits input failure =
+    IsCallFailure (IsScanError limits input) failure
 TaskFails (Update changes form) limits input failure =
     IsCallFailure (IsUpdateError changes limits form input) failure
+TaskFails (Get plan) limits input failure =
+    IsGetFailure (IsGetError plan.form (value_name_models plan.names.items) limits input)
+    plan.words.items failure
 TaskFails (Extract selection) limits input failure =
     IsExtractFailure (IsExtractError (select_of selection) limits input) failure
 TaskFails Convert limits input failure = IsCallFailure (IsConvertError limits input) failure
@@ -131,13 +165,14 @@ task_promise task limits = record {
 task_text : (task : Task) (limits : Limits) (done : Done) (input output : List ℕ)
     → TaskDone task limits done input output → TaskText task limits input output
 task_text (Normalise form) limits done input output is = is.0.output.normal
-task_text (Show presenter) limits done input output is = is.0
+task_text (Show how) limits done input output is = is.0
 task_text (ListImage format) limits done input output is = is.0
 task_text (Describe format) limits done input output is = is.0
 task_text (Verify format) limits done input output is = is.1.report
-task_text (Check allowed format) limits done input output is = is.1.checked
-task_text Scan limits done input output is = is.1.is_scan
+task_text (Check policy format) limits done input output is = is.1.checked
+task_text (Scan format) limits done input output is = is.1.is_scan
 task_text (Update changes form) limits done input output updated = updated.0.output.is
+task_text (Get plan) limits done input output is = is.0
 task_text (Extract selection) limits done input output is = is.0
 task_text Convert limits done input output is = is.0
 
@@ -185,12 +220,28 @@ extract_in_memory HasError no_read no_write failure is =
       by extract.NoIndex has = tt
       by extract.NoPayload has = tt
 
+-- An error of getting values of a file in memory is not a failed read or write.
+get_in_memory : (form : ValueForm) (names : List ValueNameModel) (limits : Limits)
+    (input : List ℕ) (words : List ValueWords) (failure : Failure)
+    → IsGetFailure (IsGetError form names limits input) words failure → IsNoStreamFailure failure
+get_in_memory form names limits input words failure is = by is.error is.has_error is.is where
+  by : (error : GetError) → IsGetError form names limits input error
+      → IsFailureOfGetting words error failure → IsNoStreamFailure failure
+  by (get.Failed (Refused fault)) has same = subst IsNoStreamFailure (sym same) tt
+  by (get.Failed OutOfMemory) has same = subst IsNoStreamFailure (sym same) tt
+  by (get.Failed ReadFailed) has same = absurd has
+  by (get.Failed WriteFailed) has same = absurd has
+  by get.WrongKind has same = subst IsNoStreamFailure (sym same) tt
+  by (get.NoProperty index) has named = subst IsNoStreamFailure (sym named.2) tt
+  by (get.NoText index) has named = subst IsNoStreamFailure (sym named.2) tt
+  by (get.NoNumber index) has named = subst IsNoStreamFailure (sym named.2) tt
+
 -- A task neither reads nor writes.
 task_in_memory : (task : Task) (limits : Limits) (input : List ℕ) (failure : Failure)
     → TaskFails task limits input failure → IsNoStreamFailure failure
 task_in_memory (Normalise form) limits input failure is =
     call_in_memory (IsNormaliseError limits form input) (λ no. no) (λ no. no) failure is
-task_in_memory (Show presenter) limits input failure is =
+task_in_memory (Show how) limits input failure is =
     call_in_memory (IsCheckError limits input) (λ no. no) (λ no. no) failure is
 task_in_memory (ListImage format) limits input failure is =
     call_in_memory (IsBootImageReadError limits input) (λ no. no) (λ no. no) failure is
@@ -198,12 +249,15 @@ task_in_memory (Describe format) limits input failure is =
     call_in_memory (IsDescribeError format limits input) (λ no. no) (λ no. no) failure is
 task_in_memory (Verify format) limits input failure is =
     call_in_memory (IsBootImageReadError limits input) (λ no. no) (λ no. no) failure is
-task_in_memory (Check allowed format) limits input failure is =
+task_in_memory (Check policy format) limits input failure is =
     call_in_memory (IsCheckError limits input) (λ no. no) (λ no. no) failure is
-task_in_memory Scan limits input failure is =
+task_in_memory (Scan format) limits input failure is =
     call_in_memory (IsScanError limits input) (λ no. no) (λ no. no) failure is
 task_in_memory (Update changes form) limits input failure is =
     call_in_memory (IsUpdateError changes limits form input) (λ no. no) (λ no. no) failure is
+task_in_memory (Get plan) limits input failure is =
+    get_in_memory plan.form (value_name_models plan.names.items) limits input plan.words.items
+    failure is
 task_in_memory (Extract selection) limits input failure is =
     extract_in_memory (IsExtractError (select_of selection) limits input)
     (λ no. no) (λ no. no) failure is

@@ -5,6 +5,7 @@ mod build;
 mod configurations;
 mod explain;
 mod extract;
+mod get;
 mod hashes;
 mod image;
 mod options;
@@ -13,6 +14,7 @@ mod show;
 mod source;
 mod table;
 mod update;
+mod values;
 
 ghost use Rattle.std.specs.Prelude.{◌≡◌, ◌≢◌, false, true, IfOk, IfErr, IsFalse, IsTrue, codes};
 ghost use Rattle.bi_base.specs.declared.fault.Error.TheVariants.{OutOfMemory};
@@ -24,12 +26,12 @@ ghost use Rattle.bootimg.specs.Program.{IsCommandName};
 ghost use Rattle.bootimg.specs.declared.command_line.NoRequest.TheVariants as outcome;
 ghost use Rattle.bootimg.specs.declared.failure.Failure.TheVariants.{Call};
 
+use crate::explanations::Topic;
 use crate::failure::Failure;
-use allowed::allowed_kinds;
-use bi_base::{Cause, Error, Limits};
-use bi_commands::check::Allowed;
+use allowed::policy;
+use bi_base::{Error, Limits};
+use bi_commands::check::Policy;
 use bi_commands::format::Format;
-use bi_commands::show::Presenter;
 use bi_commands::update::Changes;
 use bi_norm::Form;
 pub use build::{BuildPlan, FitPlan, LegacyPlan};
@@ -37,37 +39,42 @@ use build::{fit_plan, legacy_plan};
 use clap::ArgMatches;
 use clap::error::ErrorKind;
 pub use configurations::ConfigurationWord;
-use explain::explained_cause;
+use explain::explained_topic;
 pub use extract::{AllRequest, Selected};
 use extract::{all_request, selection};
+use get::get_plan;
 use options::{flag, form, format, limits, number};
 pub use part::PartSource;
-use show::presenter;
+pub use show::ShowForm;
+use show::show_form;
 pub use source::{ComparePlan, ImageSource};
 use source::{compare_plan, source};
 use std::alloc::{AllocError, AllocFailed, Global};
 use table::program;
 use update::changes;
+pub use values::{GetPlan, ValueWords};
 
 /// A command on one image, with the options that change what it does.
 #[derive(Drop)]
-pub enum Task {
+pub enum Task<'a> {
     /// Write the normal form. That of a flattened image tree has this form.
     Normalise(Form),
-    /// Write the page for a person, with the layout of the file or without it.
-    Show(Presenter),
+    /// Write the page for a person, or the same as JSON.
+    Show(ShowForm),
     /// Write the listing, in this form.
     List(Format),
     /// Write the description of what the image means, in this form.
     Describe(Format),
     /// Write the report on the checksums and digests, in this form.
     Verify(Format),
-    /// Write the concerns that are not of these kinds, in this form.
-    Check(Allowed, Format),
-    /// Write a line for each image inside the input.
-    Scan,
+    /// Write the concerns that this policy does not allow, in this form.
+    Check(Policy, Format),
+    /// Write the images inside the input, in this form.
+    Scan(Format),
     /// Write the normal form with these changes. That of a flattened image tree has this form.
     Update(Changes, Form),
+    /// Write the values of the plan.
+    Get(GetPlan<'a>),
     /// Write what the selection chooses.
     Extract(Selected),
     /// Write the flattened image tree of a legacy image.
@@ -78,7 +85,7 @@ pub enum Task {
 #[derive(Drop)]
 pub struct ImagePlan<'a> {
     /// The task.
-    pub task: Task,
+    pub task: Task<'a>,
     /// Where the image begins in the input: an offset in bytes.
     pub offset: u32,
     /// Where the input is read from.
@@ -92,8 +99,8 @@ pub enum Job<'a> {
     Run(ImagePlan<'a>),
     /// Compare two images.
     Compare(ComparePlan<'a>),
-    /// Write what this cause of a refusal means, or what each one means.
-    Explain(Option<Cause>),
+    /// Write what this means, or what each cause of a refusal and each kind of concerns means.
+    Explain(Option<Topic>),
     /// Build an image.
     Build(BuildPlan<'a>),
 }
@@ -124,7 +131,7 @@ pub enum NoRequest {
     /// The program prints this text: help, the version, or why clap rejects the arguments.
     Text(clap::Error),
     /// The program fails.
-    Failure(Failure),
+    Failure(Failure<'static>),
 }
 
 impl From<clap::Error> for NoRequest {
@@ -154,10 +161,10 @@ impl<T: Drop> From<AllocFailed<T>> for NoRequest {
     }
 }
 
-impl From<Failure> for NoRequest {
+impl From<Failure<'static>> for NoRequest {
     ghost from_gives = { λ failure result. result ≡ outcome.Failure failure };
 
-    fn from(failure: Failure) -> NoRequest {
+    fn from(failure: Failure<'static>) -> NoRequest {
         NoRequest::Failure(failure)
     }
 }
@@ -216,7 +223,7 @@ fn parse_job<'a>(alloc: Global, name: &str, options: &ArgMatches<'a>) -> Result<
         return Ok(Job::Compare(compare_plan(options)?));
     }
     if name == "explain" {
-        return Ok(Job::Explain(explained_cause(options)?));
+        return Ok(Job::Explain(explained_topic(options)?));
     }
     if name == "build-legacy" {
         let plan = legacy_plan(alloc, options)?;
@@ -241,7 +248,11 @@ fn parse_job<'a>(alloc: Global, name: &str, options: &ArgMatches<'a>) -> Result<
 /// Returns the task of the command of this name with the options. Fails as `parse_arguments` does.
 /// Requires: the name is that of a command other than `compare`, `explain`, `build-legacy` and
 /// `build-fit`, and `extract` does not have `--all`.
-fn parse_task(alloc: Global, name: &str, options: &ArgMatches<'_>) -> Result<Task, NoRequest>
+fn parse_task<'a>(
+    alloc: Global,
+    name: &str,
+    options: &ArgMatches<'a>,
+) -> Result<Task<'a>, NoRequest>
     requires command { IsCommandName name.now }
     requires not_all { name.now ≡ codes "extract" → SelectsAll options.now false }
     requires no_comparison { name.now ≢ codes "compare" }
@@ -253,13 +264,14 @@ fn parse_task(alloc: Global, name: &str, options: &ArgMatches<'_>) -> Result<Tas
 {
     Ok(match name {
         "normalise" => Task::Normalise(form(options)?),
-        "show" => Task::Show(presenter(options)),
+        "show" => Task::Show(show_form(options)?),
         "list" => Task::List(format(options)),
         "describe" => Task::Describe(format(options)),
         "verify" => Task::Verify(format(options)),
-        "check" => Task::Check(allowed_kinds(options)?, format(options)),
-        "scan" => Task::Scan,
+        "check" => Task::Check(policy(options)?, format(options)),
+        "scan" => Task::Scan(format(options)),
         "update" => Task::Update(changes(options)?, form(options)?),
+        "get" => Task::Get(get_plan(alloc, options)?),
         "extract" => Task::Extract(selection(alloc, options)?),
         "convert" => Task::Convert,
         _ => unreachable!(),

@@ -1,13 +1,26 @@
-//! What `explain` writes: what the causes of refusals mean.
+//! What `explain` writes: what the causes of refusals and the kinds of concerns mean.
 
-ghost use Rattle.std.specs.Prelude.{◌≡◌, ◌++◌, IfNone, IfOk, IfSome, OnOk, string_bytes};
+ghost use Rattle.std.specs.Prelude.{◌≡◌, ◌++◌, IfNone, IfOk, IfSome, OnOk, flat_map};
+ghost use Rattle.std.specs.Prelude.{string_bytes};
 ghost use Rattle.bootimg.specs.CommandLine.{NamesCause, NoneIs};
 ghost use Rattle.bootimg.specs.Explanations.{all_explanations, explain_text, explanation_of};
-ghost use Rattle.bootimg.specs.Explanations.{line_of_cause};
+ghost use Rattle.bootimg.specs.Explanations.{all_causes, all_kinds, line_of_cause};
+ghost use Rattle.bootimg.specs.Explanations.{line_of_kind, line_with_meaning, sentence_about};
 
 use bi_base::Cause;
 use bi_commands::causes::sentence;
+use bi_commands::check::ConcernKind;
+use bi_commands::concerns::concern_sentence;
 use std::alloc::{AllocError, Global};
+
+/// What `explain` can explain.
+#[derive(Clone, Copy)]
+pub enum Topic {
+    /// A cause of a refusal.
+    Cause(Cause),
+    /// A kind of concerns.
+    Kind(ConcernKind),
+}
 
 /// The causes, in the order of the manual page.
 const CAUSES: [Cause; 26] = [
@@ -37,6 +50,25 @@ const CAUSES: [Cause; 26] = [
     Cause::EmptyPart,
     Cause::BadField,
     Cause::Unsupported,
+];
+
+/// The kinds of concerns, in the order of the manual page.
+const KINDS: [ConcernKind; 15] = [
+    ConcernKind::BadHash,
+    ConcernKind::SkippedHash,
+    ConcernKind::Unhashed,
+    ConcernKind::WeakHash,
+    ConcernKind::BadList,
+    ConcernKind::Missing,
+    ConcernKind::Unsigned,
+    ConcernKind::NoNodes,
+    ConcernKind::NoImages,
+    ConcernKind::Uncovered,
+    ConcernKind::Foreign,
+    ConcernKind::Strings,
+    ConcernKind::UnitAddress,
+    ConcernKind::BadDefault,
+    ConcernKind::Trailing,
 ];
 
 /// Parses the name of a cause. Returns None exactly for any other text.
@@ -75,44 +107,78 @@ pub fn parse_cause(argument: &str) -> Option<Cause>
     }
 }
 
-/// Returns what `explain` writes: what this cause means, or what each one means.
-pub fn explanation(alloc: Global, cause: Option<Cause>) -> Result<String, AllocError>
-    ensures { IfOk result (λ text. string_bytes text ≡ explain_text cause) }
+/// Returns what `explain` writes: what this means, or what each cause and each kind means.
+pub fn explanation(alloc: Global, topic: Option<Topic>) -> Result<String, AllocError>
+    ensures { IfOk result (λ text. string_bytes text ≡ explain_text topic) }
 {
-    match cause {
-        Some(cause) => explanation_of_cause(alloc, cause),
+    match topic {
+        Some(topic) => explanation_of_one(alloc, topic),
         None => explanation_of_all(alloc),
     }
 }
 
-/// Returns what this cause means, as a line.
-fn explanation_of_cause(alloc: Global, cause: Cause) -> Result<String, AllocError>
-    ensures { IfOk result (λ text. string_bytes text ≡ explanation_of cause) }
+/// Returns what this means, as a line.
+fn explanation_of_one(alloc: Global, topic: Topic) -> Result<String, AllocError>
+    ensures { IfOk result (λ text. string_bytes text ≡ explanation_of topic) }
 {
     let mut text = String::new(alloc);
-    text.push_str(sentence(cause))?;
+    text.push_str(topic.sentence())?;
     text.push_str("\n")?;
     Ok(text)
 }
 
-/// Returns a line for each cause: its name, and what it means.
+impl Topic {
+    /// Returns what this means, and what a user can do.
+    fn sentence(self) -> &'static str
+        ensures { result.now ≡ sentence_about self }
+    {
+        match self {
+            Topic::Cause(cause) => sentence(cause),
+            Topic::Kind(kind) => concern_sentence(kind),
+        }
+    }
+}
+
+/// Returns a line for each cause, and then for each kind: its name, and what it means.
 fn explanation_of_all(alloc: Global) -> Result<String, AllocError>
     ensures { IfOk result (λ text. string_bytes text ≡ all_explanations) }
 {
     let mut text = String::new(alloc);
-    for cause in CAUSES {
-        put_cause(&mut text, cause)?;
-    }
+    put_causes(&mut text)?;
+    put_kinds(&mut text)?;
     Ok(text)
 }
 
-/// Appends the line of a cause.
-fn put_cause(text: &mut String, cause: Cause) -> Result<(), AllocError>
-    ensures { OnOk result (string_bytes text.new ≡ string_bytes text.old ++ line_of_cause cause) }
+/// Appends the line of each cause.
+fn put_causes(text: &mut String) -> Result<(), AllocError>
+    ensures { OnOk result (string_bytes text.new
+        ≡ string_bytes text.old ++ flat_map line_of_cause all_causes) }
 {
-    text.push_str(cause.name())?;
+    for cause in CAUSES {
+        put_line(text, cause.name(), sentence(cause))?;
+    }
+    Ok(())
+}
+
+/// Appends the line of each kind.
+fn put_kinds(text: &mut String) -> Result<(), AllocError>
+    ensures { OnOk result (string_bytes text.new
+        ≡ string_bytes text.old ++ flat_map line_of_kind all_kinds) }
+{
+    for kind in KINDS {
+        put_line(text, kind.word(), concern_sentence(kind))?;
+    }
+    Ok(())
+}
+
+/// Appends the line of what has this name and means this.
+fn put_line(text: &mut String, name: &str, meaning: &str) -> Result<(), AllocError>
+    ensures { OnOk result (string_bytes text.new
+        ≡ string_bytes text.old ++ line_with_meaning name.now meaning.now) }
+{
+    text.push_str(name)?;
     text.push_str(": ")?;
-    text.push_str(sentence(cause))?;
+    text.push_str(meaning)?;
     text.push_str("\n")?;
     Ok(())
 }

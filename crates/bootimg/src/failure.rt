@@ -8,7 +8,9 @@ ghost use Rattle.bootimg.specs.ErrorLines.{Extends, line_of};
 ghost use Rattle.bootimg.specs.Failures.{error_text, failure_of, failure_text as text_of};
 ghost use Rattle.bootimg.specs.Failures.{failure_to_save};
 ghost use Rattle.bootimg.specs.Failures.{is_about_image as is_about_image_of};
+ghost use Rattle.bootimg.specs.ValueWords.{value_words_text};
 
+use crate::command_line::ValueWords;
 use crate::error_line::ErrorLine;
 use bi_base::{Error, Fault, TracedWrite};
 use bi_commands::extract::ExtractError;
@@ -18,7 +20,7 @@ use std::alloc::AllocError;
 
 /// Why the program failed.
 #[derive(Clone, Copy)]
-pub enum Failure {
+pub enum Failure<'a> {
     /// The image is refused, memory ran out, or a read or write failed.
     Call(Error),
     /// The selection is for another kind of image.
@@ -39,6 +41,12 @@ pub enum Failure {
     NoIndex,
     /// The image has no payload.
     NoPayload,
+    /// No node has the path of these words, or the node has no such property.
+    NoProperty(ValueWords<'a>),
+    /// The value that these words name is not one or more texts.
+    NoText(ValueWords<'a>),
+    /// The value that these words name is not a number.
+    NoNumber(ValueWords<'a>),
     /// `extract` needs exactly one selection.
     NoSelection,
     /// `update` needs a change.
@@ -55,11 +63,11 @@ pub enum Failure {
     NotWritten,
 }
 
-impl Failure {
+impl<'a> Failure<'a> {
     /// Returns whether the line of the failure begins with the name of the file that the image is
     /// read from, if it is read from a file, or of the output file.
     pub fn is_about_image(self) -> bool
-        ensures { result ≡ is_about_image_of self }
+        ensures { result ≡ is_about_image_of self.entry }
     {
         match self {
             Failure::Call(error) => matches!(error, Error::Refused(_) | Error::ReadFailed),
@@ -72,7 +80,7 @@ impl Failure {
     /// Appends the text of the failure, which the program prints after `bootimg: ` and the name of
     /// the file, if the failure is about an image in a file.
     pub fn put_text<T: TracedWrite>(self, line: &mut ErrorLine<'_, T>)
-        ensures { Extends (line_of T.trace line.old) (text_of self) (line_of T.trace line.new) }
+        ensures { Extends (line_of T.trace line.old) (text_of self.entry) (line_of T.trace line.new) }
     {
         match self {
             Failure::Call(Error::Refused(fault)) => put_fault(fault, line),
@@ -88,6 +96,9 @@ impl Failure {
             Failure::Missing(index) => put_numbered(b"missing image ", index, line),
             Failure::NoIndex => line.put(b"no such entry"),
             Failure::NoPayload => line.put(b"no payload"),
+            Failure::NoProperty(words) => put_value(b"no such property ", words, line),
+            Failure::NoText(words) => put_value(b"no text ", words, line),
+            Failure::NoNumber(words) => put_value(b"no number ", words, line),
             Failure::NoSelection => line.put(b"usage: give one of --part, --image, --config"),
             Failure::NoChange => line.put(b"usage: give --time or --hashes"),
             Failure::BadValue => line.put(b"usage: bad value"),
@@ -119,26 +130,50 @@ fn put_numbered<T: TracedWrite>(bytes: &[u8], number: usize, line: &mut ErrorLin
     line.put_number(number);
 }
 
-impl From<Error> for Failure {
+/// Appends these bytes, and the words for a value, with a space between two.
+fn put_value<T: TracedWrite>(bytes: &[u8], words: ValueWords<'_>, line: &mut ErrorLine<'_, T>)
+    ensures { Extends (line_of T.trace line.old) (bytes.now ++ value_words_text words.entry)
+        (line_of T.trace line.new) }
+{
+    line.put(bytes);
+    put_words(words, line);
+}
+
+/// Appends the words for a value, with a space between two.
+fn put_words<T: TracedWrite>(words: ValueWords<'_>, line: &mut ErrorLine<'_, T>)
+    ensures { Extends (line_of T.trace line.old) (value_words_text words.entry)
+        (line_of T.trace line.new) }
+{
+    match words {
+        ValueWords::Property(path, name) => {
+            line.put(path.as_bytes());
+            line.put(b" ");
+            line.put(name.as_bytes());
+        }
+        ValueWords::Field(word) => line.put(word.as_bytes()),
+    }
+}
+
+impl<'a> From<Error> for Failure<'a> {
     ghost from_gives = { λ error failure. failure ≡ Call error };
 
-    fn from(error: Error) -> Failure {
+    fn from(error: Error) -> Failure<'a> {
         Failure::Call(error)
     }
 }
 
-impl From<AllocError> for Failure {
+impl<'a> From<AllocError> for Failure<'a> {
     ghost from_gives = { λ _ failure. failure ≡ Call OutOfMemory };
 
-    fn from(error: AllocError) -> Failure {
+    fn from(error: AllocError) -> Failure<'a> {
         Failure::Call(Error::from(error))
     }
 }
 
-impl From<SaveError> for Failure {
+impl<'a> From<SaveError> for Failure<'a> {
     ghost from_gives = { λ error failure. failure ≡ failure_to_save error };
 
-    fn from(error: SaveError) -> Failure {
+    fn from(error: SaveError) -> Failure<'a> {
         match error {
             SaveError::NotWritten => Failure::NotWritten,
             SaveError::OutOfMemory => Failure::Call(Error::OutOfMemory),
@@ -146,10 +181,10 @@ impl From<SaveError> for Failure {
     }
 }
 
-impl From<ExtractError> for Failure {
+impl<'a> From<ExtractError> for Failure<'a> {
     ghost from_gives = { λ error failure. failure ≡ failure_of error };
 
-    fn from(error: ExtractError) -> Failure {
+    fn from(error: ExtractError) -> Failure<'a> {
         match error {
             ExtractError::Failed(error) => Failure::Call(error),
             ExtractError::WrongKind => Failure::WrongKind,

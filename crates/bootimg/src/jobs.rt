@@ -16,7 +16,7 @@ ghost use Rattle.bi_base.specs.Traces.{ReadTrace};
 
 use crate::builds::build_image;
 use crate::command_line::{ComparePlan, ImagePlan, ImageSource, Job};
-use crate::explanations::explanation;
+use crate::explanations::{Topic, explanation};
 use crate::failure::Failure;
 use crate::tasks::Done;
 use bi_base::{
@@ -33,7 +33,7 @@ pub struct SourceFailure<'a> {
     /// The image or the part that the failure is about, or the output file, if it is about one.
     pub source: ImageSource<'a>,
     /// The failure.
-    pub failure: Failure,
+    pub failure: Failure<'a>,
 }
 
 impl<'a> From<AllocError> for SourceFailure<'a> {
@@ -84,7 +84,7 @@ pub fn do_job<'a, S: TracedRead, T: TracedWrite, F: FileSystem>(
         Job::Run(plan) => run_on_image(alloc, plan, limits, files, input, output),
         Job::Compare(plan) => compare_images(alloc, *plan, limits, files, input, output),
         Job::Build(plan) => build_image(alloc, plan, limits, files, input, output),
-        Job::Explain(cause) => explain(alloc, *cause, output),
+        Job::Explain(topic) => explain(alloc, *topic, output),
     }
 }
 
@@ -159,8 +159,11 @@ fn compare_images<'a, S: TracedRead, T: TracedWrite, F: FileSystem>(
 }
 
 /// Returns the end of a job that failed with an image from this source.
-pub fn job_failed<'a>(source: ImageSource<'a>, failure: Failure) -> Result<Done, SourceFailure<'a>>
-    ensures { result ≡ Err (source_failure source.entry failure) }
+pub fn job_failed<'a>(
+    source: ImageSource<'a>,
+    failure: Failure<'a>,
+) -> Result<Done, SourceFailure<'a>>
+    ensures { result ≡ Err (source_failure source.entry failure.entry) }
 {
     Err(SourceFailure { source, failure })
 }
@@ -172,7 +175,7 @@ pub fn read_image<S: TracedRead, F: FileSystem>(
     limits: Limits,
     files: &mut F,
     input: &mut S,
-) -> Result<Vec<u8>, Failure>
+) -> Result<Vec<u8>, Failure<'static>>
     ensures read { IfOk result (λ image. IsImageRead (F.known files.old) limits
         (record { input = S.trace input.old; steps = F.steps files.old })
         (record { input = S.trace input.new; steps = F.steps files.new })
@@ -196,7 +199,7 @@ pub fn read_file<F: FileSystem>(
     name: &str,
     limits: Limits,
     files: &mut F,
-) -> Result<Vec<u8>, Failure>
+) -> Result<Vec<u8>, Failure<'static>>
     ensures read { IfOk result (λ bytes. IsFileRead (F.known files.old) limits name.now
         bytes.items (F.steps files.old) (F.steps files.new)) }
     ensures failed { IfErr result (λ failure. IsFileNotRead (F.known files.old) limits name.now
@@ -218,7 +221,7 @@ fn read_input<S: TracedRead>(
     alloc: Global,
     limits: Limits,
     input: &mut S,
-) -> Result<Vec<u8>, Failure>
+) -> Result<Vec<u8>, Failure<'static>>
     ensures read { IfOk result (λ bytes. IsInputRead limits (S.trace input.old)
         (S.trace input.new) bytes.items) }
     ensures failed { IfErr result (IsNotRead limits (S.trace input.old) (S.trace input.new)) }
@@ -302,13 +305,13 @@ fn compare_failure<'a>(plan: ComparePlan<'a>, error: CompareError) -> SourceFail
     }
 }
 
-/// Writes what this cause means, or what each one means, and returns how that ended.
+/// Writes what this means, or what each cause and each kind means, and returns how that ended.
 fn explain<'a, T: TracedWrite>(
     alloc: Global,
-    cause: Option<Cause>,
+    topic: Option<Topic>,
     output: &mut T,
 ) -> Result<Done, SourceFailure<'a>>
-    ensures { (input : ReadTrace) → IsExplainWork cause (record {
+    ensures { (input : ReadTrace) → IsExplainWork topic (record {
       input = input;
       new_input = input;
       output = T.trace output.old;
@@ -316,7 +319,7 @@ fn explain<'a, T: TracedWrite>(
       outcome = result;
     }) }
 {
-    match explanation(alloc, cause) {
+    match explanation(alloc, topic) {
         Ok(text) => match write_and_flush(output, text.as_bytes()) {
             Ok(()) => Ok(Done::with_answer(true)),
             Err(error) => job_failed(ImageSource::Standard, Failure::Call(error)),

@@ -9,10 +9,10 @@ ghost use Rattle.bootimg.specs.KnownRequests.{SourcesAreKnown, ImageOffsetsAreKn
 ghost use Rattle.bootimg.specs.KnownRequests.{PartWordsAreKnown};
 ghost use Rattle.bootimg.specs.KnownRequests.{AllowedWordsAreKnown, ChangesAreKnown};
 ghost use Rattle.bootimg.specs.KnownRequests.{AllRequestsAreKnown, SelectionsAreKnown};
-ghost use Rattle.bootimg.specs.KnownRequests.{PlansAreKnown};
+ghost use Rattle.bootimg.specs.KnownRequests.{GetPlansAreKnown, PlansAreKnown};
 ghost use Rattle.bootimg.specs.KnownRuns.{StatusesAreKnown, FailureLinesAreKnown};
 ghost use Rattle.bootimg.specs.KnownRuns.{ExtractLinesAreKnown, CompareLinesAreKnown};
-ghost use Rattle.bootimg.specs.KnownRuns.{NotesAreKnown};
+ghost use Rattle.bootimg.specs.KnownRuns.{NotesAreKnown, ValueLinesAreKnown};
 ghost use Rattle.bi_files.specs.KnownSteps.{BesideNamesAreKnown, DirectorySavedInSteps};
 ghost use Rattle.bi_files.specs.KnownSteps.{SavedInSteps};
 
@@ -91,6 +91,12 @@ pub fn changes_are_known()
     ensures { ChangesAreKnown }
 {}
 
+/// The values that the options of `get` name, and their form, are known; options of another form,
+/// and a path without a name, mean nothing.
+pub fn get_plans_are_known()
+    ensures { GetPlansAreKnown }
+{}
+
 /// Small command lines select known parts, images and entries, or fail for known reasons.
 pub fn selections_are_known()
     ensures { SelectionsAreKnown }
@@ -119,6 +125,11 @@ pub fn failure_lines_are_known()
 /// Each error of extracting has a known line.
 pub fn extract_lines_are_known()
     ensures { ExtractLinesAreKnown }
+{}
+
+/// Each error of getting values has a known line, with the words for the value.
+pub fn value_lines_are_known()
+    ensures { ValueLinesAreKnown }
 {}
 
 /// The line of an error of comparing has the name of the file that is refused.

@@ -7,7 +7,7 @@ ghost use Rattle.bootimg.specs.KnownWorks.{ImageWorksAreKnown, OutputsInFilesAre
 ghost use Rattle.bootimg.specs.KnownWorks.{PartsOfFilesAreKnown, FitPlansAreKnown};
 ghost use Rattle.bootimg.specs.KnownWorks.{AllWorksAreKnown};
 ghost use Rattle.bootimg.specs.KnownTasks.{TaskEndsAreKnown, BuildPromisesAreKnown};
-ghost use Rattle.bootimg.specs.KnownTasks.{BuildWorksAreKnown};
+ghost use Rattle.bootimg.specs.KnownTasks.{BuildWorksAreKnown, GetFailuresAreKnown};
 
 /// The output and the answer of `normalise` and of `convert` for a kernel image are known, at an
 /// offset too, and so is the answer of `scan`.
@@ -62,6 +62,15 @@ pub fn task_ends_are_known()
     bi_legacy::laws::one_meaning();
     bi_report::known_texts::scans_are_known();
     bi_show::known_texts::pages_are_known();
+    bi_show::known_texts::objects_are_known();
+}
+
+/// The failures of getting values are those of the calls behind them, and have the words for the
+/// value.
+pub fn get_failures_are_known()
+    ensures { GetFailuresAreKnown }
+{
+    bi_legacy::laws::one_meaning();
 }
 
 /// Known images are built of small parts, or building has a known fault.

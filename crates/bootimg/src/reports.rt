@@ -19,10 +19,10 @@ pub const FAILED: u8 = 2;
 /// line has the name of the file if the failure is about the image. A failed write is ignored.
 pub fn report_failure<E: TracedWrite>(
     source: ImageSource<'_>,
-    failure: Failure,
+    failure: Failure<'_>,
     errors: &mut E,
 ) -> u8
-    ensures line { Reports source.entry failure (E.trace errors.old) (E.trace errors.new) }
+    ensures line { Reports source.entry failure.entry (E.trace errors.old) (E.trace errors.new) }
     ensures status { result ≡ 2 }
 {
     let mut line = ErrorLine::new(errors);
@@ -34,10 +34,10 @@ pub fn report_failure<E: TracedWrite>(
 /// Appends the line of a failure.
 fn put_failure<E: TracedWrite>(
     source: ImageSource<'_>,
-    failure: Failure,
+    failure: Failure<'_>,
     line: &mut ErrorLine<'_, E>,
 )
-    ensures { Extends (line_of E.trace line.old) (failure_line source.entry failure)
+    ensures { Extends (line_of E.trace line.old) (failure_line source.entry failure.entry)
         (line_of E.trace line.new) }
 {
     line.put(b"bootimg: ");
@@ -49,10 +49,10 @@ fn put_failure<E: TracedWrite>(
 /// Appends the name of the file, if the failure is about an image in a file.
 fn put_source<E: TracedWrite>(
     source: ImageSource<'_>,
-    failure: Failure,
+    failure: Failure<'_>,
     line: &mut ErrorLine<'_, E>,
 )
-    ensures { Extends (line_of E.trace line.old) (name_text source.entry failure)
+    ensures { Extends (line_of E.trace line.old) (name_text source.entry failure.entry)
         (line_of E.trace line.new) }
 {
     match source {

@@ -1,20 +1,22 @@
 //! What the program does for each command on one image.
 
-ghost use Rattle.std.specs.Prelude.{◌≡◌, ◌≤◌, ⊤, IfErr, IfOk, length};
-ghost use Rattle.bi_base.specs.Commands.{Appended, CommandFailed};
-ghost use Rattle.bootimg.specs.Tasks.{EndedWith, TaskDone, TaskFails, TaskText};
+ghost use Rattle.std.specs.Prelude.{◌≡◌, ◌≤◌, ⊤, IfErr, IfOk, OnOk, length};
+ghost use Rattle.bi_base.specs.Commands.{AppendFailed, Appended, CommandFailed};
+ghost use Rattle.bi_report.specs.CheckedFiles.{IsCheckError};
+ghost use Rattle.bootimg.specs.Tasks.{EndedWith, IsShownAs, TaskDone, TaskFails, TaskText};
 ghost use Rattle.bootimg.specs.Tasks.{plan_laws, plan_promise, status_of};
 ghost use Rattle.bootimg.specs.declared.failure.Failure.TheVariants.{Call};
 
-use crate::command_line::{ImagePlan, Task};
+use crate::command_line::{ImagePlan, ShowForm, Task};
 use crate::failure::Failure;
-use bi_base::{Command, Limits, Sink};
+use bi_base::{Command, Error, Limits, Sink};
 use bi_commands::at_offset::image_at;
 use bi_commands::check::{Checker, check_into};
 use bi_commands::describe::Describer;
 use bi_commands::extract::Extractor;
 use bi_commands::list::Lister;
 use bi_commands::scan::Scanner;
+use bi_commands::show::JsonPresenter;
 use bi_commands::update::update_with_kept;
 use bi_commands::verify::Verifier;
 use bi_norm::{Kept, convert_into, normalise_with_kept};
@@ -57,7 +59,7 @@ impl Done {
     }
 }
 
-impl Task {
+impl<'a> Task<'a> {
     /// Appends what the task makes of an image to a sink, and returns how that ended. Requires: the
     /// image is not longer than the limit on files.
     ///
@@ -69,7 +71,7 @@ impl Task {
         image: &[u8],
         limits: Limits,
         sink: &mut S,
-    ) -> Result<Done, Failure>
+    ) -> Result<Done, Failure<'a>>
         requires short { length image.now ≤ limits.file }
         ensures appended { IfOk result (λ done. Appended S.appends
             (TaskDone self.now limits done image.now) sink.old sink.new) }
@@ -82,8 +84,8 @@ impl Task {
                 let kept = normalise_with_kept(alloc, image, *form, limits, sink)?;
                 return Ok(Done { good: true, kept });
             }
-            Task::Show(presenter) => {
-                presenter.run(alloc, image, limits, sink)?;
+            Task::Show(how) => {
+                append_shown(alloc, image, limits, *how, sink)?;
                 return Ok(Done::with_answer(true));
             }
             Task::List(format) => {
@@ -98,22 +100,26 @@ impl Task {
                 let good = Verifier { format: *format }.run(alloc, image, limits, sink)?;
                 return Ok(Done::with_answer(good));
             }
-            Task::Check(allowed, format) => {
+            Task::Check(policy, format) => {
                 let checker = Checker {
-                    allowed: *allowed,
+                    policy: *policy,
                     format: *format,
                 };
                 let clean = check_into(alloc, image, checker, limits, sink)?;
                 return Ok(Done::with_answer(clean));
             }
-            Task::Scan => {
-                let found = Scanner.run(alloc, image, limits, sink)?;
+            Task::Scan(format) => {
+                let found = Scanner { format: *format }.run(alloc, image, limits, sink)?;
                 return Ok(Done::with_answer(found));
             }
             Task::Update(changes, form) => {
                 let kept = update_with_kept(alloc, image, *changes, *form, limits, sink)?;
                 return Ok(Done { good: true, kept });
             }
+            Task::Get(plan) => match plan.getter().run(alloc, image, limits, sink) {
+                Ok(()) => return Ok(Done::with_answer(true)),
+                Err(error) => return Err(plan.failure(error)),
+            },
             Task::Extract(selection) => {
                 let select = selection.select();
                 Extractor { select }.run(alloc, image, limits, sink)?;
@@ -127,12 +133,32 @@ impl Task {
     }
 }
 
+/// Appends an image that is shown in this way. Fails as `check` does, or as the sink does.
+fn append_shown<S: Sink>(
+    alloc: Global,
+    image: &[u8],
+    limits: Limits,
+    how: ShowForm,
+    sink: &mut S,
+) -> Result<(), Error>
+    requires short { length image.now ≤ limits.file }
+    ensures appended { OnOk result (Appended S.appends (IsShownAs how limits image.now)
+        sink.old sink.new) }
+    ensures failed { IfErr result (AppendFailed S.fails (IsShownAs how limits image.now)
+        (IsCheckError limits image.now) sink.old sink.new) }
+{
+    match how {
+        ShowForm::Page(presenter) => presenter.run(alloc, image, limits, sink),
+        ShowForm::Json => JsonPresenter.run(alloc, image, limits, sink),
+    }
+}
+
 /// A task, on the image at its offset in the input. The limit is on the whole input. If the input
 /// ends before the offset, the image is empty.
 impl<'a> Command for ImagePlan<'a> {
     type Value = Done;
 
-    type Failure = Failure;
+    type Failure = Failure<'a>;
 
     ghost can_run = { λ _. ⊤ };
 
@@ -144,7 +170,7 @@ impl<'a> Command for ImagePlan<'a> {
         input: &[u8],
         limits: Limits,
         sink: &mut S,
-    ) -> Result<Done, Failure> {
+    ) -> Result<Done, Failure<'a>> {
         let image = image_at(input, self.offset as usize);
         self.task.run_on(alloc, image, limits, sink)
     }

@@ -29,6 +29,9 @@ struct call {
     struct memory name;
     uint32_t key;
     uint32_t index;
+    /* Where a single value is, and how it is written. */
+    struct memory place, property;
+    uint32_t value_form;
 };
 
 enum { PART = 1, IMAGE, CONFIG, DEFAULT };
@@ -57,6 +60,9 @@ static uint32_t make(const struct call *call, uint8_t *buffer, size_t size, boot
     if (strcmp(call->command, "compare") == 0)
         return (call->is_json ? bootimg_compare_json : bootimg_compare)(one, one_size, other, other_size, limit, depth, buffer, size,
                                                                         answer);
+    if (strcmp(call->command, "get") == 0)
+        return bootimg_get(one, one_size, call->place.bytes, call->place.size, call->property.bytes, call->property.size,
+                           call->value_form, limit, depth, buffer, size, answer);
     if (strcmp(call->command, "cause") == 0)
         return bootimg_cause_name(call->number, buffer, size, answer);
     if (strcmp(call->command, "sentence") == 0)
@@ -93,6 +99,12 @@ static void tell(const struct call *call, const bootimg_result *answer)
         fprintf(stderr, "bootimg: %s: %.*s at %u\n", call->paths[answer->file - 1], (int)named.size, name, (unsigned)answer->offset);
 }
 
+/* Why there is no value, or no extracted payload. */
+static const char *const reasons[] = {
+    "", "the selection does not fit this kind of image", "no such part", "no such image", "no such configuration",
+    "no such key", "bad list", "missing image", "no such entry", "no payload", "no such node", "no such property", "no text", "no number",
+};
+
 /* Calls with buffers of several sizes, and writes the output. Returns the exit status of the program. */
 static int run(const struct call *call, FILE *output)
 {
@@ -100,7 +112,7 @@ static int run(const struct call *call, FILE *output)
     bootimg_result answer, again;
     uint32_t status = make_with(call, &buffer, 0, &answer);
     give_back(buffer);
-    CHECK(answer.reason == 0);
+    CHECK((answer.reason != 0) == (status == BOOTIMG_NOT_FOUND));
     CHECK(make(call, NULL, 0, &again) == status && memcmp(&answer, &again, sizeof answer) == 0);
     if (status != BOOTIMG_OK && status != BOOTIMG_NO_ROOM) {
         CHECK(answer.size == 0 && answer.value == 0);
@@ -112,7 +124,11 @@ static int run(const struct call *call, FILE *output)
             tell(call, &answer);
         else
             CHECK(answer.cause == 0 && answer.offset == 0 && answer.file == 0);
-        return status == BOOTIMG_REFUSED ? 2 : 10 + (int)status;
+        if (status == BOOTIMG_NOT_FOUND && !call->is_quiet) {
+            CHECK(strcmp(call->command, "get") == 0 && answer.reason <= BOOTIMG_NO_NUMBER);
+            fprintf(stderr, "bootimg: %s: %s\n", call->paths[0], reasons[answer.reason]);
+        }
+        return status == BOOTIMG_REFUSED || status == BOOTIMG_NOT_FOUND ? 2 : 10 + (int)status;
     }
     CHECK(status == (answer.size == 0 ? BOOTIMG_OK : BOOTIMG_NO_ROOM));
     CHECK(answer.cause == 0 && answer.offset == 0 && answer.file == 0);
@@ -163,10 +179,6 @@ static uint32_t make_extract(const struct call *call, bootimg_result *answer)
 /* Writes what is extracted out of the file, or why there is nothing. Returns the exit status of the program. */
 static int extract(const struct call *call, FILE *output)
 {
-    static const char *const reasons[] = {
-        "", "the selection does not fit this kind of image", "no such part", "no such image", "no such configuration",
-        "no such key", "bad list", "missing image", "no such entry", "no payload",
-    };
     struct {
         bootimg_result answer;
         uint64_t after;
@@ -207,7 +219,7 @@ static const struct {
     int is_json;
 } of_one[] = {
     {"normalise", 0}, {"update", 0}, {"convert", 0}, {"list", 0}, {"list", 1}, {"describe", 0}, {"describe", 1}, {"verify", 0},
-    {"verify", 1}, {"check", 0}, {"check", 1}, {"show", 0},
+    {"verify", 1}, {"check", 0}, {"check", 1}, {"show", 0}, {"get", 0},
 };
 
 enum { CALLS_OF_ONE = sizeof of_one / sizeof of_one[0] };
@@ -234,9 +246,9 @@ static int try_arguments(struct call *call)
     }
     CHECK(bootimg_normalise(call->files[0].bytes, call->files[0].size, 2, call->limit, 64, &byte, 1, &answer) ==
           BOOTIMG_WRONG_ARGUMENT);
-    CHECK(bootimg_check(call->files[0].bytes, call->files[0].size, 128, call->limit, 64, &byte, 1, &answer) ==
+    CHECK(bootimg_check(call->files[0].bytes, call->files[0].size, 2 * BOOTIMG_SIGNED, call->limit, 64, &byte, 1, &answer) ==
           BOOTIMG_WRONG_ARGUMENT);
-    CHECK(bootimg_check_json(call->files[0].bytes, call->files[0].size, 128, call->limit, 64, &byte, 1, &answer) ==
+    CHECK(bootimg_check_json(call->files[0].bytes, call->files[0].size, 2 * BOOTIMG_SIGNED, call->limit, 64, &byte, 1, &answer) ==
           BOOTIMG_WRONG_ARGUMENT);
     CHECK(bootimg_update(call->files[0].bytes, call->files[0].size, 4, 0, 0, call->limit, 64, &byte, 1, &answer) ==
           BOOTIMG_WRONG_ARGUMENT);
@@ -244,6 +256,10 @@ static int try_arguments(struct call *call)
           BOOTIMG_WRONG_ARGUMENT);
     CHECK(bootimg_show(call->files[0].bytes, call->files[0].size, 2, call->limit, 64, &byte, 1, &answer) ==
           BOOTIMG_WRONG_ARGUMENT);
+    CHECK(bootimg_get(call->files[0].bytes, call->files[0].size, (const uint8_t *)"/", 1, (const uint8_t *)"x", 1, 4, call->limit, 64,
+                      &byte, 1, &answer) == BOOTIMG_WRONG_ARGUMENT);
+    CHECK(bootimg_get(call->files[0].bytes, call->files[0].size, (const uint8_t *)"size", 4, NULL, 0, BOOTIMG_VALUE_RAW, call->limit, 64,
+                      &byte, 1, &answer) == BOOTIMG_WRONG_ARGUMENT);
     for (int selection = PART; selection <= DEFAULT; selection++) {
         struct call wrong = *call;
         wrong.selection = selection;
@@ -361,6 +377,24 @@ static int try_threads(const struct call *call)
     return 0;
 }
 
+/* The bytes of a word. */
+static struct memory bytes_of(const char *word)
+{
+    struct memory bytes = take(strlen(word));
+    memcpy(bytes.bytes, word, bytes.size);
+    return bytes;
+}
+
+/* The number of a form of values. */
+static uint32_t form_of(const char *word)
+{
+    static const char *const forms[] = {"shown", "text", "number", "raw"};
+    uint32_t form = BOOTIMG_VALUE_SHOWN;
+    while (form < BOOTIMG_VALUE_RAW && strcmp(word, forms[form]) != 0)
+        form++;
+    return form;
+}
+
 /* The number of a key. */
 static uint32_t key_of(const char *word)
 {
@@ -377,6 +411,7 @@ int main(int count, char **words)
     int files = 0, status;
     memset(&call, 0, sizeof call);
     call.limit = BOOTIMG_LIMIT;
+    call.place = bytes_of("load");
     CHECK(count > 1);
     call.command = words[1];
     for (int i = 2; i < count; i++) {
@@ -389,7 +424,9 @@ int main(int count, char **words)
         } else if (strcmp(words[i], "--limit") == 0) {
             call.limit = (uint32_t)strtoul(words[++i], NULL, 10);
         } else if (strcmp(words[i], "--kinds") == 0) {
-            call.kinds = (uint32_t)strtoul(words[++i], NULL, 10);
+            call.kinds |= (uint32_t)strtoul(words[++i], NULL, 10);
+        } else if (strcmp(words[i], "--signed") == 0) {
+            call.kinds |= BOOTIMG_SIGNED;
         } else if (strcmp(words[i], "--number") == 0) {
             call.number = (uint32_t)strtoul(words[++i], NULL, 10);
         } else if (strcmp(words[i], "--time") == 0) {
@@ -402,13 +439,18 @@ int main(int count, char **words)
             call.index = (uint32_t)strtoul(words[++i], NULL, 0);
         } else if (strcmp(words[i], "--image") == 0 || strcmp(words[i], "--config") == 0) {
             call.selection = strcmp(words[i], "--image") == 0 ? IMAGE : CONFIG;
-            call.name = take(strlen(words[i + 1]));
-            memcpy(call.name.bytes, words[i + 1], call.name.size);
-            i++;
+            call.name = bytes_of(words[++i]);
         } else if (strcmp(words[i], "--default") == 0) {
             call.selection = DEFAULT;
         } else if (strcmp(words[i], "--key") == 0) {
             call.key = key_of(words[++i]);
+        } else if (strcmp(words[i], "--as") == 0) {
+            call.value_form = form_of(words[++i]);
+        } else if (strcmp(words[i], "--place") == 0) {
+            give_back(call.place);
+            call.place = bytes_of(words[++i]);
+        } else if (strcmp(words[i], "--property") == 0) {
+            call.property = bytes_of(words[++i]);
         } else if (strcmp(words[i], "--index") == 0) {
             call.index = (uint32_t)strtoul(words[++i], NULL, 0);
         } else {
@@ -442,6 +484,9 @@ int main(int count, char **words)
     }
     if (call.name.map != NULL)
         give_back(call.name);
+    if (call.property.map != NULL)
+        give_back(call.property);
+    give_back(call.place);
     while (files > 0)
         give_back(call.files[--files]);
     CHECK(fflush(stdout) == 0);

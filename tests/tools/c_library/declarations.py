@@ -89,13 +89,16 @@ FOUND = [
     ("", "extract.rt", r"ExtractError::(?P<name>\w+) => Failure::NotFound\((?P<number>\d+), "),
     ("", "failure.rt", r"const (?P<name>[A-Z_]+): u32 = (?P<number>\d+);"),
     ("", "failure.rt", r"ConfigError::(?P<name>\w+)[()a-z]* => Failure::NotFound\((?P<number>\d+), "),
+    ("", "values.rt", r"const (?P<name>[A-Z_]+): u32 = (?P<number>\d+);"),
+    ("VALUE_", "values.rt", r"(?P<number>\d+) => Some\(ValueForm::(?P<name>\w+)\)"),
     ("PLACE_", "images.rt", r"Place::(?P<name>\w+)(?:\(offset\))? => \((?:0|offset as usize), (?P<number>\d+)\)"),
     ("CAUSE_", "causes.rt", r"(?P<number>\d+) => Some\(Cause::(?P<name>\w+)\)"),
     ("VERDICT_", "verdicts.rt", r"Verdict::(?P<name>\w+) => (?P<number>\d+),"),
     ("HAS_", "fit_building.rt", r"(?P<name>load|entry): address_if\(has_bit\((?P<number>\d+), image.addresses\)"),
     ("CHANGE_", "update.rt", r"let new_(?P<name>time) = if has_bit\((?P<number>\d+), changes\)"),
     ("CHANGE_", "update.rt", r"(?P<name>hashes): has_bit\((?P<number>\d+), changes\)"),
-    ("ALLOW_", "arguments.rt", r"(?P<name>\w+): has_bit\((?P<number>\d+), kinds\)"),
+    ("ALLOW_", "arguments.rt", r"(?P<name>(?!signed\b)\b\w+): has_bit\((?P<number>\d+), kinds\)"),
+    ("", "arguments.rt", r"\b(?P<name>signed): has_bit\((?P<number>\d+), kinds\)"),
     ("CONCERN_", "concerns.rt", r"ConcernKind::(?P<name>\w+) => (?P<number>\d+),"),
     ("", "concerns.rt", r"Key::(?P<name>\w+) => (?P<number>\d+),"),
 ]
@@ -142,6 +145,7 @@ def placed(words, prefix, number_of_place):
 in_module = placed(module["CONCERNS"], "ALLOW_", lambda place: 1 << place)
 in_module |= placed(module["KEYS"], "", lambda place: place) | placed(module["statuses"], "", lambda place: place)
 in_module |= placed(module["VERDICTS"], "VERDICT_", lambda place: place)
+in_module |= {"BOOTIMG_SIGNED": module["_SIGNED"]}
 in_module |= {"BOOTIMG_LIMIT": module["LIMIT"], "BOOTIMG_DEPTH": module["DEPTH"], "BOOTIMG_MISSING": module["_MISSING"]}
 for name, number in in_module.items():
     if numbers.get(name) != number:

@@ -68,7 +68,7 @@ static void repair(uint8_t *file, size_t size)
 /* The calls with a buffer, after those with an array. */
 enum {
     NORMALISE = ARRAYS, UPDATE, CONVERT, LIST, LIST_JSON, DESCRIBE, DESCRIBE_JSON, SHOW, VERIFY, VERIFY_JSON, CHECK_LINES, CHECK_JSON,
-    COMPARE, COMPARE_JSON, CAUSE_NAME, EXPLAIN, VERSION, CALLS
+    COMPARE, COMPARE_JSON, GET, CAUSE_NAME, EXPLAIN, VERSION, CALLS
 };
 
 static size_t element_size(int call)
@@ -107,6 +107,9 @@ static uint32_t make_text(const struct choice *c, int call, uint8_t *to, size_t 
         return bootimg_compare(c->file, c->size, c->name, c->name_size, c->limit, c->depth, to, room, answer);
     case COMPARE_JSON:
         return bootimg_compare_json(c->file, c->size, c->file, c->size, c->limit, c->depth, to, room, answer);
+    case GET:
+        return bootimg_get(c->file, c->size, (const uint8_t *)"/", 1, c->name, c->name_size, c->number % 5, c->limit, c->depth, to, room,
+                           answer);
     case CAUSE_NAME:
         return bootimg_cause_name(c->number % 29, to, room, answer);
     case EXPLAIN:
@@ -161,7 +164,7 @@ static void check_elements(const struct choice *c, int call, const void *element
             check_region(c, concern->name);
             check_region(c, concern->node);
             check_region(c, concern->algorithm);
-            CHECK(concern->kind != 0 && concern->kind <= BOOTIMG_CONCERN_TRAILING && (concern->kind & (concern->kind - 1)) == 0);
+            CHECK(concern->kind != 0 && concern->kind <= BOOTIMG_CONCERN_UNIT_ADDRESS && (concern->kind & (concern->kind - 1)) == 0);
             CHECK((concern->kind & c->number) == 0);
             CHECK(concern->verdict <= BOOTIMG_VERDICT_MALFORMED && concern->key <= BOOTIMG_SCRIPT);
         } else if (call == PROPERTIES) {

@@ -71,6 +71,9 @@ static uint32_t make(int call, uint8_t *buffer, bootimg_result *answer)
                                  &(bootimg_build_image){.name = {0, 1}, .payload = {0, size}, .os = 5, .arch = 22, .image_type = 2}, 1,
                                  BOOTIMG_EMBEDDED, BOOTIMG_LIMIT, 64, buffer, sizeof text, answer);
     case 31: return bootimg_concerns(file, size, 0, BOOTIMG_LIMIT, 64, (void *)buffer, 100, answer);
+    case 32:
+        return bootimg_get(file, size, (const uint8_t *)"/", 1, (const uint8_t *)"timestamp", 9, BOOTIMG_VALUE_NUMBER, BOOTIMG_LIMIT,
+                           64, buffer, sizeof text, answer);
     default: return bootimg_listed(file, size, name, 6, BOOTIMG_KERNEL, BOOTIMG_LIMIT, 64, (void *)buffer, 100, answer);
     }
 }
@@ -106,7 +109,7 @@ int main(int count, char **words)
     size = input == NULL ? 0 : fread(file, 1, sizeof file, input);
     if (size == 0)
         return 2;
-    for (int call = 0; call <= 32; call++) {
+    for (int call = 0; call <= 33; call++) {
         bootimg_result expected;
         uint32_t status;
         memset(wanted, 0xa5, sizeof wanted);

@@ -2,22 +2,29 @@
 
 objects.py RUNS LIBRARY: over the shared LIBRARY, the lines that are put together from the members of an Image are those that the run of
 `list`, `describe`, `verify` or `check` on its file has to write, and a file that is refused there is refused here. Payloads are views of
-the file. Names can be given back to calls. The examples in the comments of the module are run. The last line is `N passed, M failed`.
+the file, and are released with the image. A header and parts build the normal form again. A value is the number or the texts that `get`
+prints. An image is as long as `scan` prints. Names can be given back to calls. The examples in the comments of the module are run. The
+last line is `N passed, M failed`.
 """
 
 import doctest
 import hashlib
 import json
+import mmap
 import os
+import struct
 import sys
+import tempfile
 from pathlib import Path
 
 sys.dont_write_bytecode = True
 root = Path(__file__).resolve().parents[3]
 runs = Path(sys.argv[1]).resolve()
 os.environ["BOOTIMG_LIBRARY"] = str(Path(sys.argv[2]).resolve())
-sys.path.insert(0, str(root / "python"))
+sys.path[:0] = [str(root / "python"), str(root / "tests/conformance")]
+import reference
 import bootimg
+import bootimg.codes
 import bootimg.image
 
 passed = failed = 0
@@ -143,6 +150,11 @@ def concern_line(concern):
         "missing": lambda: [shown(concern.configuration), concern.key, str(concern.index)],
         "bad-default": lambda: [or_none(concern.default)],
         "trailing": lambda: [str(concern.size)],
+        "skipped-hash": lambda: [shown(concern.image), shown(concern.node)],
+        "unsigned": lambda: [or_none(concern.configuration)],
+        "unit-address": lambda: ["".join(f"/{shown(name)}" for name in concern.path.split("/")[1:])],
+        **dict.fromkeys(("no-nodes", "no-images", "strings"), lambda: [shown(concern.configuration), shown(concern.signature)]),
+        **dict.fromkeys(("uncovered", "foreign"), lambda: [*map(shown, (concern.configuration, concern.signature, concern.path))]),
     }[concern.kind]()
     return " ".join([concern.kind, *words])
 
@@ -181,18 +193,84 @@ def try_payloads(path):
             check(f"{path}: a list of a configuration", configuration.images(key)[0].payload == wanted)
 
 
+def raises(kind, call, *arguments, **options):
+    """What a call that has to fail raises, as text."""
+    try:
+        call(*arguments, **options)
+    except kind as error:
+        return str(error)
+    return None
+
+
+def gotten(image, path, name, form):
+    """What `get` returns of a property, or why it returns nothing."""
+    try:
+        return image.get(path, name, form).decode().splitlines()
+    except bootimg.NotFound as reason:
+        return reason.reason
+
+
+def meant(value, member):
+    """A member of a value as `get` prints it, or why there is none."""
+    try:
+        found = getattr(value, member)
+    except bootimg.NotFound as reason:
+        return reason.reason
+    return list(found) if member == "texts" else [f"0x{found:0{2 * len(value)}x}"]
+
+
+def try_values(path, image, node, shown_path):
+    """The values of the properties of a node, and of the nodes below it, are numbers and texts as for `get`."""
+    for name, value in node.properties.items():
+        if shown_path.count("/") == 2 and shown_path.startswith("/images/") and name in bootimg.image._PLACING:
+            continue
+        where = f"{path}: {shown_path or '/'} {name}"
+        number, texts = (gotten(image, shown_path or "/", shown(name), form) for form in ("number", "text"))
+        check(f"{where}: its number", meant(value, "number") == number)
+        check(f"{where}: its texts", meant(value, "texts") == texts)
+        check(f"{where}: its size", [meant(value, member) == number for member in ("u32", "u64")] == [len(value) != 8, len(value) != 4])
+        check(f"{where}: it is bytes", value == bytes(image.property_value(node.path, name)) and isinstance(value, bytes))
+    for child in node.children:
+        try_values(path, image, child, f"{shown_path}/{shown(child.name)}")
+
+
+def try_building(path, image):
+    """The header and the parts of a legacy image build its normal form, also with other fields."""
+    built = bootimg.build_legacy(image.parts, header=image.header)
+    check(f"{path}: its header builds it", built == image.normalise())
+    codes = {field: bootimg.code_number(field, getattr(image.header, field)) for field in bootimg.CODES}
+    numbers = {field: getattr(image.header, field) for field in ("time", "load", "entry")}
+    payloads = [part.payload for part in image.parts]
+    check(f"{path}: so do its fields", bootimg.build_legacy(payloads, image.header.name, **codes, **numbers) == built)
+    changed = bootimg.build_legacy(payloads, "other", header=image.header, time=7, compression="lz4")
+    wanted = bootimg.build_legacy(payloads, "other", **{**codes, **numbers, "time": 7, "compression": 5})
+    check(f"{path}: so it does with other fields", changed == wanted and bootimg.open(changed).header.name == "other")
+
+
 entries = json.loads((runs / "runs.json").read_text(encoding="utf-8"))
 accepted = set()
+extents = 0
 for entry in entries:
     arguments, name = entry["arguments"], entry["file"]
+    if arguments in (["scan"], ["scan", "-"]) and name and entry["status"] == 0 and (runs / name).exists():
+        first = bytes.fromhex(entry["output"]).decode().split("\n")[0].split(" ")
+        if first[0] == "0":
+            check(f"the extent of {name}", bootimg.open(runs / name).extent == int(first[2]))
+            extents += 1
     if not name or arguments is None or len(arguments) != 1 or arguments[0] not in COMMANDS or not (runs / name).exists():
         continue
     wanted = bytes.fromhex(entry["output"]).decode() if entry["status"] != 2 else entry["errors"]
     check(f"{arguments[0]} {name}", outcome(COMMANDS[arguments[0]], runs / name) == wanted)
     if entry["status"] != 2:
         accepted.add(runs / name)
+check("there are extents", extents > 5)
 for path in sorted(accepted):
     try_payloads(path)
+    accepted_image = bootimg.open(path)
+    if accepted_image.kind == "fit":
+        try_values(path, accepted_image, accepted_image.root, "")
+    else:
+        try_building(path, accepted_image)
 check("there are files of both kinds", {bootimg.open(path).kind for path in accepted} == {"legacy", "fit"})
 
 # What a file is given as.
@@ -232,9 +310,64 @@ except bootimg.Refused as refused:
 check("its normal form", small.normalise() == bootimg.normalise(small.file) and small.update(time=5) == bootimg.update(small.file, 5))
 check("its FIT", bootimg.open(bootimg.convert(small.file)).image("kernel-1").payload == small.parts[0].payload)
 
+# The codes are those that the arguments of the program name.
+for field, names in bootimg.CODES.items():
+    check(f"the names of {field}", names == reference.given_names(field))
+    check(f"they are found by their codes: {field}", all(names[bootimg.code_name(field, code)] == code for code in names.values()))
+
+# What is no header and no code.
+linux = {"os": "linux", "arch": "arm64", "type": "kernel"}
+check("the header of a FIT is none", raises(bootimg.WrongArgument, bootimg.build_legacy, [b""], header=image.header) is not None)
+check("a field is missing", raises(TypeError, bootimg.build_legacy, [b"x"], os="linux", arch="arm") is not None)
+for field, code in {"os": "linus", "arch": 256, "type": -1, "compression": ""}.items():
+    found = raises(bootimg.WrongArgument, bootimg.build_legacy, [b"x"], **{**linux, field: code})
+    check(f"{code!r} is no code of {field}", found == f"wrong argument: {field} {code!r}")
+    made = bootimg.BuildImage("x", b"", **linux)._replace(**{field: code})
+    check(f"nor is it of an image of a FIT: {code!r}", raises(bootimg.WrongArgument, bootimg.build_fit, [made]) == found)
+check("there is no such field", raises(bootimg.WrongArgument, bootimg.code_number, "load", 0) == "wrong argument: load")
+check("a name of a code", [bootimg.code_name("arch", code) for code in (7, 22, 200)] == ["ppc", "arm64", None])
+named, numbered = bootimg.BuildImage("x", b"x", **linux), bootimg.BuildImage("x", b"x", 5, 22, 2, 0)
+check("names and numbers of codes", bootimg.build_fit([named]) == bootimg.build_fit([numbered]))
+
+
+# An image is closed with its views, and then what it is over can be closed.
+def mapped(file):
+    """A file of the system with these bytes, mapped to memory."""
+    with tempfile.TemporaryFile() as target:
+        target.write(file)
+        target.flush()
+        return mmap.mmap(target.fileno(), 0, access=mmap.ACCESS_READ)
+
+
+for name in "board.itb", "board-external.itb", "kernel.uimage", "two-parts.uimage":
+    file = (root / "examples" / name).read_bytes()
+    with mapped(file) as buffer:
+        with bootimg.open(buffer) as one:
+            payloads = [part.payload for part in (*one.parts, *one.images)]
+            values = [one.property_value("/images/fdt-1", "type") for _ in range(3)] if one.images else []
+            held = payloads[0][:1]
+            kept = struct.iter_unpack("B", payloads[-1])
+            check(f"{name}: what is read is there", bytes(payloads[0])[:1] == bytes(held) and len(one.normalise()) > 64)
+        check(f"{name}: its views are released", all(raises(ValueError, bytes, view) for view in [one.file, *payloads[:-1], *values]))
+        check(f"{name}: it has no bytes now", raises(ValueError, one.normalise) is not None and name[:1] and "image of" in repr(one))
+        check(f"{name}: other views are held", held[0] == file[one.parts[0].offset if one.parts else one.images[0].offset] and next(kept))
+        check(f"{name}: they hold the buffer", raises(BufferError, buffer.close) is not None)
+        held.release()
+        del kept, payloads
+        one.close()
+    check(f"{name}: the buffer is closed", buffer.closed)
+with mapped((root / "examples/board.itb").read_bytes()[:100]) as buffer:
+    try:
+        bootimg.open(buffer)
+    except bootimg.Refused:
+        buffer.close()
+    check("a buffer is closed while the exception is at hand", buffer.closed)
+with bootimg.open(board) as one:
+    check("a path is opened in the same way", one.image("kernel-1").size == 468)
+
 # The examples in the comments.
 os.chdir(root)
-for module in bootimg, bootimg.image:
+for module in bootimg, bootimg.codes, bootimg.image:
     tried = doctest.testmod(module)
     check(f"the examples in the comments of {module.__name__}", tried.failed == 0 and tried.attempted > 1)
 print(f"{passed} passed, {failed} failed")

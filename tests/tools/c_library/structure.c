@@ -307,7 +307,24 @@ static int is_same_region(bootimg_region one, bootimg_region other)
     return one.offset == other.offset && one.size == other.size;
 }
 
-/* Prints the algorithms of the good hash nodes of the image whose name is in a region. */
+/* Whether the name of a hash node that U-Boot skips is in a region. */
+static int is_skipped(struct memory file, bootimg_region node)
+{
+    const uint32_t others = (BOOTIMG_SIGNED - 1) ^ BOOTIMG_ALLOW_SKIPPED_HASH;
+    const struct call call = {.call = CONCERNS, .file = file, .kinds = others};
+    bootimg_result answer;
+    struct memory array;
+    int found = 0;
+    bootimg_concerns(file.bytes, file.size, others, BOOTIMG_LIMIT, BOOTIMG_DEPTH, NULL, 0, &answer);
+    CHECK(make_with(&call, &array, answer.size, &answer) == BOOTIMG_OK);
+    const bootimg_concern *concerns = (const bootimg_concern *)(const void *)array.bytes;
+    for (size_t i = 0; i < answer.size; i++)
+        found |= is_same_region(concerns[i].node, node);
+    give_back(array);
+    return found;
+}
+
+/* Prints the algorithms of the good hash nodes, but skipped ones, of the image whose name is in a region. */
 static void print_good(FILE *output, struct memory file, bootimg_region image)
 {
     const struct call call = {.call = VERDICTS, .file = file};
@@ -316,7 +333,7 @@ static void print_good(FILE *output, struct memory file, bootimg_region image)
     struct memory array = elements_of(&call, "verdicts", &status, &answer, output);
     const bootimg_hash *hashes = (const bootimg_hash *)(const void *)array.bytes;
     for (size_t i = 0; i < answer.size; i++)
-        if (is_same_region(hashes[i].image, image) && hashes[i].verdict == BOOTIMG_VERDICT_GOOD)
+        if (is_same_region(hashes[i].image, image) && hashes[i].verdict == BOOTIMG_VERDICT_GOOD && !is_skipped(file, hashes[i].node))
             print_found(output, file, hashes[i].algorithm);
     give_back(array);
 }
@@ -348,10 +365,11 @@ static void leave_out(struct memory file, uint32_t kinds)
     bootimg_result all, left;
     struct memory array, some;
     size_t count = 0;
-    if (bootimg_concerns(file.bytes, file.size, 0, BOOTIMG_LIMIT, BOOTIMG_DEPTH, NULL, 0, &all) == BOOTIMG_REFUSED)
+    if (bootimg_concerns(file.bytes, file.size, BOOTIMG_SIGNED, BOOTIMG_LIMIT, BOOTIMG_DEPTH, NULL, 0, &all) == BOOTIMG_REFUSED)
         return;
+    call.kinds = BOOTIMG_SIGNED;
     CHECK(make_with(&call, &array, all.size, &all) == BOOTIMG_OK);
-    call.kinds = kinds;
+    call.kinds = BOOTIMG_SIGNED + kinds;
     CHECK(make_with(&call, &some, all.size, &left) == BOOTIMG_OK && left.size <= all.size);
     const bootimg_concern *concerns = (const bootimg_concern *)(const void *)array.bytes;
     const bootimg_concern *kept = (const bootimg_concern *)(const void *)some.bytes;
@@ -393,9 +411,9 @@ static void print_elements(FILE *output, struct memory file, int which)
 static void print_concerns(FILE *output, struct memory file)
 {
     print_elements(output, file, CONCERNS);
-    for (uint32_t kind = 1; kind < 128; kind <<= 1) {
+    for (uint32_t kind = 1; kind < BOOTIMG_SIGNED; kind <<= 1) {
         leave_out(file, kind);
-        leave_out(file, 127 ^ kind);
+        leave_out(file, (BOOTIMG_SIGNED - 1) ^ kind);
     }
 }
 
@@ -540,7 +558,7 @@ static void try_numbers(struct memory file)
     call.key = BOOTIMG_SCRIPT + 1;
     CHECK(fill_array(&call, BOOTIMG_LIMIT, BOOTIMG_DEPTH, element, 1, &answer) == BOOTIMG_WRONG_ARGUMENT);
     call.call = CONCERNS;
-    call.kinds = 2 * BOOTIMG_ALLOW_TRAILING;
+    call.kinds = 2 * BOOTIMG_SIGNED;
     CHECK(fill_array(&call, BOOTIMG_LIMIT, BOOTIMG_DEPTH, element, 1, &answer) == BOOTIMG_WRONG_ARGUMENT);
     CHECK(is_unchanged(element, sizeof element) && is_unchanged((const uint8_t *)&fields, sizeof fields));
     CHECK(is_unchanged((const uint8_t *)&fit, sizeof fit));

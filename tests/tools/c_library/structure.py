@@ -86,7 +86,8 @@ def unshown(name):
 def concern_lines(path):
     """The lines of the concerns, of those in JSON."""
     for one in json.loads(bootimg.check_json(path.read_bytes()))["concerns"]:
-        name = unshown(one.get("image", one.get("configuration", one.get("default"))))
+        has_names = one["concern"] not in bootimg.CONCERNS[8:]
+        name = unshown(one.get("image", one.get("configuration", one.get("default"))) if has_names else None)
         words = [str(1 << bootimg.CONCERNS.index(one["concern"])), name, unshown(one.get("node")), unshown(one.get("algorithm"))]
         words += [str(one.get("index", 0)), str(one.get("size", 0))]
         words += [str(bootimg.VERDICTS.index(one["verdict"])) if "verdict" in one else "0"]

@@ -32,10 +32,10 @@ COMMANDS = {
     "describe": {"--json"},
     "show": {"--layout"},
     "verify": {"--json"},
-    "check": {"--allow", "--json"},
+    "check": {"--allow", "--signed", "--json"},
     "convert": set(),
 }
-FLAGS = {"--external", "--hashes", "--default", "--json", "--layout"}
+FLAGS = {"--external", "--hashes", "--default", "--json", "--layout", "--signed"}
 SELECTIONS = {"--part", "--image", "--config", "--default"}
 
 
@@ -113,6 +113,45 @@ def differences(entry):
     return found, entry["arguments"] + [path], wanted
 
 
+def by_module_or_reason(path, words, form):
+    """The status and the output of a call of `get` of the module, and why it fails."""
+    try:
+        return 0, bootimg.get(path.read_bytes(), *words, form=form), ""
+    except bootimg.Refused as refused:
+        return 2, b"", str(refused)
+    except bootimg.NotFound as missing:
+        return 2, b"", missing.reason
+    except bootimg.WrongArgument:
+        return 2, b"", "bad value"
+
+
+def by_calls_or_reason(path, words, form):
+    """The same of the call for C."""
+    named = [] if len(words) == 1 else ["--property", words[1]]
+    status, output, errors = outcome([calls.resolve(), "get", "--as", form, "--place", words[0], *named, path])
+    return (2, output, "bad value") if status == 14 else (status, output, errors.decode().strip().rpartition(": ")[2])
+
+
+def gotten(entry):
+    """How the module and the call for C differ from the program on a run that gets one value, or None if it is no such run."""
+    command, *words = entry["arguments"] or [""]
+    form = "shown"
+    if words[:1] == ["--as"]:
+        form, words = words[1], words[2:]
+    path = runs / entry["file"] if entry["file"] else None
+    named = len(words) == 2 and not words[1].startswith("/") or len(words) == 3 and words[1].startswith("/")
+    if command != "get" or not named or words[0] != "-" or not path or not path.exists() or form not in bootimg.VALUE_FORMS:
+        return None
+    options = ["--as", form] if form != "shown" else []
+    status, output, errors = outcome([program.resolve(), "get", *options, path, *words[1:]])
+    wrong = []
+    for name, call in ("bootimg.get", by_module_or_reason), ("calls.c", by_calls_or_reason):
+        found, text, reason = call(path, words[1:], form)
+        if (found, text) != (status, output) or reason.encode() not in errors:
+            wrong.append(f"{name}: {' '.join(entry['arguments'])}")
+    return wrong
+
+
 with open(runs / "runs.json", encoding="utf-8") as file:
     entries = json.load(file)
 passed = failed = 0
@@ -125,6 +164,15 @@ for found, words, wanted in results:
         print(f"FAILED: {name}: {' '.join(words)}")
     failed += len(found)
     passed += 2 - len(found)
+
+values = [found for found in map(gotten, entries) if found is not None]
+passed += sum(2 - len(found) for found in values)
+failed += sum(map(len, values)) + (len(values) < 30)
+for found in values:
+    for name in found:
+        print(f"FAILED: {name}")
+if len(values) < 30:
+    print("FAILED: too few runs get one value")
 
 # Images that are built have the other two causes.
 refusals = {bootimg.cause_name(number) for number in range(1, 27)} - {"BadField", "Unsupported"} | set(bootimg.REASONS[:9])

@@ -20,6 +20,11 @@ CONCERNS = {
     "missing": ("configuration", "key", "index"),
     "bad-default": ("default",),
     "trailing": ("size",),
+    "skipped-hash": ("image", "node"),
+    "unsigned": ("configuration",),
+    **dict.fromkeys(("no-nodes", "no-images", "strings"), ("configuration", "signature")),
+    **dict.fromkeys(("uncovered", "foreign"), ("configuration", "signature", "path")),
+    "unit-address": ("path",),
 }
 
 
@@ -217,7 +222,8 @@ def concerns(value):
             elif member == "algorithms":
                 words += map(name, array(word))
             else:
-                words.append(name_or_hyphen(word) if member in ("algorithm", "default") else name(word))
+                may_be_null = member in ("algorithm", "default") or kind == "unsigned"
+                words.append(name_or_hyphen(word) if may_be_null else name(word))
         yield " ".join(words)
 
 

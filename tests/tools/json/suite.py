@@ -3,7 +3,8 @@
 suite.py [--only TEXT] [--outputs FILE] PROGRAM (see tests/tools/runs.py): runs list, describe, verify and check on each file, compare on
 it and itself and on it and another one, and these commands with the options that they have in a run of the suite: each without --json and
 with it. The status and standard error are the same. The output is JSON of which lines.py makes the lines, and is that of
-tests/conformance/reference.py. describe is also tried with the least limit that its JSON fits in, and with one less.
+tests/conformance/reference.py. describe is also tried with the least limit that its JSON fits in, and with one less. What show and scan
+write with --json is that of the reference.
 """
 
 import shlex
@@ -93,6 +94,12 @@ class Suite:
                 if made != lines[1]:
                     yield f"the lines {made} are made of the JSON, not {lines[1]}"
 
+    def wrong_output(self, name, command):
+        """How the answer to a command differs from that of the reference, and the JSON that it writes."""
+        arguments = shlex.split(command)
+        answer, wanted = self.answer(name, arguments), self.reference(name, arguments)
+        return [] if answer == wanted else [f"{answer} is not what the reference does: {wanted}"], answer[1]
+
     def wrong_limits(self, name, command):
         """What is wrong with the least limit for the JSON of a description, and with one less. There is no JSON."""
         _, output, _ = self.answer(name, ["describe", "--json"])
@@ -110,6 +117,8 @@ def main(words):
     with tempfile.TemporaryDirectory() as directory:
         suite = Suite(program, Path(directory))
         runs = [(f"{name}: {command}", partial(suite.wrong_run, name, command)) for name, command in suite.runs()]
+        others = [(name, command) for name in suite.vectors.bodies for command in ("show --json", "scan --json")]
+        runs += [(f"{name}: {command}", partial(suite.wrong_output, name, command)) for name, command in others]
         limited = "describe --json --limit"
         runs += [(f"{name}: {limited}", partial(suite.wrong_limits, name, limited)) for name in suite.accepted]
         return report(runs, options)

@@ -16,7 +16,7 @@ const html = fs.readFileSync(pagePath, 'utf8');
 const compiled = new WebAssembly.Module(Buffer.from(/id="module">([^<]*)</.exec(html)[1], 'base64'));
 const scripts = [...html.matchAll(/<script>([^]*?)<\/script>/g)].map((match) => match[1]);
 const NAMES = ['Library', 'MemoryError', 'CallError', 'textOf', 'bytesOfName', 'linesOf', 'contentsOf', 'configurationsOf', 'typesOf',
-  'verdictsOf', 'countsOf', 'regionsOf', 'scaleOf', 'rowsOf', 'DONE', 'REFUSED', 'LIMIT', 'DEPTH'];
+  'verdictsOf', 'addressesOf', 'numberOf', 'notesOf', 'gradeOf', 'placesOf', 'countsOf', 'regionsOf', 'scaleOf', 'rowsOf', 'DONE', 'REFUSED', 'LIMIT', 'DEPTH'];
 // Those for the library, for its texts and for regions use nothing of a browser.
 const page = vm.runInThisContext(`${scripts.slice(0, 3).join('\n')}\n;({ ${NAMES.join(', ')} })`);
 
@@ -55,6 +55,9 @@ function checkModule() {
     .match(/^uint32_t bootimg_\w+/gm).map((line) => line.split(' ')[1]);
   equal('it exports what the header declares, a memory and what the page allocates by', exported.sort(),
     [...declared, 'memory', 'page_alloc', 'page_free'].sort());
+  for (const [at, script] of scripts.entries()) {
+    check(`script ${at} of the page can be read`, attempt(() => new vm.Script(script)) instanceof vm.Script);
+  }
 }
 
 // The vectors.
@@ -67,6 +70,9 @@ function callOf([command, option, name, ...rest]) {
   }
   if (command === 'normalise' && option === '--external' && name === undefined) {
     return (library) => library.report('normalise', 1);
+  }
+  if (command === 'compare' && option === '-' && rest.length === 0 && isFile(name)) {
+    return (library) => withOther(library.compare(fs.readFileSync(path.join(runsPath, name))), name);
   }
   if (command !== 'extract') {
     return undefined;
@@ -86,18 +92,27 @@ function withPayload(library, answer) {
   return { ...answer, output: library.file.subarray(answer.value, answer.value + size) };
 }
 
+function isFile(name) {
+  return name !== undefined && name !== '-' && fs.existsSync(path.join(runsPath, name));
+}
+
+// The program names the file that is not standard input.
+function withOther(answer, name) {
+  return { ...answer, refused: answer.file === 2 ? `${name}: ` : '' };
+}
+
 // What the program does for this answer: its status, its line on standard error and its output. The line about a selection that
 // selects nothing is not in the library.
 function asProgram(library, command, answer) {
   const output = Buffer.from(answer.output).toString('hex');
   if (answer.status === page.REFUSED) {
-    return { status: 2, errors: library.refusal(answer), output: '' };
+    return { status: 2, errors: (answer.refused ?? '') + library.refusal(answer), output: '' };
   }
   if (answer.status !== page.DONE) {
     return { status: 2, errors: null, output };
   }
   const note = command === 'normalise' && answer.value > 0 ? `note: ${answer.value} signature nodes carried, not checked` : '';
-  return { status: ['verify', 'check'].includes(command) ? 1 - answer.value : 0, errors: note, output };
+  return { status: ['verify', 'check', 'compare'].includes(command) ? 1 - answer.value : 0, errors: note, output };
 }
 
 // The library does not return what the notes on where payloads are say.
@@ -140,7 +155,8 @@ function checkRuns(runs) {
   for (const [name, ofFile] of byFile) {
     checkFile(name, ofFile, counts);
   }
-  for (const [command, least] of Object.entries({ list: 300, verify: 250, describe: 450, check: 450, normalise: 600, extract: 550 })) {
+  const wanted = { list: 300, verify: 250, describe: 450, check: 450, normalise: 600, extract: 550, compare: 30 };
+  for (const [command, least] of Object.entries(wanted)) {
     check(`there are at least ${least} runs of ${command}`, counts.get(command) >= least, counts.get(command));
   }
 }
@@ -200,7 +216,16 @@ function checkTexts() {
   equal('what images are', [...page.typesOf(lines(description))], [['k', ['kernel', 'arm']]]);
   const counts = 'summary good 1 bad 1 unknown-algorithm 0 no-payload 0 malformed 0';
   const report = lines(`k hash-1 crc32 good 00; summary hash-2 md5 bad 11; ${counts}`);
-  equal('verdicts', [...page.verdictsOf(report)], [['k', ['crc32 good']], ['summary', ['md5 bad']]]);
+  equal('verdicts', [...page.verdictsOf(report)], [['k', [['crc32', 'good']]], ['summary', [['md5', 'bad']]]]);
+  equal('how they are', ['good', 'bad', 'malformed', 'no-payload', 'weak-hash'].map(page.gradeOf), ['good', 'bad', 'bad', 'open', 'open']);
+  const addresses = 'property /images/k load 0x00008000; property /images/k entry "   "; property /images/k/h load 0x01';
+  equal('addresses', [...page.addressesOf(lines(addresses))], [['load k', '0x00008000'], ['entry k', '0x20202000'], ['load k/h', '0x01']]);
+  equal('numbers', ['"a\\"\\\\"', '"ab" "c" "de"', '"abc"', '"abcdefg"', '0x0000000180000000', '"ab"', ''].map(page.numberOf),
+    ['0x61225c00', '0x6162006300646500', '0x61626300', '0x6162636465666700', '0x0000000180000000', '"ab"', '']);
+  equal('concerns about images', [...page.notesOf(lines('weak-hash k crc32; bad-hash k h md5 bad; skipped-hash k h; missing c fdt 0'))],
+    [['k', [['weak-hash'], ['skipped-hash']]]]);
+  equal('the place of a concern', page.placesOf(['uncovered', 'c', 's', '/images/k']), [['describe', 'node /images/k']]);
+  equal('the place of another', page.placesOf(['strings', 'c', 's']), [['describe', 'node /configurations/c/s']]);
   equal('how many there are', page.countsOf(report.at(-1)), [['good', '1'], ['bad', '1']]);
   equal('the bytes of a name', [...page.bytesOfName('a%2D%FF')], [97, 45, 255]);
 }

@@ -149,7 +149,7 @@ def lines_of_image(row):
     if kind in WITH_ENTRY:
         yield address(b"  Entry Point:  ", row["entry"])
     for word in row["hashes"].split(" ") if row["hashes"] != "-" else []:
-        algorithm = word.rpartition(":")[0]
+        algorithm = word.removesuffix(":skipped").rpartition(":")[0]
         yield AnyLine(b"  Hash algo:    ") if algorithm == "-" else b"  Hash algo:    " + page.name(algorithm)
 
 
@@ -225,7 +225,8 @@ def demand_verdicts(shown, file, lines):
     """Each verdict that follows from a payload and a value that the tools print is on the page. Returns how many there are."""
     count = 0
     for i, row in enumerate(shown.rows("image")):
-        payload, values, words = payload_of(file, i), values_of(lines, i), row["hashes"].split(" ")
+        words = [word.removesuffix(":skipped") for word in row["hashes"].split(" ")]
+        payload, values = payload_of(file, i), values_of(lines, i)
         if payload is None or len(words) != len(values):
             continue
         for word, (algorithm, value) in zip(words, values):
@@ -316,6 +317,10 @@ class Suite:
                     yield reason
 
 
+# A FIT whose nodes have unit addresses: `mkimage -l` prints no default configuration for it.
+NOT_COMPARED = {"addresses"}
+
+
 def main(words):
     only = ""
     if words[0] == "--only":
@@ -327,7 +332,8 @@ def main(words):
     dates = run("date", "-u", "-f", "-", "+%Y-%m-%d %H:%M:%S UTC", input="".join(f"@{time}\n" for time in found).encode())
     pairs = [pair for pair in zip(found, dates.stdout.decode().splitlines(), strict=True) if only in f"time-{pair[0]}"]
     suite = Suite(program)
-    reasons = list(suite.results([path for path in sorted(directory.iterdir()) if only in path.name], pairs))
+    paths = [path for path in sorted(directory.iterdir()) if only in path.name and path.name not in NOT_COMPARED]
+    reasons = list(suite.results(paths, pairs))
     wrong = [reason for reason in reasons if reason]
     for reason in wrong:
         print(f"FAILED: {reason}")

@@ -26,10 +26,12 @@ HEADINGS = {
     "part": ["part", "size", "offset"],
     "reservation": ["reservation", "size"],
     "image": ["image", "type", "os", "arch", "compression", "size", "offset", "load", "entry", "hashes"],
-    "signature": ["signature", "algorithm", "key", "verdict"],
+    "signature": ["signature", "algorithm", "key", "verdict", "covers"],
     "region": ["region", "offset", "size"],
 }
-CONCERN = re.compile(r"(?:bad-hash|unhashed|weak-hash|bad-list|missing|bad-default|trailing)(?: [!-~]+)+")
+CONCERN = re.compile(
+    r"(?:bad-hash|skipped-hash|unhashed|weak-hash|bad-list|missing|no-nodes|no-images|uncovered|foreign|strings|unit-address|bad-default|trailing)"
+    r"(?: [!-~]+)+")
 NAME = r"(?:-|%2D|(?!-$)(?:[!-$&-~]|%[0-9A-F]{2})+)"
 WORD = r"[A-Za-z][!-$&-~]*"
 QUOTED = r'"(?:[ !#-[\]-~]|\\["\\])+"'

@@ -129,6 +129,12 @@ def demand_fit(shown, listed, described, verified):
     demand_signatures(shown.rows("signature"), root)
 
 
+def mark_of(image, name):
+    """The mark of a hash node of an image that U-Boot skips."""
+    value = value_of(next(child for child in image["children"] if child["name"] == name), "uboot-ignore")
+    return ":skipped" if value is not None and len(value) == 4 and any(value) else ""
+
+
 def demand_images(rows, listed, nodes, hashes):
     same("the images", [row["image"] for row in rows], [image["name"] for image in listed])
     for row, image, node in zip(rows, listed, nodes):
@@ -139,7 +145,8 @@ def demand_images(rows, listed, nodes, hashes):
             same(f"the {field} {what}", page.address(row[field]), value_of(node, field))
         for field in ("size", "offset"):
             same(f"the {field} {what}", page.number_or_none(row[field]), image["payload"] and image["payload"][field])
-        wanted = [f"{each['algorithm'] or '-'}:{each['verdict']}" for each in hashes if each["image"] == row["image"]]
+        own = [each for each in hashes if each["image"] == row["image"]]
+        wanted = [f"{each['algorithm'] or '-'}:{each['verdict']}{mark_of(node, each['node'])}" for each in own]
         same(f"the hashes {what}", row["hashes"], " ".join(wanted) or "-")
 
 

@@ -3,7 +3,7 @@
 ghost use Rattle.std.specs.Prelude.{◌≡◌, ℕ, List, IfOk, IfErr, IfSome, IfNone};
 ghost use Rattle.bi_base.specs.declared.fault.Error.TheVariants.{OutOfMemory};
 ghost use Rattle.bi_edit.specs.EditWords.{ArePathNamesIn, IsPathWord};
-ghost use Rattle.bi_tree.specs.TreeNodes.{names_of_path};
+ghost use Rattle.bi_edit.specs.Places.{names_of_path};
 
 use crate::places::{MOST_NAMES, NodePath};
 use crate::words::cut::cut;

@@ -9,7 +9,8 @@ use Rattle.bi_base.specs.Limits.{Limits}
 use Rattle.bi_base.proofs.ListMembers.{each-back, each-front}
 use Rattle.bi_blob.specs.Layout.{is_among}
 use Rattle.bi_hash.specs.declared.algo.Algo.{Algo}
-use Rattle.bi_common.specs.PayloadBounds.{IsOverPayloadBound, payloads_length}
+use Rattle.bi_common.specs.PayloadBounds.{payloads_length}
+use Rattle.bi_coverage.specs.Signatures.{all_needed_length}
 use Rattle.bi_fit.specs.declared.building.Head.{Head}
 use Rattle.bi_fit.specs.declared.form.Form.{Form}
 use Rattle.bi_fit.specs.Building.{ConfigurationSpecModel, ImageSpecModel, configuration_names}
@@ -28,7 +29,9 @@ use Rattle.bi_norm.specs.Meaning.{Meaning, Means, OfFit, OfLegacy}
 use Rattle.bi_report.specs.declared.check.Allowed.{Allowed}
 use Rattle.bi_report.specs.CheckedFiles.{IsCheckError}
 use Rattle.bi_report.specs.CleanFiles.{BuiltTextIsClean, IsBuiltClean, IsClean, IsCleanTree, ProtectImages}
-use Rattle.bi_report.proofs.CleanLaws.BuiltIsClean.{IsDefaultOf, built_tree_is_clean, clean_is_protected}
+use Rattle.bi_report.specs.SignedTrees.{IsOverCheckBound}
+use Rattle.bi_report.proofs.CleanLaws.BuiltIsClean.{IsDefaultOf, built_tree_is_clean, clean_is_protected, needs_no_paths}
+use Rattle.bi_report.proofs.CleanLaws.BuiltIsClean.{none_is_signed}
 use Rattle.bi_report.proofs.CleanLaws.TextEnds.{payloads_fit, text_is_clean}
 
 -- The text of an image tree that is built is clean if and only if the tree is, and its payloads are within the payload bound.
@@ -81,12 +84,18 @@ module _ (limits : Limits) (form : Form) (head : Head) (plan : PlanSpecModel) (i
     tree_protected (inl empty) = inl (ap (spec_models plan) empty)
     tree_protected (inr protect) = inr (subst (ProtectImages allowed) (sym is_same) protect)
 
--- Checking the text of an image tree has no error but that memory runs out.
+-- Checking the text of an image tree that needs no paths has no error but that memory runs out.
 module _ (bounds : Limits) (form : Form) (tree : ImageTree) (means : FitMeans bounds (fit_text form tree) tree)
-    (fits : length (fit_text form tree) ≤ bounds.file) where
-  within_bound : (meaning : Meaning) → Means bounds (fit_text form tree) meaning → ¬ (IsOverPayloadBound bounds meaning)
-  within_bound (OfLegacy image) is over = over
-  within_bound (OfFit other) is over =
+    (fits : length (fit_text form tree) ≤ bounds.file) (no_paths : all_needed_length tree ≡ 0) where
+  within_bound : (meaning : Meaning) → Means bounds (fit_text form tree) meaning → ¬ (IsOverCheckBound bounds meaning)
+  within_bound (OfLegacy image) is (inl over) = over
+  within_bound (OfLegacy image) is (inr over) = over
+  within_bound (OfFit other) is (inr over) =
+      let same : other ≡ tree = one_fit_meaning (fit_text form tree) other tree is.is_file means.is_file in
+      let long : bounds.file < all_needed_length tree
+      = subst (λ (found : ImageTree). bounds.file < all_needed_length found) same over in
+      omega (arith, long, no_paths)
+  within_bound (OfFit other) is (inl over) =
       let same : other ≡ tree = one_fit_meaning (fit_text form tree) other tree is.is_file means.is_file in
       let long : bounds.file < payloads_length tree.payloads
       = subst (λ (found : ImageTree). bounds.file < payloads_length found.payloads) same over in
@@ -105,16 +114,19 @@ pub built_text_is_clean : BuiltTextIsClean
 built_text_is_clean allowed limits bounds form head plan images text is deep fits short =
     subst (IsBuiltClean allowed bounds images plan.algorithms) (sym is.is_text)
     (record {
-      error = no_refusal bounds form tree means fits_text;
+      error = no_refusal bounds form tree means fits_text
+          (needs_no_paths (head_model head) (plan_of_tree plan images) (spec_models plan images));
       is_clean = (
-        λ clean. given_protected limits form head plan images allowed
-            (clean_is_protected allowed (head_model head) (plan_of_tree plan images) (spec_models plan images) (of_tree.0 clean)),
-        λ protected. of_tree.1
+        λ clean.
+            let both = clean_is_protected allowed (head_model head) (plan_of_tree plan images) (spec_models plan images)
+            (of_tree.0 clean) in
+            (both.0, given_protected limits form head plan images allowed both.1),
+        λ both. of_tree.1
             (built_tree_is_clean allowed (head_model head) (plan_of_tree plan images) (spec_models plan images) is.configurations
             (default_is_there plan.configurations plan.default plan.algorithms (spec_models plan images)
             (default_passes limits form head plan images
             (each-front (BuildPasses limits form head plan images) (early_checks plan images) (FitsLimit ∷ []) is.no_fault)))
-            (tree_protected limits form head plan images allowed protected)),
+            (both.0, tree_protected limits form head plan images allowed both.1)),
       );
     })
   where
@@ -138,3 +150,4 @@ built_text_is_clean allowed limits bounds form head plan images text is deep fit
 
     of_tree : IsClean allowed bounds (fit_text form tree) ↔ IsCleanTree allowed tree
     of_tree = text_is_clean allowed bounds form tree means (omega (arith, fits_text, short))
+        (none_is_signed (head_model head) (plan_of_tree plan images) (spec_models plan images))

@@ -1,10 +1,14 @@
 use Rattle.std.proofs.Common.{◌≡◌, ℕ, ◌-◌, true, ◌&&◌, ◌==◌, List, [], ◌∷◌, ◌++◌, IsFalse, drop, length, flat_map, refl, sym, ap, ap₂}
-use Rattle.std.proofs.Common.{append_assoc, map, subst, ◌∙◌, arith}
-use Rattle.std.specs.List.{list_all}
+use Rattle.std.proofs.Common.{None, append_assoc, map, subst, ◌∙◌, arith}
+use Rattle.std.specs.List.{AllByRecursion, list_all}
 use Rattle.std.proofs.lemmas.Bool.{and_parts, eqb-true}
 use Rattle.bi_base.specs.Limits.{Limits}
-use Rattle.bi_blob.specs.Tree.{names}
+use Rattle.bi_base.proofs.ListMembers.{each-contains}
+use Rattle.bi_blob.specs.Lookups.{Sibling, siblings}
+use Rattle.bi_blob.specs.Tree.{FileNode, PropertyMap, Root, names}
 use Rattle.bi_blob.proofs.Blobs.OneBlob.{one_blob}
+use Rattle.bi_coverage.specs.Coverage.{ConfigurationCoverage}
+use Rattle.bi_coverage.specs.Signatures.{signed_nodes}
 use Rattle.bi_fit.specs.File.{FitMeans}
 use Rattle.bi_fit.specs.ImageTree.{ImageTree, image_nodes}
 use Rattle.bi_fit.specs.Judgement.{configuration_nodes, default_of, images_of}
@@ -18,14 +22,20 @@ use Rattle.bi_common.specs.Lines.{text_of_lines}
 use Rattle.bi_report.specs.declared.check.Allowed.{Allowed}
 use Rattle.bi_report.specs.Checking.{Concern, AreConcerns, OfLegacyImage, OfImageTree, concern_line, configuration_concerns, content_end}
 use Rattle.bi_report.specs.Checking.{default_concerns, image_concerns, kept_concerns, TrailingBytes, trailing_concerns, tree_concerns}
+use Rattle.bi_report.specs.Checking.{Unsigned, absence_concerns, address_concerns, coverage_concerns}
 use Rattle.bi_report.specs.CleanFiles.{AreZeros, CleanImageTree, CleanLegacyImage, EmptyIsClean, HasZerosAfter, IsClean, IsCleanTree}
-use Rattle.bi_report.specs.CleanFiles.{NamesConfiguration}
+use Rattle.bi_report.specs.CleanFiles.{EachRecord, IsSignedNode, NamesConfiguration, ReachesStrings}
+use Rattle.bi_report.specs.Reports.{AreGood}
+use Rattle.bi_report.specs.SignedTrees.{coverage_in, unit_addresses}
 use Rattle.bi_report.proofs.CleanLaws.CleanConfigurations.{clean_configurations_have_none, configurations_are_clean, default_has_none}
 use Rattle.bi_report.proofs.CleanLaws.CleanConfigurations.{default_is_there}
-use Rattle.bi_report.proofs.CleanLaws.CleanImages.{clean_images_have_none, images_are_clean}
+use Rattle.bi_report.proofs.CleanLaws.ChosenElements.{each_of_contained}
+use Rattle.bi_report.proofs.CleanLaws.CleanImages.{clean_images_have_none, images_are_clean, verdicts_of_each}
+use Rattle.bi_report.proofs.CleanLaws.CleanSignatures.{AreCovered, IsCleanSigned, addresses_have_none, configurations_are_covered}
+use Rattle.bi_report.proofs.CleanLaws.CleanSignatures.{configurations_have_none, covered_have_no_line, no_address, some_configuration}
 use Rattle.bi_report.proofs.CleanLaws.ContentEnds.{zeros_after, zeros_from_end}
-use Rattle.bi_report.proofs.CleanLaws.NoLines.{HaveNoLine, all_have_none, both_have_none, each_has_none, parts_have_none, passed_has_none}
-use Rattle.bi_report.proofs.CleanLaws.NoLines.{test_is_passed}
+use Rattle.bi_report.proofs.CleanLaws.NoLines.{HaveNoLine, all_have_none, allowed_has_none, both_have_none, each_has_none}
+use Rattle.bi_report.proofs.CleanLaws.NoLines.{one_is_allowed, parts_have_none, passed_has_none, test_is_passed}
 
 -- Checking a file writes nothing if and only if the file is clean.
 
@@ -55,51 +65,148 @@ clean_end_has_none : (allowed : Allowed) (bytes : List ℕ) → (IsFalse allowed
 clean_end_has_none allowed bytes are = passed_has_none allowed (list_all (λ byte. byte == 0) bytes) (TrailingBytes (length bytes))
     (λ refused. test_of_zeros bytes (are refused))
 
-module _ (allowed : Allowed) (tree : ImageTree) where
+module _ (allowed : Allowed) (file : List ℕ) (root : Root FileNode) (tree : ImageTree) where
   abbrev configurations : List (List ℕ)
   configurations = names (configuration_nodes tree)
 
-  -- A tree without a line.
-  tree_is_clean : HaveNoLine allowed (tree_concerns tree) → IsCleanTree allowed tree
-  tree_is_clean none =
-      let both = parts_have_none allowed (flat_map image_concerns (images_of tree))
-      (flat_map (configuration_concerns tree) configurations ++ default_concerns (default_of tree) configurations) none in
-      let rest = parts_have_none allowed (flat_map (configuration_concerns tree) configurations)
-      (default_concerns (default_of tree) configurations) both.1 in
-      let images = images_are_clean allowed (images_of tree) both.0 in
-      let lists = configurations_are_clean allowed tree configurations
-      (each_has_none allowed (configuration_concerns tree) configurations rest.0) in
-      record {
-        bad_hash = images.good;
-        unhashed = images.hashed;
-        weak_hash = images.not_weak;
-        bad_list = lists.bad_list;
-        missing = lists.missing;
-        bad_default = λ refused some.
-            let one = default_is_there allowed (default_of tree) configurations rest.1 refused some in
-            record { name = one.name; is_default = one.is_default; is_there = one.is_there };
-      }
+  abbrev nodes : List (Sibling PropertyMap)
+  nodes = siblings (configuration_nodes tree)
 
-  pub clean_tree_has_none : IsCleanTree allowed tree → HaveNoLine allowed (tree_concerns tree)
-  clean_tree_has_none is =
-      both_have_none allowed (flat_map image_concerns (images_of tree))
-      (flat_map (configuration_concerns tree) configurations ++ default_concerns (default_of tree) configurations)
-      (clean_images_have_none allowed (images_of tree) (record { good = is.bad_hash; hashed = is.unhashed; not_weak = is.weak_hash }))
-      (both_have_none allowed (flat_map (configuration_concerns tree) configurations) (default_concerns (default_of tree) configurations)
+  abbrev coverage : List ConfigurationCoverage
+  coverage = coverage_in file root tree
+
+  -- The parts of the concerns about a tree.
+  abbrev images : List Concern
+  images = flat_map image_concerns (images_of tree)
+
+  abbrev lists : List Concern
+  lists = flat_map (configuration_concerns tree) configurations
+
+  abbrev absence : List Concern
+  absence = absence_concerns coverage
+
+  abbrev signatures : List Concern
+  signatures = flat_map coverage_concerns coverage
+
+  abbrev addresses : List Concern
+  addresses = address_concerns coverage (unit_addresses tree.root)
+
+  abbrev default : List Concern
+  default = default_concerns (default_of tree) configurations
+
+  -- The signed nodes of a tree reach the names that they must cover.
+  abbrev pub ReachAll : Type 0
+  ReachAll = EachRecord tree (λ configuration signature. ReachesStrings file root signature)
+
+  -- What is clean of each signed node.
+  signed_is_clean : AreCovered allowed file root tree nodes → (configuration signature : Sibling PropertyMap) →
+      IsSignedNode tree configuration signature → IsCleanSigned allowed file root tree configuration signature
+  signed_is_clean are configuration signature is =
+      each-contains (IsCleanSigned allowed file root tree configuration) (signed_nodes configuration) signature
+      (each-contains (λ configuration. AllByRecursion (IsCleanSigned allowed file root tree configuration) (signed_nodes configuration))
+      nodes configuration are.each is.is_configuration) is.is_signed
+
+  -- A tree without a line.
+  tree_is_clean : HaveNoLine allowed (tree_concerns tree coverage) → IsCleanTree allowed tree × (IsFalse allowed.strings → ReachAll)
+  tree_is_clean none =
+      let one = parts_have_none allowed images (lists ++ (absence ++ (signatures ++ (addresses ++ default)))) none in
+      let two = parts_have_none allowed lists (absence ++ (signatures ++ (addresses ++ default))) one.1 in
+      let three = parts_have_none allowed absence (signatures ++ (addresses ++ default)) two.1 in
+      let four = parts_have_none allowed signatures (addresses ++ default) three.1 in
+      let five = parts_have_none allowed addresses default four.1 in
+      let of_images = images_are_clean allowed (images_of tree) one.0 in
+      let of_lists = configurations_are_clean allowed tree configurations
+      (each_has_none allowed (configuration_concerns tree) configurations two.0) in
+      let covered = configurations_are_covered allowed file root tree nodes four.0 in
+      let clean = signed_is_clean covered in (
+        record {
+          bad_hash = λ refused. subst AreGood (verdicts_of_each (images_of tree)) (of_images.good refused);
+          skipped_hash = of_images.used;
+          unhashed = of_images.hashed;
+          weak_hash = of_images.not_weak;
+          bad_list = of_lists.bad_list;
+          missing = of_lists.missing;
+          unsigned = λ refused. record {
+            some = some_configuration allowed file root tree nodes three.0 refused;
+            each = covered.unsigned refused;
+          };
+          no_nodes = λ refused configuration signature is. (clean configuration signature is).no_nodes refused;
+          no_images = λ refused configuration signature is. (clean configuration signature is).no_images refused;
+          uncovered = λ refused configuration signature is. (clean configuration signature is).uncovered refused;
+          foreign = λ refused configuration signature is. (clean configuration signature is).foreign refused;
+          unit_address = λ refused configuration signature is.
+              no_address allowed file root tree nodes (unit_addresses tree.root) five.0 refused
+              (record {
+                configuration = configuration;
+                is_configuration = is.is_configuration;
+                signature = signature;
+                is_signed = is.is_signed;
+              });
+          bad_default = λ refused some.
+              let one = default_is_there allowed (default_of tree) configurations five.1 refused some in
+              record { name = one.name; is_default = one.is_default; is_there = one.is_there };
+        },
+        λ refused configuration signature is. (clean configuration signature is).strings refused,
+      )
+
+  -- The signed nodes of a clean tree are clean.
+  clean_is_covered : IsCleanTree allowed tree → (IsFalse allowed.strings → ReachAll) → AreCovered allowed file root tree nodes
+  clean_is_covered is reach = record {
+    unsigned = λ refused. (is.unsigned refused).each;
+    each = each_of_contained
+        (λ configuration. AllByRecursion (IsCleanSigned allowed file root tree configuration) (signed_nodes configuration)) nodes
+        (λ configuration is_configuration.
+        each_of_contained (IsCleanSigned allowed file root tree configuration) (signed_nodes configuration)
+        (λ signature is_signed.
+        let signed : IsSignedNode tree configuration signature
+        = record { is_configuration = is_configuration; is_signed = is_signed } in
+        record {
+          no_nodes = λ refused. is.no_nodes refused configuration signature signed;
+          no_images = λ refused. is.no_images refused configuration signature signed;
+          uncovered = λ refused. is.uncovered refused configuration signature signed;
+          foreign = λ refused. is.foreign refused configuration signature signed;
+          strings = λ refused. reach refused configuration signature signed;
+        }));
+  }
+
+  pub clean_tree_has_none : IsCleanTree allowed tree → (IsFalse allowed.strings → ReachAll) →
+      HaveNoLine allowed (tree_concerns tree coverage)
+  clean_tree_has_none is reach =
+      both_have_none allowed images (lists ++ (absence ++ (signatures ++ (addresses ++ default))))
+      (clean_images_have_none allowed (images_of tree) (record {
+        good = λ refused. subst AreGood (sym (verdicts_of_each (images_of tree))) (is.bad_hash refused);
+        used = is.skipped_hash;
+        hashed = is.unhashed;
+        not_weak = is.weak_hash;
+      }))
+      (both_have_none allowed lists (absence ++ (signatures ++ (addresses ++ default)))
       (all_have_none allowed (configuration_concerns tree) configurations
       (clean_configurations_have_none allowed tree configurations (record { bad_list = is.bad_list; missing = is.missing })))
+      (both_have_none allowed absence (signatures ++ (addresses ++ default))
+      (configurations_have_none allowed file root tree nodes (λ refused. (is.unsigned refused).some))
+      (both_have_none allowed signatures (addresses ++ default)
+      (covered_have_no_line allowed file root tree nodes (clean_is_covered is reach))
+      (both_have_none allowed addresses default
+      (addresses_have_none allowed file root tree nodes (unit_addresses tree.root)
+      (λ refused some. is.unit_address refused some.configuration some.signature
+      (record { is_configuration = some.is_configuration; is_signed = some.is_signed })))
       (default_has_none allowed (default_of tree) configurations (λ refused some.
       let one : NamesConfiguration tree = is.bad_default refused some in
-      record { name = one.name; is_default = one.is_default; is_there = one.is_there })))
+      record { name = one.name; is_default = one.is_default; is_there = one.is_there }))))))
 
--- A file has one list of image nodes.
+-- A file has one root,
+one_root : (limits : Limits) (file : List ℕ) (one other : ImageTree) (means : FitMeans limits file one)
+    (also : FitMeans limits file other) → means.is_file.root ≡ also.is_file.root
+one_root limits file one other means also =
+    (one_blob file one.cpu other.cpu one.reservations other.reservations means.is_file.root also.is_file.root
+    means.is_file.blob also.is_file.blob).same_root
+
+-- and one list of image nodes.
 one_list_of_nodes : (limits : Limits) (file : List ℕ) (one other : ImageTree) (means : FitMeans limits file one)
     (also : FitMeans limits file other) → means.is_file.images ≡ also.is_file.images
 one_list_of_nodes limits file one other means also =
-    let same = one_blob file one.cpu other.cpu one.reservations other.reservations means.is_file.root also.is_file.root
-    means.is_file.blob also.is_file.blob in
     same_in_some means.is_file.images also.is_file.images
-    (sym means.is_file.has_images ∙ ap image_nodes same.same_root ∙ also.is_file.has_images)
+    (sym means.is_file.has_images ∙ ap image_nodes (one_root limits file one other means also) ∙ also.is_file.has_images)
 
 -- A legacy image has one number of bytes after it.
 one_unused : (limits : Limits) (file : List ℕ) (one other : LegacyModel) → IsReadLegacy limits file one → IsReadLegacy limits file other →
@@ -114,32 +221,42 @@ one_unused limits file one other means also =
 pub file_is_clean : (allowed : Allowed) (limits : Limits) (file : List ℕ) (concerns : List Concern) → AreConcerns limits file concerns →
     HaveNoLine allowed concerns → IsClean allowed limits file
 file_is_clean allowed limits file concerns (OfLegacyImage parsed opened is) none =
-    CleanLegacyImage parsed opened (end_is_clean allowed (drop (length file - parsed.unused) file)
-    (sym (ap (kept_concerns allowed) is) ∙ none))
+    let rest = drop (length file - parsed.unused) file in
+    let both = parts_have_none allowed (Unsigned None ∷ []) (trailing_concerns rest) (sym (ap (kept_concerns allowed) is) ∙ none) in
+    CleanLegacyImage parsed opened (one_is_allowed allowed (Unsigned None) both.0) (end_is_clean allowed rest both.1)
 file_is_clean allowed limits file concerns (OfImageTree tree means is) none =
+    let root = means.is_file.root in
     let rest = drop (content_end file means.is_file.images tree.payloads) file in
-    let both = parts_have_none allowed (tree_concerns tree) (trailing_concerns rest) (sym (ap (kept_concerns allowed) is) ∙ none) in
-    CleanImageTree tree means (tree_is_clean allowed tree both.0)
+    let both = parts_have_none allowed (tree_concerns tree (coverage_in file root tree)) (trailing_concerns rest)
+    (sym (ap (kept_concerns allowed) is) ∙ none) in
+    let clean = tree_is_clean allowed file root tree both.0 in
+    CleanImageTree tree means clean.0 clean.1
     (λ refused. zeros_after file means.is_file.images tree.payloads (end_is_clean allowed rest both.1 refused))
 
 -- A clean file has no line.
 pub clean_file_has_none : (allowed : Allowed) (limits : Limits) (file : List ℕ) (concerns : List Concern) →
     AreConcerns limits file concerns → IsClean allowed limits file → HaveNoLine allowed concerns
-clean_file_has_none allowed limits file concerns (OfLegacyImage parsed opened is) (CleanLegacyImage other also zeros) =
+clean_file_has_none allowed limits file concerns (OfLegacyImage parsed opened is) (CleanLegacyImage other also unsigned zeros) =
     ap (kept_concerns allowed) is
-    ∙ clean_end_has_none allowed (drop (length file - parsed.unused) file)
+    ∙ both_have_none allowed (Unsigned None ∷ []) (trailing_concerns (drop (length file - parsed.unused) file))
+    (allowed_has_none allowed (Unsigned None) unsigned)
+    (clean_end_has_none allowed (drop (length file - parsed.unused) file)
     (subst (λ unused. IsFalse allowed.trailing → AreZeros (drop (length file - unused) file))
-    (one_unused limits file other parsed also opened) zeros)
-clean_file_has_none allowed limits file concerns (OfLegacyImage parsed opened is) (CleanImageTree tree means clean zeros) =
+    (one_unused limits file other parsed also opened) zeros))
+clean_file_has_none allowed limits file concerns (OfLegacyImage parsed opened is) (CleanImageTree tree means clean reach zeros) =
     absurd (means_tree limits file tree means (means_legacy limits file parsed.image opened.means))
-clean_file_has_none allowed limits file concerns (OfImageTree tree means is) (CleanLegacyImage other also zeros) =
+clean_file_has_none allowed limits file concerns (OfImageTree tree means is) (CleanLegacyImage other also unsigned zeros) =
     absurd (means_tree limits file tree means (means_legacy limits file other.image also.means))
-clean_file_has_none allowed limits file concerns (OfImageTree tree means is) (CleanImageTree other also clean zeros) =
+clean_file_has_none allowed limits file concerns (OfImageTree tree means is) (CleanImageTree other also clean reach zeros) =
     let same : other ≡ tree = one_fit_meaning file other tree also.is_file means.is_file in
     let nodes : also.is_file.images ≡ means.is_file.images = one_list_of_nodes limits file other tree also means in
+    let root : also.is_file.root ≡ means.is_file.root = one_root limits file other tree also means in
     ap (kept_concerns allowed) is
-    ∙ both_have_none allowed (tree_concerns tree) (trailing_concerns (drop (content_end file means.is_file.images tree.payloads) file))
-    (clean_tree_has_none allowed tree (subst (IsCleanTree allowed) same clean))
+    ∙ both_have_none allowed (tree_concerns tree (coverage_in file means.is_file.root tree))
+    (trailing_concerns (drop (content_end file means.is_file.images tree.payloads) file))
+    (clean_tree_has_none allowed file means.is_file.root tree (subst (IsCleanTree allowed) same clean)
+    (λ refused. subst (λ root. ReachAll allowed file root tree) root
+    (subst (λ (t : ImageTree). ReachAll allowed file also.is_file.root t) same (reach refused))))
     (clean_end_has_none allowed (drop (content_end file means.is_file.images tree.payloads) file) (λ refused.
     zeros_from_end file means.is_file.images tree.payloads (payloads_are_at_places file tree means.is_file)
     (subst (λ found. HasZerosAfter file found tree.payloads) nodes

@@ -1,5 +1,5 @@
 use Rattle.std.proofs.Common.{◌≡◌, Bool, true, false, not, ◌||◌, List, [], ◌∷◌, ◌++◌, flat_map, Contains, IsFalse, ◌⊎◌, inl, inr, refl}
-use Rattle.std.proofs.Common.{sym, rules}
+use Rattle.std.proofs.Common.{sym, map, rules}
 use Rattle.std.proofs.Common.{ap, ap₂, ◌∙◌, true≢false}
 use Rattle.std.specs.Prelude.{if◌then◌else◌}
 use Rattle.std.specs.List.{AllByRecursion, list_any}
@@ -7,6 +7,7 @@ use Rattle.std.proofs.Math.Bool.{or-true}
 use Rattle.std.proofs.lemmas.List.Elements.{filter-append}
 use Rattle.bi_base.proofs.ListMembers.{Contains-none, Contains-cases, Contains-first, Contains-others}
 use Rattle.bi_report.specs.declared.check.Allowed.{Allowed}
+use Rattle.bi_report.specs.declared.check.ConcernKind.{ConcernKind}
 use Rattle.bi_report.specs.Checking.{Concern, allows, kept_concerns, kind_of}
 
 -- Concerns have no line if and only if each of them has none, and a concern that comes from a test has none if and only if it is allowed or
@@ -67,6 +68,40 @@ pub passed_has_none : (allowed : Allowed) (test : Bool) (concern : Concern) → 
     HaveNoLine allowed (if test then [] else concern ∷ [])
 passed_has_none allowed true concern passed = refl
 passed_has_none allowed false concern passed = search (rules, allowed_has_none)
+
+-- One that comes from a test that passes has none if and only if the test fails where it is not allowed.
+pub test_fails : (allowed : Allowed) (test : Bool) (concern : Concern) → HaveNoLine allowed (if test then concern ∷ [] else []) →
+    IsFalse (allows allowed (kind_of concern)) → test ≡ false
+test_fails allowed true concern none refused = absurd (true≢false (sym (one_is_allowed allowed concern none) ∙ refused))
+test_fails allowed false concern none refused = refl
+
+pub failed_has_none : (allowed : Allowed) (test : Bool) (concern : Concern) → (IsFalse (allows allowed (kind_of concern)) → test ≡ false) →
+    HaveNoLine allowed (if test then concern ∷ [] else [])
+failed_has_none allowed true concern fails = search (rules, allowed_has_none)
+failed_has_none allowed false concern fails = refl
+
+-- Concerns of one kind that are made of elements have no line if and only if there are no elements where it is not allowed.
+pub none_is_made : {X : Type 0} (allowed : Allowed) (kind : ConcernKind) (f : X → Concern) → ((x : X) → kind_of (f x) ≡ kind) →
+    (xs : List X) → HaveNoLine allowed (map f xs) → IsFalse (allows allowed kind) → xs ≡ []
+none_is_made allowed kind f same [] none refused = refl
+none_is_made allowed kind f same (x ∷ xs) none refused =
+    let first = parts_have_none allowed (f x ∷ []) (map f xs) none in
+    absurd (true≢false (sym (one_is_allowed allowed (f x) first.0) ∙ ap (allows allowed) (same x) ∙ refused))
+
+allowed_have_none : {X : Type 0} (allowed : Allowed) (kind : ConcernKind) (f : X → Concern) → ((x : X) → kind_of (f x) ≡ kind) →
+    (xs : List X) → allows allowed kind ≡ true → HaveNoLine allowed (map f xs)
+allowed_have_none allowed kind f same [] fine = refl
+allowed_have_none allowed kind f same (x ∷ xs) fine =
+    both_have_none allowed (f x ∷ []) (map f xs) (allowed_has_none allowed (f x) (ap (allows allowed) (same x) ∙ fine))
+    (allowed_have_none allowed kind f same xs fine)
+
+pub made_have_none : {X : Type 0} (allowed : Allowed) (kind : ConcernKind) (f : X → Concern) → ((x : X) → kind_of (f x) ≡ kind) →
+    (xs : List X) → (IsFalse (allows allowed kind) → xs ≡ []) → HaveNoLine allowed (map f xs)
+made_have_none allowed kind f same xs empty = by (allows allowed kind) refl
+  where
+    by : (b : Bool) → allows allowed kind ≡ b → HaveNoLine allowed (map f xs)
+    by true fine = allowed_have_none allowed kind f same xs fine
+    by false refused = ap (λ xs. kept_concerns allowed (map f xs)) (empty refused)
 
 -- An element that passes a test.
 pub any_is_found : {X : Type 0} (test : X → Bool) (xs : List X) → list_any test xs ≡ true → (x : X) × Contains xs x × (test x ≡ true)

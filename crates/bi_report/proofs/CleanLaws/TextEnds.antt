@@ -8,7 +8,8 @@ use Rattle.bi_base.specs.Limits.{Limits}
 use Rattle.bi_base.proofs.AlignmentLaws.{up_to-le}
 use Rattle.bi_blob.specs.Blob.{totalsize}
 use Rattle.bi_blob.specs.Layout.{longest_text}
-use Rattle.bi_blob.specs.Tree.{Nodes, none, node, FileNode}
+use Rattle.bi_blob.specs.Lookups.{Sibling}
+use Rattle.bi_blob.specs.Tree.{Nodes, none, node, FileNode, PropertyMap}
 use Rattle.bi_common.specs.PayloadBounds.{payloads_length}
 use Rattle.bi_fit.specs.declared.form.Form.{Form}
 use Rattle.bi_fit.specs.declared.form.Form.TheVariants.{Embedded, External, Aligned}
@@ -26,12 +27,12 @@ use Rattle.bi_fit.proofs.Texts.{blob_of_text}
 use Rattle.bi_norm.proofs.FilesWithoutMeaning.{means_legacy, means_tree}
 use Rattle.bi_report.specs.declared.check.Allowed.{Allowed}
 use Rattle.bi_report.specs.Checking.{content_end, payload_end}
-use Rattle.bi_report.specs.CleanFiles.{CleanImageTree, CleanLegacyImage, HasZerosAfter, IsClean, IsCleanTree}
+use Rattle.bi_report.specs.CleanFiles.{CleanImageTree, CleanLegacyImage, HasZerosAfter, IsClean, IsCleanTree, IsSignedNode}
 use Rattle.bi_report.proofs.CleanLaws.ContentEnds.{zeros_after}
 use Rattle.bi_report.proofs.CleanLaws.TextWidths.{embedded_payloads_fit, payloads_length-cons}
 
 -- Nothing follows the content of the text of an image tree, and its payloads together are no longer than the text. So the text is clean if
--- and only if the tree is.
+-- and only if the tree is, if that has no signed node.
 
 -- The content of a file ends at or after the end of the blob.
 blob_before_end : (file : List ℕ) (nodes : Nodes FileNode) (payloads : List (Option (List ℕ))) →
@@ -107,19 +108,24 @@ text_end External tree short is = external_end External tree short is 4 refl
 text_end (Aligned align) tree short is = external_end (Aligned align) tree short is (align_bytes align) refl
 
 module _ (allowed : Allowed) (bounds : Limits) (form : Form) (tree : ImageTree) (means : FitMeans bounds (fit_text form tree) tree)
-    (short : length (fit_text form tree) ≤ longest_text) where
+    (short : length (fit_text form tree) ≤ longest_text)
+    (unsigned : (configuration signature : Sibling PropertyMap) → ¬ (IsSignedNode tree configuration signature)) where
   abbrev text : List ℕ
   text = fit_text form tree
 
   nothing_after : HasZerosAfter text means.is_file.images tree.payloads
   nothing_after = search (rules, zeros_after, drop_of_length-le, text_end)
 
-  -- So it is clean if and only if its tree is.
+  -- So it is clean if and only if its tree is, if that has no signed node.
   pub text_is_clean : IsClean allowed bounds text ↔ IsCleanTree allowed tree
-  text_is_clean = (clean_tree, λ clean. CleanImageTree tree means clean (λ refused. nothing_after))
+  text_is_clean = (
+    clean_tree,
+    λ clean. CleanImageTree tree means clean (λ refused configuration signature is. absurd (unsigned configuration signature is))
+        (λ refused. nothing_after),
+  )
     where
       clean_tree : IsClean allowed bounds text → IsCleanTree allowed tree
-      clean_tree (CleanLegacyImage parsed opened zeros) =
+      clean_tree (CleanLegacyImage parsed opened of_signatures zeros) =
           absurd (means_tree bounds text tree means (means_legacy bounds text parsed.image opened.means))
-      clean_tree (CleanImageTree other also clean zeros) =
+      clean_tree (CleanImageTree other also clean reach zeros) =
           subst (IsCleanTree allowed) (one_fit_meaning text other tree also.is_file means.is_file) clean

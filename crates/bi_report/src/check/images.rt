@@ -7,16 +7,21 @@ ghost use Rattle.std.specs.Option.{option_map};
 ghost use Rattle.bi_fdt.specs.Views.{node_of};
 ghost use Rattle.bi_fit.specs.Content.{AreAtTheirPlaces};
 ghost use Rattle.bi_fit.specs.JudgementCalls.{checked_hash_of};
-ghost use Rattle.bi_common.specs.HashedImages.{hashes_left, image_value, images_of_blob};
+ghost use Rattle.bi_common.specs.HashedImages.{found_hash_of, found_left, image_value};
+ghost use Rattle.bi_common.specs.HashedImages.{images_of_blob};
 ghost use Rattle.bi_report.specs.Checking.{is_good as is_good_hash, is_strong as is_strong_hash};
 ghost use Rattle.bi_report.specs.Checking.{is_strong_algorithm, protection_concerns};
 ghost use Rattle.bi_report.specs.Checking.{payload_concerns};
-ghost use Rattle.bi_report.specs.ConcernValues.{found_or_none, found_value};
+ghost use Rattle.bi_report.specs.Checking.{skip_concerns};
+ghost use Rattle.bi_report.specs.ConcernValues.{found_or_none, found_value, used_left};
 ghost use Rattle.bi_report.specs.ConcernsLeft.{image_left, images_left};
-ghost use Rattle.bi_report.specs.FoundConcerns.{NodeItself, concerns_about, found_in_image};
+ghost use Rattle.bi_report.specs.FoundConcerns.{HashOf, NodeItself, concerns_about};
+ghost use Rattle.bi_report.specs.FoundConcerns.{found_in_image, judged_found};
+ghost use Rattle.bi_report.specs.FoundConcerns.{used_found};
 
 use super::concern::Concern;
 use crate::details::is_good;
+use crate::used_hashes::{UsedHashes, is_skipped};
 use bi_common::hash_nodes::{HashNodes, HashedImage, HashedImages};
 use bi_fdt::NodeRef;
 use bi_fit::{Checked, Fit};
@@ -26,6 +31,8 @@ use bi_hash::RegionDigests;
 #[derive(Clone, Copy)]
 pub(super) struct ImageConcerns<'a, 'b> {
     image: NodeRef<'a, 'b>,
+    /// The concern that is left about the hash node that the iterator has come to.
+    of_skipped: Option<Concern<'a, 'b>>,
     /// The hash nodes that are left.
     hashes: HashNodes<'a, 'b>,
     of_payload: Option<Concern<'a, 'b>>,
@@ -38,6 +45,7 @@ impl<'a, 'b> ImageConcerns<'a, 'b> {
     {
         ImageConcerns {
             image: image.node,
+            of_skipped: None,
             hashes: image.hashes,
             of_payload: payload_concern(image),
         }
@@ -52,9 +60,17 @@ impl<'a, 'b> Iterator for ImageConcerns<'a, 'b> {
     ghost remaining = { item_count image_left };
 
     fn next(&mut self) -> Option<Concern<'a, 'b>> {
+        if let Some(concern) = self.of_skipped.take() {
+            return Some(concern);
+        }
         while let Some((node, hash)) = self.hashes.next_node() {
+            let of_skipped = skip_concern(self.image, node, hash);
             if !is_good(hash.verdict) {
+                self.of_skipped = of_skipped;
                 return Some(Concern::BadHash(self.image, node, hash));
+            }
+            if let Some(concern) = of_skipped {
+                return Some(concern);
             }
         }
         self.of_payload.take()
@@ -104,15 +120,32 @@ impl<'a, 'b> Iterator for AllImageConcerns<'a, 'b> {
     }
 }
 
+/// Returns the concern that U-Boot skips a hash node of an image, if it does.
+fn skip_concern<'a, 'b>(
+    image: NodeRef<'a, 'b>,
+    node: NodeRef<'a, 'b>,
+    hash: Checked<'a>,
+) -> Option<Concern<'a, 'b>>
+    ensures { found_or_none result
+        ≡ concerns_about (HashOf (node_of image.entry) (node_of node.entry))
+        (skip_concerns (judged_found (found_hash_of (node.entry, hash.entry)))) }
+{
+    if is_skipped(node) {
+        Some(Concern::SkippedHash(image, node, hash))
+    } else {
+        None
+    }
+}
+
 /// Returns the concern about the payload of an image, if there is one.
 fn payload_concern<'a, 'b>(image: HashedImage<'a, 'b>) -> Option<Concern<'a, 'b>>
     ensures { let entry = node_of image.entry.node in
         found_or_none result ≡ concerns_about (NodeItself entry) (payload_concerns entry.name
         (option_map (λ payload. payload.now) image.entry.payload)
-        (hashes_left image.entry.hashes)) }
+        (used_found (found_left image.entry.hashes))) }
 {
     match image.payload {
-        Some(_) => protection_concern(image.node, image.hashes),
+        Some(_) => protection_concern(image.node, UsedHashes::new(image.hashes)),
         None => None,
     }
 }
@@ -121,11 +154,11 @@ fn payload_concern<'a, 'b>(image: HashedImage<'a, 'b>) -> Option<Concern<'a, 'b>
 /// one.
 fn protection_concern<'a, 'b>(
     image: NodeRef<'a, 'b>,
-    hashes: HashNodes<'a, 'b>,
+    hashes: UsedHashes<'a, 'b>,
 ) -> Option<Concern<'a, 'b>>
     ensures { let entry = node_of image.entry in
         found_or_none result ≡ concerns_about (NodeItself entry)
-        (protection_concerns entry.name (hashes_left hashes.entry)) }
+        (protection_concerns entry.name (used_left hashes.entry)) }
 {
     if !has_good(hashes) {
         Some(Concern::UnhashedImage(image))
@@ -137,8 +170,8 @@ fn protection_concern<'a, 'b>(
 }
 
 /// Returns whether the verdict on one of these hash nodes is Good.
-fn has_good(hashes: HashNodes) -> bool
-    ensures { result ≡ list_any is_good_hash (hashes_left hashes.entry) }
+fn has_good(hashes: UsedHashes) -> bool
+    ensures { result ≡ list_any is_good_hash (used_left hashes.entry) }
 {
     for hash in hashes {
         if is_good(hash.verdict) {
@@ -149,8 +182,8 @@ fn has_good(hashes: HashNodes) -> bool
 }
 
 /// Returns whether the verdict on one of these hash nodes is Good and its algorithm is strong.
-fn has_strong(hashes: HashNodes) -> bool
-    ensures { result ≡ list_any is_strong_hash (hashes_left hashes.entry) }
+fn has_strong(hashes: UsedHashes) -> bool
+    ensures { result ≡ list_any is_strong_hash (used_left hashes.entry) }
 {
     for hash in hashes {
         if is_strong(&hash) {

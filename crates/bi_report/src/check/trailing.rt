@@ -1,7 +1,6 @@
 //! The concern about the bytes of a file after its image.
 
-ghost use Rattle.std.specs.Prelude.{◌≡◌, ◌==◌, ◌-◌, drop, length};
-ghost use Rattle.std.specs.List.{list_all};
+ghost use Rattle.std.specs.Prelude.{◌≡◌, ◌-◌, drop, length};
 ghost use Rattle.bi_fit.specs.Content.{image_model};
 ghost use Rattle.bi_report.specs.ConcernValues.{found_or_none};
 ghost use Rattle.bi_report.specs.FoundConcerns.{found_in_rest};
@@ -9,6 +8,7 @@ ghost use Rattle.bi_report.specs.ReadChecking.{end_at, offset_at};
 ghost use Rattle.bi_report.specs.ReadChecking.{end_of_read_payloads};
 
 use super::concern::Concern;
+use crate::used_hashes::are_zeros;
 use bi_common::payload_bounds::length_of;
 use bi_fit::{Fit, Image, Place};
 use bi_legacy::Legacy;
@@ -22,13 +22,6 @@ pub(super) fn rest_concern<'a, 'b>(bytes: &[u8]) -> Option<Concern<'a, 'b>>
     } else {
         Some(Concern::TrailingBytes(bytes.len()))
     }
-}
-
-/// Returns whether each of these bytes is zero.
-fn are_zeros(bytes: &[u8]) -> bool
-    ensures { result ≡ list_all (λ byte. byte == 0) bytes.now }
-{
-    bytes.iter().all(|byte| *byte == 0)
 }
 
 /// Returns where the last of the blob and the payloads ends in the file.

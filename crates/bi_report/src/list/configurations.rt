@@ -123,7 +123,7 @@ fn put_configuration_object<'a, J: JsonPen>(fit: &Fit<'a>, node: NodeRef<'a, '_>
 }
 
 /// Puts the member for what a configuration lists.
-fn put_keys_member<'a, J: JsonPen>(fit: &Fit<'a>, node: NodeRef<'a, '_>, json: &mut J)
+pub fn put_keys_member<'a, J: JsonPen>(fit: &Fit<'a>, node: NodeRef<'a, '_>, json: &mut J)
     ensures { J.puts json.old (member_tokens
         (keys_member (read_configuration fit.now.images (node_of node.entry)).keys ∷ []))
         json.new }

@@ -9,8 +9,9 @@ ghost use Rattle.bi_common.specs.LineTokens.{line_tokens, tokens_of_lines};
 ghost use Rattle.bi_report.specs.FitListing.{default_lines, fit_listing};
 ghost use Rattle.bi_report.specs.FitListing.{fit_listing_object, listing_head};
 ghost use Rattle.bi_report.specs.FitListing.{head_members, image_line, image_object};
-ghost use Rattle.bi_report.specs.FitListing.{images_member, payload_object};
-ghost use Rattle.bi_report.specs.ReadListing.{placed_entry, placed_payload_entry, read_fit};
+ghost use Rattle.bi_report.specs.FitListing.{images_member, payload_member, payload_object};
+ghost use Rattle.bi_report.specs.PlacedEntries.{placed_payload_entry};
+ghost use Rattle.bi_report.specs.ReadListing.{placed_entry, read_fit};
 ghost use Rattle.bi_report.specs.ReadListing.{read_image_entry, read_payload};
 
 use super::configurations::{put_all_configuration_lines, put_configurations_member};
@@ -203,9 +204,18 @@ fn put_image_object<J: JsonPen>(image: &Image, json: &mut J)
 {
     json.put(JsonToken::BeginObject);
     put_member(("name", JsonValue::String(Field::Shown(image.name))), json);
+    put_payload_member(image, json);
+    json.put(JsonToken::EndObject);
+}
+
+/// Puts the member for the payload of an image.
+pub fn put_payload_member<J: JsonPen>(image: &Image, json: &mut J)
+    ensures { J.puts json.old
+        (member_tokens (payload_member (read_image_entry (image_model image.now)).payload ∷ []))
+        json.new }
+{
     json.put(JsonToken::Name("payload"));
     put_payload(placed_payload(image), json);
-    json.put(JsonToken::EndObject);
 }
 
 /// Puts the object of a payload, or `null` if there is none.

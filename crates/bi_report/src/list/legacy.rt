@@ -65,7 +65,7 @@ pub(super) fn put_legacy_object<J: JsonPen>(image: &Legacy, json: &mut J)
 }
 
 /// Puts the member for the parts.
-fn put_parts_member<J: JsonPen>(image: &Legacy, json: &mut J)
+pub fn put_parts_member<J: JsonPen>(image: &Legacy, json: &mut J)
     ensures { J.puts json.old (member_tokens (parts_member image.now.image ∷ [])) json.new }
 {
     json.put(JsonToken::Name("parts"));

@@ -1,104 +1,170 @@
-//! The lines of the boot images inside a file.
+//! The lines of the boot images inside a file, and their objects in JSON.
 
-ghost use Rattle.std.specs.Prelude.{◌≡◌, ◌+◌, ◌<◌, ◌≤◌, [], ◌∷◌, IfErr, OnOk, length};
-ghost use Rattle.bi_base.specs.Cells.{u32_at};
+ghost use Rattle.std.specs.Prelude.{◌≡◌, ◌<◌, ◌≤◌, [], ◌∷◌, IfErr, IfOk, OnOk, length};
 ghost use Rattle.bi_base.specs.declared.fault.Error.TheVariants.{OutOfMemory};
-ghost use Rattle.bi_fit.specs.Content.{tree_of};
-ghost use Rattle.bi_norm.specs.Meaning.{OfFit, OfLegacy};
-ghost use Rattle.bi_common.specs.LineTokens.{tokens_of_lines};
-ghost use Rattle.bi_report.specs.ReadChecking.{end_of_read_payloads};
-ghost use Rattle.bi_report.specs.Scanning.{ClaimsNothing, PutsFirstLines, PutsLineAt, scan_line};
+ghost use Rattle.bi_common.specs.Json.{Member};
+ghost use Rattle.bi_common.specs.JsonTokens.{json_tokens};
+ghost use Rattle.bi_common.specs.LineTokens.{line_tokens};
+ghost use Rattle.bi_common.specs.MadeFields.{field_of, member_of};
+ghost use Rattle.bi_report.specs.ScannedImages.{kind_value, scanned_image_value};
+ghost use Rattle.bi_report.specs.Scanning.{ClaimsNothing, PutsFirstFound, PutsFoundAt};
+ghost use Rattle.bi_report.specs.Scanning.{kind_field as field_of_kind};
+ghost use Rattle.bi_report.specs.Scanning.{kind_member as member_of_kind};
+ghost use Rattle.bi_report.specs.Scanning.{scan_line, scanned_kind_word};
+ghost use Rattle.bi_report.specs.Scanning.{scan_line_tokens, scanned_object, scanned_tokens};
 
 use super::image_starts::ImageStarts;
-use crate::check::content_end;
-use bi_base::{Error, Limits, cell_at};
-use bi_common::at_offset::image_at;
+use super::images::{ScannedImage, ScannedKind, find_image};
+use bi_base::{Error, Limits};
 use bi_common::fields::Field;
+use bi_common::json_writer::{JsonPen, JsonValue, put_object};
 use bi_common::lines::{LinePen, put_line};
-use bi_fit::Fit;
-use bi_legacy::offsets::IH_SIZE;
-use bi_legacy::{HEADER_SIZE, Legacy};
-use bi_norm::{BootImage, kind_of};
 use std::alloc::Global;
 
-/// Puts the line of each boot image inside a file, in the order of their offsets. Fails only with
-/// OutOfMemory. Requires: `end` is at most the length of the file, and no image that begins there
-/// or later claims any bytes.
+/// Puts the line of each boot image inside a file, in the order of their offsets, and returns
+/// whether there is any. Fails only with OutOfMemory. Requires: `end` is at most the length of the
+/// file, and no image that begins there or later claims any bytes.
 pub(super) fn put_lines<L: LinePen>(
     alloc: Global,
     file: &[u8],
     end: usize,
     limits: Limits,
     pen: &mut L,
-) -> Result<(), Error>
+) -> Result<bool, Error>
     requires within { end ≤ length file.now }
     requires nothing { ClaimsNothing file.now end (length file.now) }
-    ensures lines { OnOk result (PutsFirstLines L.puts limits file.now (length file.now)
-        pen.old pen.new) }
+    ensures lines { IfOk result (λ any. PutsFirstFound L.puts scan_line_tokens limits file.now
+        (length file.now) any pen.old pen.new) }
     ensures failed { IfErr result (λ error. error ≡ OutOfMemory) }
 {
+    let mut any = false;
     for offset in ImageStarts::new(file, end) {
-        put_line_at(alloc, file, offset, limits, pen)?;
+        any |= put_line_at(alloc, file, offset, limits, pen)?;
     }
-    Ok(())
+    Ok(any)
 }
 
-/// Puts the line of the boot image at an offset of a file, if one is accepted there. Fails only
-/// with OutOfMemory. Requires: the offset is before the end of the file.
+/// Puts the line of the boot image at an offset of a file, and returns whether one is accepted
+/// there. Fails only with OutOfMemory. Requires: the offset is before the end of the file.
 fn put_line_at<L: LinePen>(
     alloc: Global,
     file: &[u8],
     offset: usize,
     limits: Limits,
     pen: &mut L,
-) -> Result<(), Error>
+) -> Result<bool, Error>
     requires { offset < length file.now }
-    ensures line { OnOk result (PutsLineAt L.puts limits file.now offset pen.old pen.new) }
+    ensures line { IfOk result (λ any. PutsFoundAt L.puts scan_line_tokens limits file.now offset
+        any pen.old pen.new) }
     ensures failed { IfErr result (λ error. error ≡ OutOfMemory) }
 {
-    let image = image_at(file, offset);
-    if kind_of(image).is_err() {
-        return Ok(());
+    match find_image(alloc, file, offset, limits)? {
+        Some(image) => {
+            put_image_line(image, pen);
+            Ok(true)
+        }
+        None => Ok(false),
     }
-    match BootImage::read(alloc, image, limits) {
-        Ok(BootImage::Legacy(legacy)) => put_legacy_line(image, &legacy, offset, pen),
-        Ok(BootImage::Fit(fit)) => put_fit_line(&fit, offset, pen),
-        Err(Error::Refused(_)) => {}
-        Err(error) => return Err(error),
-    }
-    Ok(())
 }
 
-/// Puts the line of a legacy image that was read, at an offset. Requires: the image has at least
-/// 64 bytes.
-fn put_legacy_line<L: LinePen>(image: &[u8], legacy: &Legacy, offset: usize, pen: &mut L)
-    requires { 64 ≤ length image.now }
-    ensures { L.puts pen.old
-        (tokens_of_lines (scan_line offset (64 + u32_at image.now 12) (OfLegacy legacy.now.image)
-        ∷ [])) pen.new }
+/// Puts the line of a boot image.
+fn put_image_line<L: LinePen>(image: ScannedImage, pen: &mut L)
+    ensures { L.puts pen.old (scan_line_tokens (scanned_image_value image.entry ∷ [])) pen.new }
 {
-    let extent = HEADER_SIZE + cell_at(image, IH_SIZE) as usize;
     let words = [
-        Field::Decimal(offset as u64),
-        Field::Text(b"legacy"),
-        Field::Decimal(extent as u64),
-        Field::Shown(legacy.fields().name),
+        Field::Decimal(image.offset as u64),
+        Field::Text(kind_word(image.kind)),
+        Field::Decimal(image.extent as u64),
+        kind_field(image.kind),
     ];
     put_line(&words, pen);
 }
 
-/// Puts the line of a flattened image tree that was read, at an offset.
-fn put_fit_line<L: LinePen>(fit: &Fit, offset: usize, pen: &mut L)
-    ensures { L.puts pen.old
-        (tokens_of_lines (scan_line offset
-        (end_of_read_payloads fit.now.blob.total_size fit.now.images) (OfFit (tree_of fit.now))
-        ∷ [])) pen.new }
+/// Puts the object of each boot image inside a file, as `put_lines` puts their lines.
+pub(super) fn put_objects<J: JsonPen>(
+    alloc: Global,
+    file: &[u8],
+    end: usize,
+    limits: Limits,
+    json: &mut J,
+) -> Result<bool, Error>
+    requires within { end ≤ length file.now }
+    requires nothing { ClaimsNothing file.now end (length file.now) }
+    ensures objects { IfOk result (λ any. PutsFirstFound J.puts scanned_tokens limits file.now
+        (length file.now) any json.old json.new) }
+    ensures failed { IfErr result (λ error. error ≡ OutOfMemory) }
 {
-    let words = [
-        Field::Decimal(offset as u64),
-        Field::Text(b"fit"),
-        Field::Decimal(content_end(fit) as u64),
-        Field::Decimal(fit.image_count() as u64),
+    let mut any = false;
+    for offset in ImageStarts::new(file, end) {
+        any |= put_object_at(alloc, file, offset, limits, json)?;
+    }
+    Ok(any)
+}
+
+/// Puts the object of the boot image at an offset of a file, as `put_line_at` puts its line.
+fn put_object_at<J: JsonPen>(
+    alloc: Global,
+    file: &[u8],
+    offset: usize,
+    limits: Limits,
+    json: &mut J,
+) -> Result<bool, Error>
+    requires { offset < length file.now }
+    ensures object { IfOk result (λ any. PutsFoundAt J.puts scanned_tokens limits file.now offset
+        any json.old json.new) }
+    ensures failed { IfErr result (λ error. error ≡ OutOfMemory) }
+{
+    match find_image(alloc, file, offset, limits)? {
+        Some(image) => {
+            put_image_object(image, json);
+            Ok(true)
+        }
+        None => Ok(false),
+    }
+}
+
+/// Puts the object of a boot image.
+fn put_image_object<J: JsonPen>(image: ScannedImage, json: &mut J)
+    ensures { J.puts json.old (scanned_tokens (scanned_image_value image.entry ∷ [])) json.new }
+{
+    let members = [
+        ("offset", JsonValue::Number(image.offset as u64)),
+        (
+            "kind",
+            JsonValue::String(Field::Text(kind_word(image.kind))),
+        ),
+        ("size", JsonValue::Number(image.extent as u64)),
+        kind_member(image.kind),
     ];
-    put_line(&words, pen);
+    put_object(&members, json);
+}
+
+/// Returns the word for a kind.
+fn kind_word(kind: ScannedKind) -> &'static [u8]
+    ensures { result.now ≡ scanned_kind_word (kind_value kind.entry) }
+{
+    match kind {
+        ScannedKind::Legacy(_) => b"legacy",
+        ScannedKind::Fit(_) => b"fit",
+    }
+}
+
+/// Returns the field for the name of an image, or for the number of its images.
+fn kind_field<'a>(kind: ScannedKind<'a>) -> Field<'a, 'a>
+    ensures { field_of result ≡ field_of_kind (kind_value kind.entry) }
+{
+    match kind {
+        ScannedKind::Legacy(name) => Field::Shown(name),
+        ScannedKind::Fit(images) => Field::Decimal(images as u64),
+    }
+}
+
+/// Returns the member for it.
+fn kind_member<'a>(kind: ScannedKind<'a>) -> (&'static str, JsonValue<'a, 'a>)
+    ensures { member_of result ≡ member_of_kind (kind_value kind.entry) }
+{
+    match kind {
+        ScannedKind::Legacy(name) => ("name", JsonValue::String(Field::Shown(name))),
+        ScannedKind::Fit(images) => ("images", JsonValue::Number(images as u64)),
+    }
 }

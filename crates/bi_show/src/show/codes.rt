@@ -2,12 +2,16 @@
 
 ghost use Rattle.std.specs.Prelude.{◌≡◌, IfOk, map, string_bytes};
 ghost use Rattle.bi_legacy.specs.Codes.{compression_names};
-ghost use Rattle.bi_common.specs.CommonLines.{code_word};
+ghost use Rattle.bi_legacy.specs.Codes.{name_of_code};
+ghost use Rattle.bi_common.specs.CommonLines.{code_word, named_code};
+ghost use Rattle.bi_common.specs.MadeFields.{value_json};
 ghost use Rattle.bi_show.specs.AllCodes.{all_arch_names, all_os_names, all_type_names};
 ghost use Rattle.bi_show.specs.AllCodes.{given_arch_names, given_os_names, given_type_names};
 ghost use Rattle.bi_show.specs.AllCodes.{code_of_name};
 ghost use Rattle.bi_show.specs.CodeNames.{code_of_entry};
 
+use bi_common::fields::Field;
+use bi_common::json_writer::JsonValue;
 use std::alloc::{AllocError, Global};
 
 /// A code and its name.
@@ -176,6 +180,48 @@ fn code_cell(alloc: Global, table: &[CodeName], code: u8) -> Result<String, Allo
         }
     }
     format!(in alloc; "{code}")
+}
+
+/// Returns the value for an operating system's code in JSON.
+pub(super) fn os_json(code: u8) -> JsonValue<'static, 'static>
+    ensures { value_json result ≡ named_code (name_of_code all_os_names code) code }
+{
+    code_json(&OS_NAMES, code)
+}
+
+/// Returns the value for a processor architecture's code in JSON.
+pub(super) fn arch_json(code: u8) -> JsonValue<'static, 'static>
+    ensures { value_json result ≡ named_code (name_of_code all_arch_names code) code }
+{
+    code_json(&ARCH_NAMES, code)
+}
+
+/// Returns the value for an image type's code in JSON.
+pub(super) fn type_json(code: u8) -> JsonValue<'static, 'static>
+    ensures { value_json result ≡ named_code (name_of_code all_type_names code) code }
+{
+    code_json(&TYPE_NAMES, code)
+}
+
+/// Returns the value for a compression's code in JSON.
+pub(super) fn compression_json(code: u8) -> JsonValue<'static, 'static>
+    ensures { value_json result ≡ named_code (name_of_code compression_names code) code }
+{
+    code_json(&COMPRESSION_NAMES, code)
+}
+
+/// Returns the value for a code in JSON: a string of its first name in a table, or its number if it
+/// has none.
+fn code_json(table: &'static [CodeName], code: u8) -> JsonValue<'static, 'static>
+    ensures { value_json result
+        ≡ named_code (name_of_code (map code_of_entry table.entry.now) code) code }
+{
+    for (other, name) in table {
+        if *other == code {
+            return JsonValue::String(Field::Text(name.as_bytes()));
+        }
+    }
+    JsonValue::Number(u64::from(code))
 }
 
 /// Returns the code of an operating system's name. Returns None if U-Boot has no such name, and for

@@ -6,8 +6,9 @@ ghost use Rattle.bi_fdt.specs.Content.{root_of};
 ghost use Rattle.bi_fit.specs.Content.{AreAtTheirPlaces, tree_of};
 ghost use Rattle.bi_fit.specs.Reading.{IsReadFit};
 ghost use Rattle.bi_norm.specs.Meaning.{OfFit};
-ghost use Rattle.bi_common.specs.PayloadBounds.{IsOverPayloadBound};
+ghost use Rattle.bi_report.specs.ConcernValues.{IsCoverageOf};
 ghost use Rattle.bi_report.specs.ReadChecking.{IsReadCheckError};
+ghost use Rattle.bi_report.specs.SignedTrees.{IsOverCheckBound};
 ghost use Rattle.bi_show.specs.FitPages.{fit_head, reservations_table};
 ghost use Rattle.bi_show.specs.FitPages.{reservation_row as row_of_reservation};
 ghost use Rattle.bi_show.specs.Rows.{cells_of_rows, cells_of_row};
@@ -29,13 +30,14 @@ use bi_common::verdict_counts::digests_of_verdicts;
 use bi_fdt::Blob;
 use bi_fit::Fit;
 use bi_hash::RegionDigests;
-use bi_report::check::Concerns;
+use bi_report::check::{Concerns, FitCoverage};
 use std::alloc::{AllocError, Global};
 
 /// Returns the page of a flattened image tree of a file. Requires: reading the file under the
 /// limits gives this tree.
 ///
-/// Errors: TooLarge at the limit, if the payloads are longer; OutOfMemory.
+/// Errors: TooLarge at the limit, if the payloads are longer, or the paths that the signed nodes
+/// must cover; OutOfMemory.
 pub(super) fn fit_page(
     alloc: Global,
     file: &[u8],
@@ -48,24 +50,29 @@ pub(super) fn fit_page(
     ensures failed { IfErr result (IsReadCheckError limits fit.now) }
 {
     let bounded = BoundedFit::new(fit, limits)?;
+    let coverage = FitCoverage::read(alloc, fit, limits)?;
     let digests = digests_of_verdicts(alloc, bounded)?;
-    Ok(judged_page(alloc, file, fit, &digests, layout, limits)?)
+    let page = judged_page(alloc, file, fit, &digests, &coverage, layout, limits)?;
+    Ok(page)
 }
 
 /// Returns the page of a flattened image tree of a file. Requires: reading the file under the
-/// limits gives this tree, its payloads are within the bound, and in the file of the digests, the
-/// payload of each image is at its place.
+/// limits gives this tree; its payloads and the paths that its signed nodes must cover are within
+/// their bounds; in the file of the digests, the payload of each image is at its place; the
+/// coverage is that of the tree.
 fn judged_page<'a>(
     alloc: Global,
     file: &[u8],
     fit: &Fit<'a>,
     digests: &RegionDigests<'a>,
+    coverage: &FitCoverage<'a>,
     layout: bool,
     limits: Limits,
 ) -> Result<String, AllocError>
     requires read { IsReadFit limits file.now fit.now }
     requires placed { AreAtTheirPlaces digests.now fit.now.images }
-    requires within { ¬ (IsOverPayloadBound limits (OfFit (tree_of fit.now))) }
+    requires covered { IsCoverageOf fit.now coverage.now }
+    requires within { ¬ (IsOverCheckBound limits (OfFit (tree_of fit.now))) }
     ensures { IfOk result (λ text. IsFitPage layout limits file.now (string_bytes text)) }
 {
     let time = time_cell(alloc, fit.blob().root().property(b"timestamp"))?;
@@ -74,10 +81,10 @@ fn judged_page<'a>(
         reservation_rows(alloc, fit.blob())?,
         image_rows(alloc, fit, digests)?,
         configuration_rows(alloc, fit)?,
-        signature_rows(alloc, fit)?,
+        signature_rows(alloc, fit, coverage)?,
         fit_layout(alloc, fit, layout)?,
     ];
-    let concerns = concern_lines(alloc, Concerns::of_fit(file, fit, digests))?;
+    let concerns = concern_lines(alloc, Concerns::of_fit(file, fit, digests, coverage))?;
     let page = page_of(alloc, &tables, &concerns)?;
     Ok(page)
 }

@@ -85,7 +85,7 @@ pub fn legacy_plan<'a>(alloc: Global, options: &ArgMatches<'a>) -> Result<Legacy
 }
 
 /// Returns the fields of the header that the options give. Fails with BadValue.
-fn fields<'a>(options: &ArgMatches<'a>) -> Result<Fields<'a>, Failure>
+fn fields<'a>(options: &ArgMatches<'a>) -> Result<Fields<'a>, Failure<'static>>
     ensures fields { IfOk result (IsFields options.now) }
     ensures bad { IfErr result (IsBadValue (IsFields options.now)) }
 {
@@ -105,7 +105,7 @@ fn fields<'a>(options: &ArgMatches<'a>) -> Result<Fields<'a>, Failure>
 }
 
 /// Parses a code. Fails with BadValue.
-fn code(field: CodeField, argument: &str) -> Result<u8, Failure>
+fn code(field: CodeField, argument: &str) -> Result<u8, Failure<'static>>
     ensures value { IfOk result (IsCode field argument.now) }
     ensures bad { IfErr result (IsBadValue (IsCode field argument.now)) }
 {

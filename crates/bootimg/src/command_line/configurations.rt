@@ -124,10 +124,11 @@ fn names_of<'a>(alloc: Global, images: &[ImageSpec<'a>]) -> Result<BTreeSet<&'a 
 fn parse_configuration<'a>(
     alloc: Global,
     word: &'a str,
-    bad: Failure,
+    bad: Failure<'static>,
 ) -> Result<ConfigurationWord<'a>, NoRequest>
     ensures configuration { IfOk result (IsConfigurationWord word.now) }
-    ensures failure { IfErr result (IsFailureOutcome (IsBad bad (IsConfigurationWord word.now))) }
+    ensures failure { IfErr result (IsFailureOutcome
+        (IsBad bad.entry (IsConfigurationWord word.now))) }
 {
     let (name, lists) = split_field(word).ok_or(bad)?;
     Ok(ConfigurationWord {
@@ -141,11 +142,11 @@ fn parse_configuration<'a>(
 fn parse_lists<'a>(
     alloc: Global,
     text: &'a str,
-    bad: Failure,
+    bad: Failure<'static>,
 ) -> Result<Vec<KeyList<'a>>, NoRequest>
     ensures lists { IfOk result (λ lists. AreLists (parts_of text.now) lists.items) }
     ensures failure { IfErr result (IsFailureOutcome
-        (IsBad bad (λ lists. AreLists (parts_of text.now) lists))) }
+        (IsBad bad.entry (λ lists. AreLists (parts_of text.now) lists))) }
 {
     let mut lists = Vec::new(alloc);
     for part in text.split(':') {
@@ -168,9 +169,13 @@ fn has_key(lists: &[KeyList<'_>], key: Key) -> bool
 
 /// Parses a list: `KEY=IMAGE[,IMAGE]..`. Fails with the given failure for any other text, or with
 /// OutOfMemory.
-fn parse_list<'a>(alloc: Global, text: &'a str, bad: Failure) -> Result<KeyList<'a>, NoRequest>
+fn parse_list<'a>(
+    alloc: Global,
+    text: &'a str,
+    bad: Failure<'static>,
+) -> Result<KeyList<'a>, NoRequest>
     ensures list { IfOk result (IsListText text.now) }
-    ensures failure { IfErr result (IsFailureOutcome (IsBad bad (IsListText text.now))) }
+    ensures failure { IfErr result (IsFailureOutcome (IsBad bad.entry (IsListText text.now))) }
 {
     let (key, names) = split_list(text).ok_or(bad)?;
     Ok(KeyList {
@@ -206,7 +211,7 @@ fn split_names<'a>(alloc: Global, text: &'a str) -> Result<Vec<&'a [u8]>, AllocE
 pub fn default_name<'a>(
     options: &ArgMatches<'a>,
     words: &[&'a str],
-) -> Result<Option<&'a [u8]>, Failure>
+) -> Result<Option<&'a [u8]>, Failure<'static>>
     ensures name { IfOk result (λ name. IsDefault (texts_of words.now)
         (option_of options.now (codes "default")) (option_map (λ bytes. bytes.now) name)) }
     ensures bad { IfErr result (IsBadValue

@@ -103,7 +103,7 @@ pub fn selection(alloc: Global, options: &ArgMatches<'_>) -> Result<Selected, No
 /// Returns what the options of `extract --all` request. Fails with NoSelection if something else is
 /// selected, too, or else with BadValue for the value of any of the options, or if no output is
 /// named. The key and the index have no effect.
-pub fn all_request<'a>(options: &ArgMatches<'a>) -> Result<AllRequest<'a>, Failure>
+pub fn all_request<'a>(options: &ArgMatches<'a>) -> Result<AllRequest<'a>, Failure<'static>>
     ensures request { IfOk result (IsAllRequest options.now) }
     ensures none { OnOk result (IsNoneGiven options.now) }
     ensures failure { IfErr result (IsAllFailure options.now) }
@@ -119,7 +119,7 @@ pub fn all_request<'a>(options: &ArgMatches<'a>) -> Result<AllRequest<'a>, Failu
 }
 
 /// Returns what the values of the options of `extract --all` request. Fails with BadValue.
-fn all_values<'a>(options: &ArgMatches<'a>) -> Result<AllRequest<'a>, Failure>
+fn all_values<'a>(options: &ArgMatches<'a>) -> Result<AllRequest<'a>, Failure<'static>>
     ensures request { IfOk result (IsAllRequest options.now) }
     ensures bad { IfErr result (IsBadValue (IsAllRequest options.now)) }
 {
@@ -152,7 +152,7 @@ fn name(alloc: Global, argument: &str, escaped: bool) -> Result<Vec<u8>, NoReque
 }
 
 /// Returns the key and the index that the options give. Fails with BadValue.
-fn entry(options: &ArgMatches<'_>) -> Result<(Key, u32), Failure>
+fn entry(options: &ArgMatches<'_>) -> Result<(Key, u32), Failure<'static>>
     ensures entry { IfOk result (IsEntry options.now) }
     ensures bad { IfErr result (IsBadValue (IsEntry options.now)) }
 {

@@ -20,7 +20,7 @@ const DEPTH: u8 = 64;
 
 /// Returns the limits that the options give. Fails with BadValue if `--limit` is not a number of 64
 /// to 0x7fffffff.
-pub fn limits(options: &ArgMatches<'_>) -> Result<Limits, Failure>
+pub fn limits(options: &ArgMatches<'_>) -> Result<Limits, Failure<'static>>
     ensures value { IfOk result (IsLimits (limit_of options.now)) }
     ensures bad { IfErr result (IsBadValue (IsLimits (limit_of options.now))) }
 {
@@ -37,7 +37,7 @@ fn parse_limits(argument: &str) -> Option<Limits>
 
 /// Returns the form that the options give. Fails with BadValue if `--align` is given without
 /// `--external`, or is not a power of two from 4 to 1048576.
-pub fn form(options: &ArgMatches<'_>) -> Result<Form, Failure>
+pub fn form(options: &ArgMatches<'_>) -> Result<Form, Failure<'static>>
     ensures form { IfOk result (IsForm options.now) }
     ensures failure { IfErr result (IsFormFailure options.now) }
 {
@@ -75,7 +75,7 @@ pub fn format(options: &ArgMatches<'_>) -> Format
 
 /// Returns the number that is the value of an option, and 0 if it has none. Fails with BadValue if
 /// the value is not a number.
-pub fn number(options: &ArgMatches<'_>, id: &str) -> Result<u32, Failure>
+pub fn number(options: &ArgMatches<'_>, id: &str) -> Result<u32, Failure<'static>>
     ensures value { IfOk result (IsNumber (value_of options.now id.now (codes "0"))) }
     ensures bad { IfErr result (IsBadValue
         (IsNumber (value_of options.now id.now (codes "0")))) }

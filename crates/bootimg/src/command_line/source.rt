@@ -44,7 +44,7 @@ pub fn source<'a>(options: &ArgMatches<'a>, id: &str) -> ImageSource<'a>
 
 /// Returns what the options of `compare` give. Fails with BadValue if both images are to be read
 /// from standard input.
-pub fn compare_plan<'a>(options: &ArgMatches<'a>) -> Result<ComparePlan<'a>, Failure>
+pub fn compare_plan<'a>(options: &ArgMatches<'a>) -> Result<ComparePlan<'a>, Failure<'static>>
     ensures plan { IfOk result (IsComparePlan options.now) }
     ensures bad { IfErr result (IsBadValue (IsComparePlan options.now)) }
 {

@@ -2,8 +2,8 @@
 
 ghost use Rattle.std.specs.Prelude.{◌≡◌, false, IfOk, map};
 ghost use Rattle.clap.specs.Words.{app_of, new_rule, rule_of, shape_of};
-ghost use Rattle.bootimg.specs.Program.{building_commands, changing_commands, program_app};
-ghost use Rattle.bootimg.specs.Program.{reading_commands, value_option};
+ghost use Rattle.bootimg.specs.Program.{building_commands, changing_commands, checking_commands};
+ghost use Rattle.bootimg.specs.Program.{program_app, reading_commands, value_option};
 ghost use Rattle.bootimg.specs.Table.{rule_of_option, shape_of_text, with_subcommands};
 ghost use Rattle.clap.specs.declared.builder.command.Command.TheViews.{out-Command};
 
@@ -23,12 +23,12 @@ pub const NO_COMPRESSION: &str = "none";
 pub const ZERO: &str = "0";
 
 /// The version that `--version` prints, and the logic of the kit that the program is proved with.
-const VERSION: &str = "0.3.0 (Rattle logic dac8208d650f15bf)";
+const VERSION: &str = "0.4.0 (Rattle logic dac8208d650f15bf)";
 
 /// The text of `--help` before the usage.
 const ABOUT: &str =
-    "Normalises, shows, lists, describes, compares, verifies, checks, finds, updates, extracts, \
-     converts and builds U-Boot boot images";
+    "Normalises, shows, lists, describes, compares, verifies, checks, finds, updates, reads, \
+     extracts, converts and builds U-Boot boot images";
 
 /// The text of `--help` after the options.
 const AFTER_HELP: &str =
@@ -62,6 +62,8 @@ enum OptionForm {
     RequiredPositional,
     /// Any number of positional arguments.
     Positionals,
+    /// One or more positional arguments.
+    RequiredPositionals,
 }
 
 /// An option of a command.
@@ -96,17 +98,29 @@ pub fn program<'a>(alloc: Global) -> Result<Command<'a>, AllocError>
         .after_help(AFTER_HELP)
         .subcommand_required(true);
     let program = with_reading_commands(alloc, program)?;
+    let program = with_checking_commands(alloc, program)?;
     let program = with_changing_commands(alloc, program)?;
     let program = with_building_commands(alloc, program)?;
     program.subcommand(command(alloc, &EXPLAIN)?)
 }
 
-/// Adds the commands that show what an image is.
+/// Adds the commands that write what an image is.
 fn with_reading_commands<'a>(alloc: Global, program: Command<'a>) -> Result<Command<'a>, AllocError>
     ensures { IfOk result (λ all. app_of all
         ≡ with_subcommands (app_of program.entry) reading_commands) }
 {
     with_commands(alloc, program, &READING_COMMANDS)
+}
+
+/// Adds the commands that compare images, check one, and find the images in a file.
+fn with_checking_commands<'a>(
+    alloc: Global,
+    program: Command<'a>,
+) -> Result<Command<'a>, AllocError>
+    ensures { IfOk result (λ all. app_of all
+        ≡ with_subcommands (app_of program.entry) checking_commands) }
+{
+    with_commands(alloc, program, &CHECKING_COMMANDS)
 }
 
 /// Adds the commands that make something else of an image.
@@ -181,6 +195,11 @@ fn argument<'a>(alloc: Global, option: &OptionText) -> Arg<'a>
             .value_name(option.value_name)
             .num_args(0..)
             .action(ArgAction::Append),
+        OptionForm::RequiredPositionals => argument
+            .value_name(option.value_name)
+            .num_args(1..)
+            .action(ArgAction::Append)
+            .required(true),
     }
 }
 
@@ -201,6 +220,28 @@ const FILE: OptionText = OptionText {
     value_name: "IMAGE",
     help: "The image: a file. Without IMAGE, or if it is -, standard input is read",
     form: OptionForm::Positional,
+};
+
+const REQUIRED_FILE: OptionText = OptionText {
+    help: "The image: a file, or standard input if it is -",
+    form: OptionForm::RequiredPositional,
+    ..FILE
+};
+
+const WHERE: OptionText = OptionText {
+    name: "where",
+    value_name: "WHERE",
+    help: "Each value: the PATH of a node and the NAME of a property, as describe prints them, or \
+         of a legacy image one of name, time, load, entry, os, arch, type, compression",
+    form: OptionForm::RequiredPositionals,
+};
+
+const AS: OptionText = OptionText {
+    name: "as",
+    value_name: "FORM",
+    help: "How values are written: text, each text of a value without quotes; number, 0x and \
+         hexadecimal digits; raw, the bytes of one value",
+    form: OptionForm::Optional,
 };
 
 const ONE: OptionText = OptionText {
@@ -259,6 +300,13 @@ const ALLOW: OptionText = OptionText {
     form: OptionForm::Optional,
 };
 
+const SIGNED: OptionText = OptionText {
+    name: "signed",
+    value_name: "",
+    help: "Also find each configuration that has no signature, and that there is none",
+    form: OptionForm::Flag,
+};
+
 const NEW_TIME: OptionText = OptionText {
     name: "time",
     value_name: "N",
@@ -276,7 +324,7 @@ const HASHES: OptionText = OptionText {
 const EXTERNAL_NORMAL: OptionText = OptionText {
     name: "external",
     value_name: "",
-    help: "Write the payloads of a flattened image tree after the tree, not inside it",
+    help: "Write the payloads of a FIT after the tree, not inside it",
     form: OptionForm::Flag,
 };
 
@@ -302,21 +350,21 @@ const PART: OptionText = OptionText {
 const IMAGE: OptionText = OptionText {
     name: "image",
     value_name: "NAME",
-    help: "Write the payload of image NAME of a flattened image tree",
+    help: "Write the payload of image NAME of a FIT",
     form: OptionForm::Optional,
 };
 
 const CONFIG: OptionText = OptionText {
     name: "config",
     value_name: "NAME",
-    help: "Write a payload that configuration NAME of a flattened image tree lists",
+    help: "Write a payload that configuration NAME of a FIT lists",
     form: OptionForm::Optional,
 };
 
 const DEFAULT: OptionText = OptionText {
     name: "default",
     value_name: "",
-    help: "Write a payload that the default configuration of a flattened image tree lists",
+    help: "Write a payload that the default configuration of a FIT lists",
     form: OptionForm::Flag,
 };
 
@@ -330,8 +378,7 @@ const ALL: OptionText = OptionText {
 const ESCAPED: OptionText = OptionText {
     name: "escaped",
     value_name: "",
-    help: "NAME is as list prints it: % and any byte that is not graphic ASCII are % and two \
-         hexadecimal digits in upper case, and no bytes are -",
+    help: "NAME is as list prints it: percent-encoded",
     form: OptionForm::Flag,
 };
 
@@ -359,8 +406,9 @@ const INDEX: OptionText = OptionText {
 
 const CAUSE: OptionText = OptionText {
     name: "cause",
-    value_name: "CAUSE",
-    help: "The cause, as the error prints it; without CAUSE each cause is explained",
+    value_name: "NAME",
+    help: "A cause as an error prints it, or a kind of concerns as check prints it; without NAME \
+         each one is explained",
     form: OptionForm::Positional,
 };
 
@@ -464,9 +512,8 @@ const IMAGES: OptionText = OptionText {
     form: OptionForm::Positionals,
 };
 
-/// The commands that show what an image is, between the one that normalises it and the one that
-/// finds it.
-static READING_COMMANDS: [CommandText; 8] = [
+/// The commands that write what an image is.
+static READING_COMMANDS: [CommandText; 4] = [
     CommandText {
         name: "normalise",
         aliases: &["normalize"],
@@ -475,7 +522,7 @@ static READING_COMMANDS: [CommandText; 8] = [
         after_help: "\
                  Reads an image, and writes its normal form to standard output. Two images of the\n\
                  same kind have the same normal form if and only if they mean the same thing. A\n\
-                 flattened image tree has one normal form with --external, and another without.\n\n\
+                 FIT has one normal form with --external, and another without.\n\n\
                  Signature nodes are kept, and not checked: a signature may no longer be valid. A\n\
                  note on standard error has their number, if there are any.\n\n\
                  With --external, another note says when the payloads of a file were aligned to\n\
@@ -492,14 +539,15 @@ static READING_COMMANDS: [CommandText; 8] = [
         after_help: "\
                  Reads an image, and writes to standard output a page for a person, in aligned\n\
                  columns: what the image is, its date and size; its parts or payloads, with the\n\
-                 verdict on each hash node; its configurations and signature nodes, which are not\n\
-                 verified; with --layout, the regions of the file by their offsets, padding and\n\
-                 free space too; and last the lines of check. The form of the page may change\n\
-                 with each version: list, describe, verify and check are for scripts.\n\n\
-                 --limit also bounds the payloads of a flattened image tree together. The exit\n\
-                 status is 0 even if a verdict is not good.\n\n\
+                 verdict on each hash node; its configurations; its signature nodes, which are not\n\
+                 verified, with what each of them covers; with --layout, the regions of the file\n\
+                 by their offsets, padding and free space too; and last the lines of check. The\n\
+                 form of the page may change with each version: for scripts is --json, which\n\
+                 writes the same as one text, without the regions, and is not for --layout.\n\n\
+                 --limit also bounds the payloads of a FIT together, and so the paths that its\n\
+                 signatures must cover. The exit status is 0 even if a verdict is not good.\n\n\
                  Example: bootimg show --layout kernel.itb",
-        options: &[LAYOUT, LIMIT, OUTPUT, FILE],
+        options: &[LAYOUT, JSON, OFFSET, LIMIT, OUTPUT, FILE],
     },
     CommandText {
         name: "list",
@@ -509,9 +557,9 @@ static READING_COMMANDS: [CommandText; 8] = [
         after_help: "\
                  Reads an image, and writes to standard output what it holds. Of a legacy image:\n\
                  its fields, the size and offset of each part, and the number of bytes after the\n\
-                 last part. Of a flattened image tree: its memory reservations, the size and\n\
-                 offset of each payload, and what each configuration lists, but not where loaders\n\
-                 put it: describe does. Sizes and offsets are in bytes.\n\n\
+                 last part. Of a FIT: its memory reservations, the size and offset of each\n\
+                 payload, and what each configuration lists, but not where loaders put it:\n\
+                 describe does. Sizes and offsets are in bytes.\n\n\
                  Example: bootimg list kernel.uimage",
         options: &[JSON, OFFSET, LIMIT, OUTPUT, FILE],
     },
@@ -523,12 +571,16 @@ static READING_COMMANDS: [CommandText; 8] = [
         after_help: "\
                  Reads an image, and writes to standard output what it means, in lines for diff.\n\
                  Images that mean the same thing have the same lines, which show no offsets,\n\
-                 padding or versions, and not whether payloads are inside a flattened image tree\n\
-                 or after it. Each payload or part has a line with its size and SHA-256. Neither\n\
-                 the payloads together nor the description may be longer than the limit.\n\n\
+                 padding or versions, and not whether payloads are inside a FIT or after it. Each\n\
+                 payload or part has a line with its size and SHA-256. Neither the payloads\n\
+                 together nor the description may be longer than the limit.\n\n\
                  Example: bootimg describe kernel.itb",
         options: &[JSON, OFFSET, LIMIT, OUTPUT, FILE],
     },
+];
+
+/// The commands that compare images, check one, and find the images in a file.
+static CHECKING_COMMANDS: [CommandText; 4] = [
     CommandText {
         name: "compare",
         aliases: &["diff"],
@@ -550,11 +602,10 @@ static READING_COMMANDS: [CommandText; 8] = [
         usage: "bootimg verify [OPTIONS] [IMAGE]",
         after_help: "\
                  Reads an image, and writes to standard output a verdict on each checksum of a\n\
-                 legacy image, or on each hash node of a flattened image tree. Signatures are not\n\
-                 checked.\n\n\
+                 legacy image, or on each hash node of a FIT. Signatures are not checked.\n\n\
                  The exit status is 0 if each verdict is good, and 1 if one is not. It is also 0\n\
-                 if a flattened image tree has no hash node, so that nothing is checked: bootimg\n\
-                 check finds what is not protected.\n\n\
+                 if a FIT has no hash node, so that nothing is checked: bootimg check finds what\n\
+                 is not protected.\n\n\
                  Example: bootimg verify kernel.itb",
         options: &[JSON, OFFSET, LIMIT, OUTPUT, FILE],
     },
@@ -566,19 +617,30 @@ static READING_COMMANDS: [CommandText; 8] = [
         after_help: "\
                  Reads an image, and writes to standard output a line for each thing in it that\n\
                  is not protected: nothing if all is. The first word of a line is its kind:\n\n\
-                 \x20 bad-hash     the verdict on a hash node is not good\n\
-                 \x20 unhashed     an image with a payload has no good hash node\n\
-                 \x20 weak-hash    it has good ones, and none of SHA-256, SHA-384 or SHA-512\n\
-                 \x20 bad-list     a value in a configuration is not a list of names\n\
-                 \x20 missing      a configuration lists an image that is not there\n\
-                 \x20 bad-default  the default is none of the configurations\n\
-                 \x20 trailing     bytes follow the image, and not all of them are zero\n\n\
-                 A legacy image can only have trailing: its checksums are always checked, and an\n\
-                 image with a wrong one is refused. --limit also bounds the payloads of a\n\
-                 flattened image tree together. Signatures are not checked.\n\n\
+                 \x20 bad-hash      the verdict on a hash node is not good\n\
+                 \x20 skipped-hash  U-Boot skips a hash node, which has uboot-ignore\n\
+                 \x20 unhashed      an image with a payload has no good hash node but skipped ones\n\
+                 \x20 weak-hash     it has good ones, and none of SHA-256, SHA-384 or SHA-512\n\
+                 \x20 bad-list      a value in a configuration is not a list of names\n\
+                 \x20 missing       a configuration lists an image that is not there\n\
+                 \x20 unsigned      with --signed: a configuration has no signature\n\
+                 \x20 no-nodes      a signature does not say which nodes it covers\n\
+                 \x20 no-images     the configuration of a signature names no image\n\
+                 \x20 uncovered     a signature does not cover a node that it must cover\n\
+                 \x20 foreign       a signature covers a node that the configuration does not use\n\
+                 \x20 strings       a signature does not cover the names of all properties\n\
+                 \x20 unit-address  there is a signature, and the name of a node has an @\n\
+                 \x20 bad-default   the default is none of the configurations\n\
+                 \x20 trailing      bytes follow the image, and not all of them are zero\n\n\
+                 No signature is verified: what is checked is what it covers if it is valid.\n\n\
+                 A legacy image can only have trailing, and unsigned with --signed: its checksums\n\
+                 are always checked, and an image with a wrong one is refused. --limit also\n\
+                 bounds the payloads of a FIT together, and so the paths that its signatures must\n\
+                 cover.\n\n\
                  The exit status is 0 if nothing was found, and 1 if something was.\n\n\
-                 Example: bootimg check --allow weak-hash,trailing kernel.itb",
-        options: &[ALLOW, JSON, OFFSET, LIMIT, OUTPUT, FILE],
+                 Example: bootimg check --allow weak-hash,trailing kernel.itb\n\
+                 Example: bootimg check --signed kernel.itb",
+        options: &[ALLOW, SIGNED, JSON, OFFSET, LIMIT, OUTPUT, FILE],
     },
     CommandText {
         name: "scan",
@@ -589,17 +651,17 @@ static READING_COMMANDS: [CommandText; 8] = [
                  Reads a file, such as what a flash chip holds, and writes to standard output a\n\
                  line for each image in it, even one that is inside another: the offset of its\n\
                  first byte, legacy or fit, how many bytes it has, and the name of a legacy image\n\
-                 or the number of images of a flattened image tree. An image may begin at any\n\
-                 offset. Bytes that other commands would refuse have no line.\n\n\
+                 or the number of images of a FIT. An image may begin at any offset. Bytes that\n\
+                 other commands would refuse have no line.\n\n\
                  --limit also bounds the bytes that the headers inside the file name together.\n\n\
-                 The exit status is 0 if a line was written, and 1 if none was.\n\n\
+                 The exit status is 0 if an image was found, and 1 if none was.\n\n\
                  Example: bootimg scan flash.bin",
-        options: &[LIMIT, OUTPUT, FILE],
+        options: &[JSON, OFFSET, LIMIT, OUTPUT, FILE],
     },
 ];
 
-/// The commands that make something else of an image.
-static CHANGING_COMMANDS: [CommandText; 3] = [
+/// The commands that make something else of an image, or take something out of it.
+static CHANGING_COMMANDS: [CommandText; 4] = [
     CommandText {
         name: "update",
         aliases: &[],
@@ -610,9 +672,9 @@ static CHANGING_COMMANDS: [CommandText; 3] = [
                  that the options request. At least one of --time and --hashes must be given.\n\
                  Hash nodes with an unknown algorithm, and those of images without a payload, are\n\
                  kept as they are. A legacy image has no hash nodes, and its checksums are always\n\
-                 computed. With --hashes, --limit also bounds the payloads of a flattened image\n\
-                 tree together. Signature nodes are kept, and not checked: a note on standard\n\
-                 error has their number, if there are any.\n\n\
+                 computed. With --hashes, --limit also bounds the payloads of a FIT together.\n\
+                 Signature nodes are kept, and not checked: a note on standard error has their\n\
+                 number, if there are any.\n\n\
                  Example: bootimg update --hashes --time 1700000000 kernel.itb > new.itb",
         options: &[
             NEW_TIME,
@@ -626,6 +688,25 @@ static CHANGING_COMMANDS: [CommandText; 3] = [
         ],
     },
     CommandText {
+        name: "get",
+        aliases: &[],
+        about: "Print values of properties of an image",
+        usage: "bootimg get [OPTIONS] <IMAGE> <WHERE>...",
+        after_help: "\
+                 Reads an image, and writes a line for each WHERE to standard output. In a FIT a\n\
+                 WHERE is two words, the path of a node and the name of a property, and the line\n\
+                 is its value, both as describe prints them. In a legacy image it is one word, a\n\
+                 field, and the line is the field as list prints it.\n\n\
+                 With --as text, a line for each text of a value, without quotes. With --as\n\
+                 number, 0x and 8 or 16 digits for a value of 4 or 8 bytes, and for a code of a\n\
+                 legacy image 0x and 2. With --as raw, the bytes of one value, and no newline.\n\n\
+                 Nothing is written if one of the values is not there, or not in that form. The\n\
+                 payload of an image is no property: extract writes it.\n\n\
+                 Example: bootimg get kernel.itb /images/kernel-1 load /configurations default\n\
+                 Example: bootimg get --as number kernel.uimage load",
+        options: &[AS, OFFSET, LIMIT, OUTPUT, REQUIRED_FILE, WHERE],
+    },
+    CommandText {
         name: "extract",
         aliases: &[],
         about: "Write one part or payload of an image",
@@ -635,12 +716,11 @@ static CHANGING_COMMANDS: [CommandText; 3] = [
         after_help: "\
                  Reads an image, and writes the bytes that are selected to standard output. A\n\
                  legacy image has parts: those in the list of sizes of a multi-file image or a\n\
-                 script, and one part in any other image. The images of a flattened image tree\n\
-                 have payloads.\n\n\
+                 script, and one part in any other image. The images of a FIT have payloads.\n\n\
                  With --all, each part of a legacy image is the file part-N, and each payload of\n\
-                 a flattened image tree has the name of its image, as list prints it, where a\n\
-                 dot that comes first is %2E. DIR must not be there yet. It is made last, with\n\
-                 all files, or not at all.\n\n\
+                 a FIT has the name of its image, as list prints it, where a dot that comes first\n\
+                 is %2E. DIR must not be there yet. It is made last, with all files, or not at\n\
+                 all.\n\n\
                  Hash nodes are not checked: verify does that.\n\n\
                  Numbers are decimal, or hexadecimal with 0x.\n\n\
                  Example: bootimg extract --part 1 multi.uimage > ramdisk\n\
@@ -653,12 +733,12 @@ static CHANGING_COMMANDS: [CommandText; 3] = [
     CommandText {
         name: "convert",
         aliases: &[],
-        about: "Convert a legacy image to a flattened image tree",
+        about: "Convert a legacy image to a FIT",
         usage: "bootimg convert [OPTIONS] [IMAGE] > FIT",
         after_help: "\
-                 Reads a legacy image, and writes a flattened image tree with the same payloads\n\
-                 to standard output. The parts of a multi-file image become a kernel, a ramdisk\n\
-                 and a devicetree, in this order. Each payload has its SHA-256, and configuration\n\
+                 Reads a legacy image, and writes a FIT with the same payloads to standard\n\
+                 output. The parts of a multi-file image become a kernel, a ramdisk and a\n\
+                 devicetree, in this order. Each payload has its SHA-256, and configuration\n\
                  conf-1 lists the images.\n\n\
                  Example: bootimg convert kernel.uimage > kernel.itb",
         options: &[OFFSET, LIMIT, OUTPUT, FILE],
@@ -683,10 +763,10 @@ static BUILDING_COMMANDS: [CommandText; 2] = [
              OS, ARCH, TYPE and COMPRESSION are names that mkimage has, or numbers of at most\n\
              255. Numbers are decimal, or hexadecimal with 0x. mkimage reads addresses as\n\
              hexadecimal without 0x, too.\n\n\
-             Example: bootimg build-legacy --os linux --arch arm --type kernel < zImage > \
-             uImage\n\
-             Example: bootimg build-legacy --os linux --arch arm --type multi @zImage @initrd > \
-             uImage",
+             Example: bootimg build-legacy --os linux --arch arm --type kernel --load 0x8000 \
+             --entry 0x8000 < zImage > uImage\n\
+             Example: bootimg build-legacy --os linux --arch arm --type multi --load 0x8000 \
+             --entry 0x8000 @zImage @initrd > uImage",
         options: &[
             OS,
             ARCH,
@@ -704,13 +784,13 @@ static BUILDING_COMMANDS: [CommandText; 2] = [
     CommandText {
         name: "build-fit",
         aliases: &[],
-        about: "Build a flattened image tree",
+        about: "Build a FIT",
         usage: "bootimg build-fit [OPTIONS] [IMAGE]... < PAYLOADS > FIT",
         after_help: "\
-             Builds a flattened image tree, and writes it to standard output. Each payload has\n\
-             its SHA-256, or what --hash names. Without --config, configuration conf-1 lists the\n\
-             images by their types, and of two devicetrees in it the second is an overlay, which\n\
-             U-Boot applies to the first. With --config there are these configurations instead.\n\n\
+             Builds a FIT, and writes it to standard output. Each payload has its SHA-256, or\n\
+             what --hash names. Without --config, configuration conf-1 lists the images by\n\
+             their types, and of two devicetrees in it the second is an overlay, which U-Boot\n\
+             applies to the first. With --config there are these configurations instead.\n\n\
              An IMAGE is NAME:TYPE:ARCH:OS:COMPRESSION:LOAD:ENTRY:LEN. TYPE, ARCH, OS and\n\
              COMPRESSION are names that mkimage has, or numbers of at most 255. LOAD and ENTRY\n\
              are addresses, or - for none. LEN is the length of the payload in bytes. The\n\
@@ -718,8 +798,8 @@ static BUILDING_COMMANDS: [CommandText; 2] = [
              whole input. A payload may be in a file, whose name has no colon: LEN is then\n\
              @FILE. If each payload is, standard input is not read. Numbers are decimal, or\n\
              hexadecimal with 0x.\n\n\
-             Example: bootimg build-fit kernel-1:kernel:arm:linux:none:0x8000:0x8000:4096 \
-             < zImage > kernel.itb\n\
+             Example: bootimg build-fit kernel-1:kernel:arm:linux:none:0x8000:0x8000:@zImage \
+             > kernel.itb\n\
              Example: bootimg build-fit --config a:kernel=k:fdt=d --config b:kernel=k:fdt=e,o \
              k:kernel:arm64:linux:gzip:0x80000:0x80000:@Image.gz \
              d:flat_dt:arm64:linux:none:-:-:@a.dtb e:flat_dt:arm64:linux:none:-:-:@b.dtb \
@@ -743,11 +823,13 @@ static BUILDING_COMMANDS: [CommandText; 2] = [
 static EXPLAIN: CommandText = CommandText {
     name: "explain",
     aliases: &[],
-    about: "Say what the cause of an error means",
-    usage: "bootimg explain [OPTIONS] [CAUSE]",
+    about: "Say what the cause of an error or a concern means",
+    usage: "bootimg explain [OPTIONS] [NAME]",
     after_help: "\
-             Writes to standard output what the cause of an error means, and what can be done.\n\
-             Without CAUSE, writes a line for each cause, with its name. Reads no image.\n\n\
-             Example: bootimg explain BadMagic",
+             Writes to standard output what the cause of an error means, or a kind of concerns\n\
+             that check finds, and what can be done. Without NAME, writes a line for each cause\n\
+             and each kind, with its name. Reads no image.\n\n\
+             Example: bootimg explain BadMagic\n\
+             Example: bootimg explain uncovered",
     options: &[OUTPUT, CAUSE],
 };

@@ -11,7 +11,7 @@ use clap::ArgMatches;
 
 /// Returns the changes that the options request. Fails with NoChange if there are none, else with
 /// BadValue if the time is not a number.
-pub fn changes(options: &ArgMatches<'_>) -> Result<Changes, Failure>
+pub fn changes(options: &ArgMatches<'_>) -> Result<Changes, Failure<'static>>
     ensures changes { IfOk result (IsChanges options.now) }
     ensures failure { IfErr result (IsChangesFailure options.now) }
 {

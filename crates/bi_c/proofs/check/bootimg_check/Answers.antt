@@ -11,19 +11,19 @@ pub returns-in_default : goal.returns-in_default
 returns-in_default c = FilledNothing WrongArgument
     (λ valid. not_so _ c.in_default.ensures.in_range valid.limits) refl c.fail.ensures.answer c.fail.ensures.status
 
-pub returns-in_default-allowed_of : goal.returns-in_default-allowed_of
-returns-in_default-allowed_of c =
-    FilledNothing WrongArgument (λ valid. not_so _ c.in_default-allowed_of.ensures.in_range valid.are_kinds) refl
-    c.fail-in_default-allowed_of.ensures.answer c.fail-in_default-allowed_of.ensures.status
+pub returns-in_default-policy_of : goal.returns-in_default-policy_of
+returns-in_default-policy_of c =
+    FilledNothing WrongArgument (λ valid. not_so _ c.in_default-policy_of.ensures.in_range valid.are_kinds) refl
+    c.fail-in_default-policy_of.ensures.answer c.fail-in_default-policy_of.ensures.status
 
 pub returns : goal.returns
 returns c =
     let valid : HasKinds c.args.limit c.args.depth c.args.kinds = record {
       limits = is_so _ c.in-Some.ensures.in_range;
-      are_kinds = is_so _ c.in-Some-allowed_of.ensures.in_range;
+      are_kinds = is_so _ c.in-Some-policy_of.ensures.in_range;
     } in
     fills_as _ _ _ _ _ _ _ _
-    (checked_as Lines c.args.limit c.args.depth c.args.kinds c.in-Some.limits c.in-Some-allowed_of.allowed c.args.file.now valid
-    c.in-Some.ensures.value c.in-Some-allowed_of.ensures.value)
+    (checked_as Lines c.args.limit c.args.depth c.args.kinds c.in-Some.limits c.in-Some-policy_of.policy c.args.file.now valid
+    c.in-Some.ensures.value c.in-Some-policy_of.ensures.value)
     (call_not_checked c.args.limit c.args.depth c.args.kinds c.in-Some.limits c.args.file.now valid c.in-Some.ensures.value)
     c.fill_concerns.ensures

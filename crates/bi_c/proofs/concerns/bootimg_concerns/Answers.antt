@@ -1,8 +1,9 @@
-use Rattle.std.proofs.Common.{refl, subst, ◌∙◌}
+use Rattle.std.proofs.Common.{ap, refl, subst, ◌∙◌}
 use Rattle.bi_base.specs.declared.fault.Error.TheVariants as error
 use Rattle.bi_base.specs.Limits.{Limits}
 use Rattle.bi_report.specs.CheckedFiles.{IsCheckError}
 use Rattle.bi_report.specs.CheckedImages.{found_of}
+use Rattle.bi_report.specs.Checking.{allowed_under}
 use Rattle.bi_c.specs.declared.failure.Failure.TheVariants.{WrongArgument, OutOfMemory}
 use Rattle.bi_c.specs.Answers.{FilledNothing}
 use Rattle.bi_c.specs.Calls.{HasKinds}
@@ -15,16 +16,16 @@ pub returns-in_default : goal.returns-in_default
 returns-in_default c = FilledNothing WrongArgument
     (λ valid. not_so _ c.in_default.ensures.in_range valid.limits) refl c.fail.ensures.answer c.fail.ensures.status
 
-pub returns-in_default-allowed_of : goal.returns-in_default-allowed_of
-returns-in_default-allowed_of c =
-    FilledNothing WrongArgument (λ valid. not_so _ c.in_default-allowed_of.ensures.in_range valid.are_kinds) refl
-    c.fail-in_default-allowed_of.ensures.answer c.fail-in_default-allowed_of.ensures.status
+pub returns-in_default-policy_of : goal.returns-in_default-policy_of
+returns-in_default-policy_of c =
+    FilledNothing WrongArgument (λ valid. not_so _ c.in_default-policy_of.ensures.in_range valid.are_kinds) refl
+    c.fail-in_default-policy_of.ensures.answer c.fail-in_default-policy_of.ensures.status
 
 pub returns-in-Err : goal.returns-in-Err
 returns-in-Err c =
     let valid : HasKinds c.args.limit c.args.depth c.args.kinds = record {
       limits = is_so _ c.in-Some.ensures.in_range;
-      are_kinds = is_so _ c.in-Some-allowed_of.ensures.in_range;
+      are_kinds = is_so _ c.in-Some-policy_of.ensures.in_range;
     } in
     FilledNothing c.failure_of.result
     (call_not_checked c.args.limit c.args.depth c.args.kinds c.in-Some.limits c.args.file.now valid c.in-Some.ensures.value
@@ -35,11 +36,12 @@ pub returns-in-Ok-concern_elements : goal.returns-in-Ok-concern_elements
 returns-in-Ok-concern_elements c =
     let valid : HasKinds c.args.limit c.args.depth c.args.kinds = record {
       limits = is_so _ c.in-Some.ensures.in_range;
-      are_kinds = is_so _ c.in-Some-allowed_of.ensures.in_range;
+      are_kinds = is_so _ c.in-Some-policy_of.ensures.in_range;
     } in
     buffer_is_filled _ _ c.deref.result.now _ _ 0 _ _
-    (are_concern_elements c.args.limit c.args.depth c.args.kinds c.args.file.now c.in-Some.limits c.in-Some-allowed_of.allowed
-    (found_of c.in-Ok.image) c.deref.result.now valid c.in-Some.ensures.value c.in-Some-allowed_of.ensures.value
+    (are_concern_elements c.args.limit c.args.depth c.args.kinds c.args.file.now c.in-Some.limits c.allowed_kinds.result
+    (found_of c.in-Ok.image) c.deref.result.now valid c.in-Some.ensures.value
+    (c.allowed_kinds.ensures ∙ ap allowed_under c.in-Some-policy_of.ensures.value)
     c.in-Ok.ensures.read (c.deref.ensures.value ∙ c.in-Ok-concern_elements.ensures))
     c.fill.ensures.answer c.fill.ensures.filled
 
@@ -47,7 +49,7 @@ pub returns : goal.returns
 returns c =
     let valid : HasKinds c.args.limit c.args.depth c.args.kinds = record {
       limits = is_so _ c.in-Some.ensures.in_range;
-      are_kinds = is_so _ c.in-Some-allowed_of.ensures.in_range;
+      are_kinds = is_so _ c.in-Some-policy_of.ensures.in_range;
     } in
     FilledNothing OutOfMemory (
       valid,

@@ -9,8 +9,8 @@ use Rattle.bi_coverage.specs.Signatures.{images_in, names_in_property}
 use Rattle.bi_coverage.proofs.ReferenceLists.{list_first}
 use Rattle.bi_coverage.proofs.references.references.Goals as goal
 
-pub loop-property-preserved-in-Continue-1 : goal.loop-property-preserved-in-Continue-1
-loop-property-preserved-in-Continue-1 c =
+pub loop-property-preserved-in-Continue-branch-2 : goal.loop-property-preserved-in-Continue-branch-2
+loop-property-preserved-in-Continue-branch-2 c =
     let is_image : List ℕ → Bool = λ name. is_among name (names (images_in (tree_of c.args.fit.now))) in
     let property = property_of (file_property_of c.in-Some.property) in
     let left = map (λ (keyed : KeyedProperty). property_of keyed.1) c.next.new.self in

@@ -9,5 +9,7 @@ returns c = record {
     setting = λ payload value. refl;
     payload = λ old new. refl;
     time = λ payload. refl;
+    both = λ payload. refl;
+    names = λ first second. refl;
   };
 }

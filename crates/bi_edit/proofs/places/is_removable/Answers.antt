@@ -1,5 +1,5 @@
 use Rattle.std.proofs.Common.{◌∷◌, [], not, bytes_eq, sym, ap, ◌∙◌}
-use Rattle.bi_tree.specs.TreeNodes.{names_of_path}
+use Rattle.bi_edit.specs.Places.{names_of_path}
 use Rattle.bi_edit.proofs.RemovablePaths.{one_item, removable_one}
 use Rattle.bi_edit.proofs.places.is_removable.Goals as goal
 

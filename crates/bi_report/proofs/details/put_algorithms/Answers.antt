@@ -1,6 +1,6 @@
 use Rattle.std.proofs.Common.{ap, flat_map, ◌∙◌}
 use Rattle.bi_fit.specs.JudgementCalls.{checked_hash_of}
-use Rattle.bi_common.specs.HashedImages.{hashes_left}
+use Rattle.bi_report.specs.ConcernValues.{used_left}
 use Rattle.bi_common.specs.LineTokens.{one_field}
 use Rattle.bi_report.specs.MadeDetails.{algorithm_words}
 use Rattle.bi_report.proofs.LaterPuts.{all_are_put, next_are_put}
@@ -11,7 +11,7 @@ pub loop-hash-preserved : goal.loop-hash-preserved
 loop-hash-preserved g c =
     next_are_put g.L.LinePen.puts g.met.L.LinePen.puts_in_turn _ _ _ _ _ _ _ c.loop-hash.invariant
     (ap (λ hashes. flat_map one_field (algorithm_words hashes)) c.in-Some.ensures.steps
-    ∙ words_first (checked_hash_of c.in-Some.hash) (hashes_left c.next.new.self))
+    ∙ words_first (checked_hash_of c.in-Some.hash) (used_left c.next.new.self))
     c.put_good_algorithm.ensures
 
 pub returns : goal.returns

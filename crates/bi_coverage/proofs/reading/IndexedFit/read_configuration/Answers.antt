@@ -67,13 +67,13 @@ returns-clause-read c =
     (c.in_ok-parts.ensures
     ∙ ap (parts_for (tree_of content) c.name-name.result.now) (c.names-2.ensures ∙ sym c.names.ensures))
     (c.in_ok-signatures.ensures
-    ∙ ap (λ names. map (signature_with content names (map part_value c.deref-2.result.now)) (map meaning_of_node c.deref.result.now))
+    ∙ ap (λ names. map (signature_with content names (map part_value c.deref.result.now)) (map meaning_of_node c.deref-2.result.now))
     (c.names-3.ensures ∙ sym c.names.ensures)
     ∙ ap (λ parts. map (signature_with content (bytes_of c.names.result.now) (map part_value parts))
-    (map meaning_of_node c.deref.result.now))
-    c.deref-2.ensures.value
+    (map meaning_of_node c.deref-2.result.now))
+    c.deref.ensures.value
     ∙ ap (λ nodes. map (signature_with content (bytes_of c.names.result.now) (map part_value c.in_ok-parts.parts.items))
-    (map meaning_of_node nodes)) c.deref.ensures.value)
+    (map meaning_of_node nodes)) c.deref-2.ensures.value)
 
 pub returns-clause-sum : goal.returns-clause-sum
 returns-clause-sum c =

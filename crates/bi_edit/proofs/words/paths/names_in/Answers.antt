@@ -3,7 +3,7 @@ use Rattle.std.specs.Option.{option_map}
 use Rattle.bi_edit.specs.Cuts.{from_byte}
 use Rattle.bi_edit.specs.EditWords.{IsChildWord, slash_and_name}
 use Rattle.bi_edit.specs.Places.{IsNodePath}
-use Rattle.bi_tree.specs.TreeNodes.{names_of_path}
+use Rattle.bi_edit.specs.Places.{names_of_path}
 use Rattle.bi_common.proofs.UnshownNames.{some_holds}
 use Rattle.bi_edit.proofs.Outcomes.{holds_of_none}
 use Rattle.bi_edit.proofs.PathNames.{begins_of, count_of_names, less_left, names_of_more, no_child_word, path_grows, too_many}

@@ -3,7 +3,7 @@ use Rattle.std.specs.Option.{option_map}
 use Rattle.bi_edit.specs.Cuts.{from_byte}
 use Rattle.bi_edit.specs.EditWords.{slash_and_name}
 use Rattle.bi_edit.specs.Places.{IsNodePath}
-use Rattle.bi_tree.specs.TreeNodes.{names_of_path}
+use Rattle.bi_edit.specs.Places.{names_of_path}
 use Rattle.bi_edit.proofs.words.paths.names_in.Given as goal
 
 abbrev pub invariant-loop-left : goal.invariant-loop-left

@@ -5,12 +5,12 @@ use Rattle.bi_fdt.specs.Content.{Blob, root_of}
 use Rattle.bi_fit.specs.Content.{tree_of}
 use Rattle.bi_fit.specs.Names.{timestamp_name}
 use Rattle.bi_common.specs.declared.format.Format.TheVariants.{Lines}
-use Rattle.bi_report.specs.Checking.{nothing_allowed}
+use Rattle.bi_report.specs.Checking.{allowed_by_default}
 use Rattle.bi_report.proofs.AsciiReports.{checked_is_ascii}
 use Rattle.bi_report.proofs.CheckedFiles.{tree_has}
 use Rattle.bi_show.specs.FitPages.{timestamp_in, value_in}
 use Rattle.bi_show.specs.PageCells.{IsTimeCell}
-use Rattle.bi_show.specs.Pages.{Table, page_text}
+use Rattle.bi_show.specs.Pages.{Table}
 use Rattle.bi_show.specs.Rows.{cells_of_rows}
 use Rattle.bi_show.specs.ShownFiles.{AreConcernLines}
 use Rattle.bi_show.proofs.LayoutsOfFiles.{layout_found}
@@ -21,7 +21,7 @@ pub concern_lines-requires : goal.concern_lines-requires
 concern_lines-requires c =
     let limits = c.args.limits in
     let file = c.args.file.now in
-    checked_is_ascii Lines nothing_allowed limits file _
+    checked_is_ascii Lines allowed_by_default limits file _
     (lines_of_concerns limits file _ _ c.of_fit.ensures (tree_has limits file c.args.fit.now c.requires.read c.requires.within))
 
 pub returns : goal.returns

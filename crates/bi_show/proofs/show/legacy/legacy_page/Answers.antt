@@ -1,7 +1,7 @@
 use Rattle.std.proofs.Common.{ap, sym, subst, string_bytes, rules}
 use Rattle.bi_legacy.specs.Meaning.{LegacyImage}
 use Rattle.bi_common.specs.declared.format.Format.TheVariants.{Lines}
-use Rattle.bi_report.specs.Checking.{nothing_allowed}
+use Rattle.bi_report.specs.Checking.{allowed_by_default}
 use Rattle.bi_report.proofs.AsciiReports.{checked_is_ascii}
 use Rattle.bi_report.proofs.CheckedFiles.{legacy_has}
 use Rattle.bi_show.specs.Dates.{IsTimeText}
@@ -14,7 +14,7 @@ pub concern_lines-requires : goal.concern_lines-requires
 concern_lines-requires c =
     let limits = c.args.limits in
     let file = c.args.file.now in
-    checked_is_ascii Lines nothing_allowed limits file _
+    checked_is_ascii Lines allowed_by_default limits file _
     (lines_of_concerns limits file _ _ c.of_legacy.ensures (legacy_has limits file c.args.image.now c.requires.read))
 
 pub returns : goal.returns

@@ -1,42 +1,41 @@
 use Rattle.std.proofs.Common.{◌-◌, ◌∷◌, length, take, drop, sym, ap, ◌∙◌, arith}
 use Rattle.bi_tree.specs.Changes.{with_node, with_change_at}
 use Rattle.bi_tree.specs.Properties.{tree_properties, without_own_property}
-use Rattle.bi_tree.specs.TreeNodes.{below, names_of_path}
-use Rattle.bi_tree.proofs.ChangedTrees.{path_is}
+use Rattle.bi_tree.specs.TreeNodes.{below}
+use Rattle.bi_base.specs.Slices.{bytes_of}
+use Rattle.bi_tree.proofs.ChangedTrees.{first_name, path_is}
 use Rattle.bi_tree.proofs.NodeLists.{changed_at, not_changed}
 use Rattle.bi_tree.proofs.node.TreeNode.+remove_property.Goals as goal
 
 pub returns-then-index-len-clause-removed : goal.returns-then-index-len-clause-removed
 returns-then-index-len-clause-removed t c =
     let path = c.args.path.now in
-    let later = names_of_path (take (length path - 1) (drop 1 path)) in
+    let later = bytes_of (take (length path - 1) (drop 1 path)) in
     let change = with_change_at later (without_own_property c.args.name.now) in
     let items = c.self.inside.children.items in
-    let changed = changed_at items c.deref.result.now c.deref.ensures.value c.find_child-index.result c.deref-2.result.now
+    let changed = changed_at items c.deref.result.now c.deref.ensures.value c.find_child-index.result (first_name path)
     c.find_child-index.ensures.index change c.remove_property.new.self c.index_mut.result.now
     (omega (arith, c.if-index-len.true, c.len.ensures))
     (c.remove_property.ensures.name ∙ ap (λ node. node.name) c.index_mut.ensures.value)
     (c.remove_property.ensures.removed ∙ ap (λ node. change (below node)) c.index_mut.ensures.value) in
     ap (λ nodes. record { own = tree_properties c.self.inside.properties.items; children = nodes }) changed
-    ∙ ap (λ top. record { own = top.own; children = with_node c.deref-2.result.now change top.children }) c.self.view_is
-    ∙ ap (λ name. with_change_at (name ∷ later) (without_own_property c.args.name.now) (below c.args.self.now)) c.deref-2.ensures.value
+    ∙ ap (λ top. record { own = top.own; children = with_node (first_name path) change top.children }) c.self.view_is
     ∙ sym
-    (ap (λ names. with_change_at (names_of_path names) (without_own_property c.args.name.now) (below c.args.self.now))
-    (path_is path c.first-item.result c.in-len1-up.len_at_least c.first-item.is))
+    (ap (λ names. with_change_at names (without_own_property c.args.name.now) (below c.args.self.now))
+    (path_is path c.in-len1-up.len_at_least))
 
 pub returns-else-index-len-clause-removed : goal.returns-else-index-len-clause-removed
 returns-else-index-len-clause-removed t c =
     let path = c.args.path.now in
-    let later = names_of_path (take (length path - 1) (drop 1 path)) in
+    let later = bytes_of (take (length path - 1) (drop 1 path)) in
     let change = with_change_at later (without_own_property c.args.name.now) in
     let items = c.self.inside.children.items in
-    let same = not_changed items c.deref.result.now c.deref.ensures.value c.find_child-index.result c.deref-2.result.now
+    let same = not_changed items c.deref.result.now c.deref.ensures.value c.find_child-index.result (first_name path)
     c.find_child-index.ensures.index change
     (omega (arith, c.if-index-len.false, c.len.ensures, c.find_child-index.ensures.within, c.deref.ensures.len)) in
     sym (ap below c.self.view_is)
     ∙ ap (λ nodes. record { own = tree_properties c.self.inside.properties.items; children = nodes }) same
-    ∙ ap (λ top. record { own = top.own; children = with_node c.deref-2.result.now change top.children }) c.self.view_is
-    ∙ ap (λ name. with_change_at (name ∷ later) (without_own_property c.args.name.now) (below c.args.self.now)) c.deref-2.ensures.value
+    ∙ ap (λ top. record { own = top.own; children = with_node (first_name path) change top.children }) c.self.view_is
     ∙ sym
-    (ap (λ names. with_change_at (names_of_path names) (without_own_property c.args.name.now) (below c.args.self.now))
-    (path_is path c.first-item.result c.in-len1-up.len_at_least c.first-item.is))
+    (ap (λ names. with_change_at names (without_own_property c.args.name.now) (below c.args.self.now))
+    (path_is path c.in-len1-up.len_at_least))

@@ -1,17 +1,18 @@
-use Rattle.std.proofs.Common.{◌-◌, [], ◌∷◌, length, take, drop, refl, sym, ap, ◌∙◌}
+use Rattle.std.proofs.Common.{◌-◌, [], ◌∷◌, suc, length, take, drop, refl, sym, ap, ◌∙◌, Result, Ok, Err, OnErr}
 use Rattle.std.specs.Cow.{cow_slice_items}
-use Rattle.bi_tree.specs.Changes.{with_node, with_new_node}
+use Rattle.bi_tree.specs.Changes.{with_node, with_new_node, with_node_at}
 use Rattle.bi_tree.specs.Properties.{tree_properties, with_value_at}
-use Rattle.bi_tree.specs.TreeNodes.{below, names_of_path}
-use Rattle.bi_tree.proofs.ChangedTrees.{path_is, set_below}
+use Rattle.bi_tree.specs.TreeNodes.{below}
+use Rattle.bi_base.specs.Slices.{bytes_of}
+use Rattle.bi_tree.proofs.ChangedTrees.{first_name, path_is, set_below}
 use Rattle.bi_tree.proofs.NodeLists.{changed_at}
 use Rattle.bi_tree.proofs.node.TreeNode.+set_property.Goals as goal
 
 pub returns-clause-set : goal.returns-clause-set
 returns-clause-set t c =
     let path = c.args.path.now in
-    let later = names_of_path (take (length path - 1) (drop 1 path)) in
-    let first = c.deref.result.now in
+    let later = bytes_of (take (length path - 1) (drop 1 path)) in
+    let first = first_name path in
     let value = cow_slice_items c.args.value in
     let items = c.child_or_new.new.children.items in
     let here = c.index_mut.result.now in
@@ -23,12 +24,42 @@ returns-clause-set t c =
     ap (λ nodes. record { own = tree_properties c.self.inside.properties.items; children = nodes })
     (changed ∙ ap (λ nodes. with_node first (with_value_at later c.args.name.now value) nodes) c.in_ok-index.ensures.nodes)
     ∙ sym
-    (ap (λ names. with_value_at (names_of_path names) c.args.name.now value (below c.args.self.now))
-    (path_is path c.first-item.result c.in-len1-up.len_at_least c.first-item.is)
-    ∙ ap (λ name. with_value_at (name ∷ later) c.args.name.now value (below c.args.self.now)) (sym c.deref.ensures.value)
+    (ap (λ names. with_value_at names c.args.name.now value (below c.args.self.now))
+    (path_is path c.in-len1-up.len_at_least)
     ∙ set_below first later c.args.name.now value (below c.args.self.now)
     ∙ ap (λ top. record {
       own = top.own;
       children = with_node first (with_value_at later c.args.name.now value) (with_new_node [] first top.children);
     })
     (sym c.self.view_is))
+
+-- What holds in any case holds after an error.
+on_error : {T E P : Type 0} (result : Result T E) → P → OnErr result P
+on_error (Ok value) holds = tt
+on_error (Err error) holds = holds
+
+pub returns-in_err-set_property-clause-failed : goal.returns-in_err-set_property-clause-failed
+returns-in_err-set_property-clause-failed t c =
+    let path = c.args.path.now in
+    let later = bytes_of (take (length path - 1) (drop 1 path)) in
+    let first = first_name path in
+    let items = c.child_or_new.new.children.items in
+    let here = c.index_mut.result.now in
+    let some = c.in_err-set_property.ensures.failed in
+    let changed = changed_at items items refl c.in_ok-index.index first c.in_ok-index.ensures.index
+    (with_node_at [] (take some.0 later)) c.set_property.new.self here c.in_ok-index.ensures.within
+    (c.in_err-set_property.ensures.name ∙ ap (λ node. node.name) c.index_mut.ensures.value)
+    (some.1 ∙ ap (λ node. with_node_at [] (take some.0 later) (below node)) c.index_mut.ensures.value) in
+    on_error c.from_residual-in_err-set_property.result (
+      suc some.0,
+      ap (λ nodes. record { own = tree_properties c.self.inside.properties.items; children = nodes })
+          (changed ∙ ap (λ nodes. with_node first (with_node_at [] (take some.0 later)) nodes) c.in_ok-index.ensures.nodes)
+          ∙ sym
+          (ap (λ names. with_node_at [] (take (suc some.0) names) (below c.args.self.now))
+          (path_is path c.in-len1-up.len_at_least)
+          ∙ ap (λ top. record {
+            own = top.own;
+            children = with_node first (with_node_at [] (take some.0 later)) (with_new_node [] first top.children);
+          })
+          (sym c.self.view_is)),
+    )

@@ -1,19 +1,26 @@
-use Rattle.std.proofs.Common.{rules}
+use Rattle.std.proofs.Common.{List, length, rules, subst, subst₂}
 use Rattle.std.proofs.lemmas.Result.{err_from_is_err_and}
+use Rattle.bi_base.specs.Commands.{CommandFailed}
 use Rattle.bi_norm.specs.Converting.{IsConvertedFile, IsConvertError}
 use Rattle.bi_norm.specs.NormalForm.{IsNormalForm, IsNormaliseError}
 use Rattle.bi_norm.specs.Reading.{IsBootImageReadError}
 use Rattle.bi_report.specs.CheckedFiles.{IsChecked, IsCheckError}
+use Rattle.bi_report.specs.Checking.{allowed_under}
 use Rattle.bi_report.specs.ListedFiles.{IsListing}
 use Rattle.bi_report.specs.Scanning.{IsScanText, IsScanError}
 use Rattle.bi_report.specs.VerifiedFiles.{IsReport}
 use Rattle.bi_describe.specs.Describing.{IsDescription, IsDescribeError}
-use Rattle.bi_show.specs.ShownFiles.{IsPage}
 use Rattle.bi_commands.specs.Extracting.{IsChosen, IsExtractError}
 use Rattle.bi_commands.specs.UpdatedFiles.{IsUpdated, IsUpdateError}
 use Rattle.bootimg.specs.Selections.{select_of}
+use Rattle.bootimg.specs.Tasks.{IsShownAs}
 use Rattle.bootimg.proofs.SelectionNames.{same_chosen, same_failure}
-use Rattle.bootimg.proofs.TaskFailures.{call_failed, extract_failed}
+use Rattle.bi_values.specs.Getting.{IsGetError, IsTextOfValues}
+use Rattle.bi_values.specs.ValueNames.{value_name_models}
+use Rattle.bi_values.specs.declared.get_error.GetError.TheVariants.{Failed}
+use Rattle.bi_values.specs.declared.value_name.ValueName.{ValueName}
+use Rattle.bootimg.specs.Failures.{IsIndexOfValue}
+use Rattle.bootimg.proofs.TaskFailures.{call_failed, extract_failed, get_failed, index_of_failure}
 use Rattle.bootimg.proofs.command_line.Task.run_on.Goals as goal
 
 pub returns-in_err-kept-in-Normalise-clause-failed : goal.returns-in_err-kept-in-Normalise-clause-failed
@@ -26,15 +33,16 @@ returns-in_err-kept-in-Normalise-clause-failed g c =
     c.args.sink.now c.normalise_with_kept.new.sink c.in_err-kept-in-Normalise.field-0.0 p.0 p.2
     c.in_err-kept-in-Normalise.ensures.failed)
 
-pub returns-in_err-run-in-Show-clause-failed : goal.returns-in_err-run-in-Show-clause-failed
-returns-in_err-run-in-Show-clause-failed g c =
+pub returns-in_err-append_shown-in-Show-clause-failed : goal.returns-in_err-append_shown-in-Show-clause-failed
+returns-in_err-append_shown-in-Show-clause-failed g c =
     let limits = c.args.limits in
     let image = c.args.image.now in
-    let p = err_from_is_err_and c.from_residual-in_err-run-in-Show.result c.from_residual-in_err-run-in-Show.ensures.1 in
+    let p = err_from_is_err_and c.from_residual-in_err-append_shown-in-Show.result
+    c.from_residual-in_err-append_shown-in-Show.ensures.1 in
     rw (c.in-Show.is, p.1)
-    (call_failed g.S.Sink.fails (IsPage c.in-Show.presenter.layout limits image) (IsCheckError limits image)
-    c.args.sink.now c.run.new.sink c.in_err-run-in-Show.field-0.0 p.0 p.2
-    c.in_err-run-in-Show.ensures.failed)
+    (call_failed g.S.Sink.fails (IsShownAs c.in-Show.how limits image) (IsCheckError limits image)
+    c.args.sink.now c.append_shown.new.sink c.in_err-append_shown-in-Show.field-0.0 p.0 p.2
+    c.in_err-append_shown-in-Show.ensures.failed)
 
 pub returns-in_err-run-in-List-clause-failed : goal.returns-in_err-run-in-List-clause-failed
 returns-in_err-run-in-List-clause-failed g c =
@@ -43,7 +51,7 @@ returns-in_err-run-in-List-clause-failed g c =
     let p = err_from_is_err_and c.from_residual-in_err-run-in-List.result c.from_residual-in_err-run-in-List.ensures.1 in
     rw (c.in-List.is, p.1)
     (call_failed g.S.Sink.fails (IsListing c.in-List.format limits image) (IsBootImageReadError limits image)
-    c.args.sink.now c.run-in-List.new.sink c.in_err-run-in-List.field-0.0 p.0 p.2
+    c.args.sink.now c.run.new.sink c.in_err-run-in-List.field-0.0 p.0 p.2
     c.in_err-run-in-List.ensures.failed)
 
 pub returns-in_err-run-in-Describe-clause-failed : goal.returns-in_err-run-in-Describe-clause-failed
@@ -72,7 +80,7 @@ returns-in_err-clean-in-Check-clause-failed g c =
     let image = c.args.image.now in
     let p = err_from_is_err_and c.from_residual-in_err-clean-in-Check.result c.from_residual-in_err-clean-in-Check.ensures.1 in
     rw (c.in-Check.is, p.1)
-    (call_failed g.S.Sink.fails (IsChecked c.in-Check.format c.in-Check.allowed limits image) (IsCheckError limits image)
+    (call_failed g.S.Sink.fails (IsChecked c.in-Check.format (allowed_under c.in-Check.policy) limits image) (IsCheckError limits image)
     c.args.sink.now c.check_into.new.sink c.in_err-clean-in-Check.field-0.0 p.0 p.2
     c.in_err-clean-in-Check.ensures.failed)
 
@@ -82,7 +90,7 @@ returns-in_err-found-in-Scan-clause-failed g c =
     let image = c.args.image.now in
     let p = err_from_is_err_and c.from_residual-in_err-found-in-Scan.result c.from_residual-in_err-found-in-Scan.ensures.1 in
     rw (c.in-Scan.is, p.1)
-    (call_failed g.S.Sink.fails (IsScanText limits image) (IsScanError limits image)
+    (call_failed g.S.Sink.fails (IsScanText c.in-Scan.format limits image) (IsScanError limits image)
     c.args.sink.now c.run-in-Scan.new.sink c.in_err-found-in-Scan.field-0.0 p.0 p.2
     c.in_err-found-in-Scan.ensures.failed)
 
@@ -97,6 +105,32 @@ returns-in_err-kept-in-Update-clause-failed g c =
     (call_failed g.S.Sink.fails (IsUpdated changes limits form image) (IsUpdateError changes limits form image)
     c.args.sink.now c.update_with_kept.new.sink
     c.in_err-kept-in-Update.field-0.0 p.0 p.2 c.in_err-kept-in-Update.ensures.failed)
+
+pub failure-requires : goal.failure-requires
+failure-requires g c =
+    let limits = c.args.limits in
+    let image = c.args.image.now in
+    let form = c.getter.result.form in
+    let names = c.getter.result.names.now in
+    record {
+      index = subst (λ (names : List ValueName). IsIndexOfValue (length names) c.in-Err.error) c.getter.ensures.names
+          (index_of_failure g.S.Sink.fails (IsTextOfValues form (value_name_models names) limits image) form names limits image
+          c.args.sink.now c.run-in-Get.new.sink c.in-Err.error c.in-Err.ensures.failed);
+    }
+
+pub returns-in-Err-clause-failed : goal.returns-in-Err-clause-failed
+returns-in-Err-clause-failed g c =
+    let limits = c.args.limits in
+    let image = c.args.image.now in
+    let plan = c.in-Get.plan in
+    let names = value_name_models plan.names.items in
+    rw (c.in-Get.is)
+    (get_failed g.S.Sink.fails (IsTextOfValues plan.form names limits image) (IsGetError plan.form names limits image) plan.words.items
+    c.args.sink.now c.run-in-Get.new.sink c.in-Err.error c.failure.result c.failure.ensures
+    (subst₂ (λ form (some : List ValueName).
+    CommandFailed g.S.Sink.fails (λ cause. Failed cause) (IsTextOfValues form (value_name_models some) limits image)
+    (IsGetError form (value_name_models some) limits image) c.args.sink.now c.run-in-Get.new.sink c.in-Err.error)
+    c.getter.ensures.form c.getter.ensures.names c.in-Err.ensures.failed))
 
 pub returns-in_err-run-in-Extract-clause-failed : goal.returns-in_err-run-in-Extract-clause-failed
 returns-in_err-run-in-Extract-clause-failed g c =

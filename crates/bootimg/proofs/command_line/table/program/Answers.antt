@@ -2,7 +2,7 @@ use Rattle.std.proofs.Common.{ap, ap₂, ◌∙◌, true}
 use Rattle.std.proofs.lemmas.Result.{IfOk-weaker}
 use Rattle.clap.specs.Words.{with_subcommand}
 use Rattle.clap.specs.Simple.{app_of_fields, on_top}
-use Rattle.bootimg.specs.Program.{building_commands, changing_commands, program_app, reading_commands}
+use Rattle.bootimg.specs.Program.{building_commands, changing_commands, checking_commands, program_app, reading_commands}
 use Rattle.bootimg.specs.Table.{with_subcommands}
 use Rattle.bootimg.proofs.command_line.table.program.Goals as goal
 
@@ -16,8 +16,9 @@ returns c =
     let empty = ap app_of_fields c.subcommand_required-program.ensures
     ∙ ap (on_top (λ s. record s { subcommand_required = true })) described in
     let reading = c.in_ok-program.ensures ∙ ap (λ app. with_subcommands app reading_commands) empty in
-    let changing = c.in_ok-program-2.ensures ∙ ap (λ app. with_subcommands app changing_commands) reading in
-    let building = c.in_ok-program-3.ensures ∙ ap (λ app. with_subcommands app building_commands) changing in
+    let checking = c.in_ok-program-2.ensures ∙ ap (λ app. with_subcommands app checking_commands) reading in
+    let changing = c.in_ok-program-3.ensures ∙ ap (λ app. with_subcommands app changing_commands) checking in
+    let building = c.in_ok-program-4.ensures ∙ ap (λ app. with_subcommands app building_commands) changing in
     IfOk-weaker c.subcommand.result _ _
     (λ program added. added.shape c.in_ok-command.ensures.local ∙ ap₂ with_subcommand building c.in_ok-command.ensures.shape)
     c.subcommand.ensures

@@ -1,0 +1,100 @@
+//! Trees that can be changed, by the names of their properties.
+
+ghost use Rattle.std.specs.Prelude.{◌≡◌, OnOk, option_map, is_some};
+ghost use Rattle.std.specs.Cow.{cow_slice_items};
+ghost use Rattle.bi_base.specs.Slices.{bytes_of};
+ghost use Rattle.bi_blob.specs.Tree.{tree_without_order};
+ghost use Rattle.bi_tree.specs.Changes.{node_by_path, without_node_at};
+ghost use Rattle.bi_tree.specs.TreeNodes.{below};
+ghost use Rattle.bi_tree.specs.Trees.{HasDistinctProperties, value_by_path, with_value_by_path};
+ghost use Rattle.bi_tree.specs.Trees.{without_value_by_path};
+
+use crate::node::TreeNode;
+use std::alloc::{AllocError, Global};
+use std::borrow::CowSlice;
+use std::marker::Model;
+
+/// A tree that can be changed. No node has two properties with the same name. Their order does not
+/// count.
+#[derive(Drop)]
+pub struct Tree<'a> {
+    /// The root.
+    pub root: TreeNode<'a>,
+}
+
+impl<'a> Model for Tree<'a> {
+    ghost use Rattle.bi_blob.specs.Tree.{Root, PropertyMap, tree_without_order};
+    ghost use Rattle.bi_tree.specs.NodeCodes.{root_code};
+    ghost use Rattle.bi_tree.specs.TreeNodes.{below};
+    ghost use Rattle.bi_tree.specs.Trees.{HasDistinctProperties};
+
+    ghost Value = { Root PropertyMap };
+
+    ghost coded = { root_code };
+
+    ghost view = { λ tree. tree_without_order (below tree.root) };
+
+    ghost invariant = { λ tree. HasDistinctProperties (below tree.root) };
+}
+
+impl<'a> Tree<'a> {
+    /// Returns the tree with this root. Requires: no node has two properties with the same name.
+    pub fn new(root: TreeNode<'a>) -> Tree<'a>
+        requires { HasDistinctProperties (below root) }
+        ensures { result ≡ tree_without_order (below root.entry) }
+    {
+        Tree { root }
+    }
+
+    /// Returns whether there is a node at a path.
+    pub fn has_node(&self, path: &[&[u8]]) -> bool
+        ensures { result ≡ is_some (node_by_path self.now (bytes_of path.now)) }
+    {
+        self.root.node(path).is_some()
+    }
+
+    /// Returns the value of a property of the node at a path. Returns None if there is none.
+    pub fn value(&self, path: &[&[u8]], name: &[u8]) -> Option<&[u8]>
+        ensures { option_map (λ value. value.now) result
+            ≡ value_by_path self.now (bytes_of path.now) name.now }
+    {
+        match self.root.node(path) {
+            Some(node) => node.value(name),
+            None => None,
+        }
+    }
+
+    /// Removes the node at a path, with all nodes below it. Without such a node, and for the path
+    /// of the root, nothing changes.
+    pub fn remove_node(&mut self, path: &[&[u8]])
+        ensures { self.new ≡ without_node_at (bytes_of path.now) self.old }
+    {
+        self.root.remove_node(path);
+    }
+
+    /// Removes a property of the node at a path. Without such a node or property nothing changes.
+    pub fn remove_property(&mut self, path: &[&[u8]], name: &[u8])
+        ensures { self.new ≡ without_value_by_path (bytes_of path.now) name.now self.old }
+    {
+        self.root.remove_property(path, name);
+    }
+
+    /// Sets the value of a property of the node at a path, or adds the property. Nodes of the path
+    /// that are not there are added, each as the last child of its parent.
+    ///
+    /// Fails if memory runs out. Some of those nodes may then have been added, and nothing else is
+    /// changed.
+    pub fn set_property(
+        &mut self,
+        alloc: Global,
+        path: &[&'a [u8]],
+        name: &'a [u8],
+        value: CowSlice<'a, u8, Global>,
+    ) -> Result<(), AllocError>
+        ensures { OnOk result (self.new ≡ with_value_by_path (bytes_of path.entry.now)
+            name.entry.now (cow_slice_items value.entry) self.old) }
+    {
+        self.root.set_property(alloc, path, name, value)?;
+        Ok(())
+    }
+}
