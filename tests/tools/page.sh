@@ -23,17 +23,15 @@ has() {
     command -v "$2" > /dev/null || { echo "left out: $3, since $2 is missing (Debian: $1)"; return 1; }
 }
 
-# chromium_on PAGE FLAG..: opens the page in Chromium, and there its example.
-chromium_on() {
-    opened=$1
-    shift
-    timeout 60 chromium --headless --no-sandbox --disable-gpu --disable-dev-shm-usage --user-data-dir="$work/profile" \
-        --virtual-time-budget=20000 --enable-logging=stderr "$@" "file://$work/$opened#example" 2> errors
+# dumps NAME CONDITION: opens the page NAME.html in Chromium, and there its example, and makes NAME.dom of what it shows as soon as the
+# condition holds, an expression of JavaScript. The browser reports no error.
+dumps() {
+    timeout 120 python3 "$root/tests/tools/page/chromium.py" "$work/profile" "$1.html" "$2" > "$1.dom" 2> errors || { cat errors; false; }
 }
 
-# opens NAME IMAGE: makes the page NAME.html with this example, and NAME.dom of what Chromium shows. The browser reports no error.
+# opens NAME IMAGE: makes the page NAME.html with this example, and NAME.dom of what Chromium shows.
 opens() {
-    python3 "$assemble" page module.wasm "$2" "$1.html" && chromium_on "$1.html" --dump-dom > "$1.dom" && ! grep CONSOLE errors
+    python3 "$assemble" page module.wasm "$2" "$1.html" && dumps "$1" "byId('refusal') || byId('describe')"
 }
 
 # shows NAME ID COMMAND..: the text of this element of the page NAME is what the command prints, or `(nothing)`.
@@ -57,7 +55,7 @@ refusal() {
 opens_two() {
     python3 "$assemble" page module.wasm "$2" one.html &&
         python3 "$root/tests/tools/page/add_script.py" one.html "$root/tests/tools/page/two_files.js" "$3" "$1.html" &&
-        chromium_on "$1.html" --dump-dom > "$1.dom" && ! grep CONSOLE errors
+        dumps "$1" "document.body.dataset.followed"
 }
 
 # has_text NAME ID TEXT: the text of this element of the page NAME has this text.
@@ -151,7 +149,8 @@ check "no page is made of a module with imports" refuses_imports
 check "no page is made of an example that is not there" fails "page: none is not a file" page.html none
 case ${1-} in
 --screenshot)
-    chromium_on page.html --screenshot=picture.png --window-size=1040,1690 --hide-scrollbars
+    timeout 60 chromium --headless --no-sandbox --disable-gpu --disable-dev-shm-usage --user-data-dir="$work/profile" \
+        --virtual-time-budget=20000 --screenshot=picture.png --window-size=1040,1690 --hide-scrollbars "file://$work/page.html#example"
     cd - > /dev/null && mv "$work/picture.png" "$2"
     exit
     ;;

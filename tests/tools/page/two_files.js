@@ -1,7 +1,7 @@
 'use strict';
 
 // Chooses the file that the page has for it, as soon as the page shows its example, to be compared with that. Then follows the first link
-// of the report of `check`, and says which line it leads to.
+// of the report of `check`, says which line it leads to, and marks the page as done.
 
 function choose() {
   const chosen = byId('chosen');
@@ -13,7 +13,10 @@ function choose() {
 
 function follow() {
   byId('check').querySelector('a').click();
-  setTimeout(() => say(document.querySelector('details[open] :target').textContent), 100);
+  setTimeout(() => {
+    say(document.querySelector('details[open] :target').textContent);
+    document.body.dataset.followed = 'true';
+  }, 100);
 }
 
 const steps = setInterval(() => {
