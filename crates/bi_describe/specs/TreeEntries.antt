@@ -1,15 +1,15 @@
 use Rattle.std.specs.Prelude.{ℕ, ◌+◌, ◌-◌, List, [], ◌∷◌, ◌++◌, Option, length, map, max, take}
 use Rattle.std.specs.Prelude.{option_map}
 use Rattle.std.specs.FinMap.{entries}
-use Rattle.bi_blob.specs.Tree.{Nodes, none, node, Property, PropertyMap}
+use Rattle.bi_blob.specs.Tree.{Nodes, none, node, Property, PropertyMap, Root, with_each}
 use Rattle.bi_fit.specs.ImageTree.{ImageTree}
-use Rattle.bi_common.specs.Lines.{Line}
+use Rattle.bi_common.specs.Lines.{Field, Line, Path}
 use Rattle.bi_describe.specs.declared.describe.entries.Entry.{Entry}
 use Rattle.bi_describe.specs.declared.describe.entries.Entry.TheVariants as entry
 use Rattle.bi_describe.specs.declared.describe.entries.PayloadDigest as made
 use Rattle.bi_describe.specs.Descriptions.{PayloadDigest, NodePayload, NotAnImage, OfImage}
-use Rattle.bi_describe.specs.Descriptions.{DescribedNode, described_nodes, node_line}
-use Rattle.bi_describe.specs.Descriptions.{payload_lines, property_line}
+use Rattle.bi_describe.specs.Descriptions.{DescribedNode, described_nodes, node_line_at}
+use Rattle.bi_describe.specs.Descriptions.{payload_lines_at, plain_node, property_line_at}
 
 -- A tree as a flat list: what begins and ends, and what each line after that of the root has
 -- besides the names of its node.
@@ -52,18 +52,27 @@ tree_entries tree =
     property_entries tree.root.own
     ++ node_entries (described_nodes tree.root.children tree.payloads)
 
+-- The entries of a tree without images.
+abbrev pub plain_tree_entries : Root PropertyMap → List EntryModel
+plain_tree_entries root =
+    property_entries root.own ++ node_entries (with_each plain_node root.children)
+
 -- The names of the open nodes after an entry, if these are open before it. The root is left out.
 abbrev pub open_after : (names : List (List ℕ)) → EntryModel → List (List ℕ)
 open_after names (NodeBegins name) = names ++ name ∷ []
 open_after names NodeEnds = take (length names - 1) names
 open_after names entry = names
 
+-- The lines of an entry, if the innermost node that is open after it has this path.
+abbrev pub lines_of_entry_at : (path : Field) → EntryModel → List Line
+lines_of_entry_at path (NodeBegins name) = node_line_at path ∷ []
+lines_of_entry_at path (PayloadEntry payload) = payload_lines_at path (OfImage payload)
+lines_of_entry_at path (PropertyEntry property) = property_line_at path property ∷ []
+lines_of_entry_at path entry = []
+
 -- The lines of an entry, if these nodes are open after it.
 abbrev pub lines_of_entry : (names : List (List ℕ)) → EntryModel → List Line
-lines_of_entry names (NodeBegins name) = node_line names ∷ []
-lines_of_entry names (PayloadEntry payload) = payload_lines names (OfImage payload)
-lines_of_entry names (PropertyEntry property) = property_line names property ∷ []
-lines_of_entry names entry = []
+lines_of_entry names entry = lines_of_entry_at (Path names) entry
 
 -- The lines of entries, if these nodes are open before them.
 abbrev pub entry_lines : (names : List (List ℕ)) → List EntryModel → List Line

@@ -1,6 +1,7 @@
 //! Comparing what two boot images mean: whether it is the same, and what differs.
 
 mod differences;
+mod ignoring;
 mod json;
 mod kept_lines;
 mod line_keeper;
@@ -23,10 +24,13 @@ ghost use Rattle.bi_describe.specs.Descriptions.{description_lines};
 ghost use Rattle.bi_describe.specs.KeptLines.{KeepsLines};
 ghost use Rattle.bi_describe.specs.MadeLines.{made_lines};
 
-use crate::describe::{describe_image, description_is_ascii};
+use crate::describe::deep::{DeepHead, DeepImage};
+use crate::describe::{describe_image, describe_image_deep, description_is_ascii};
+use crate::ignored::Ignored;
 use bi_base::{Error, Fault, Limits};
 use bi_common::format::Format;
 use bi_norm::BootImage;
+use ignoring::{are_same, leave_out, open_payloads};
 use json::comparison_json;
 use kept_lines::KeptLines;
 use reasons::{differences_or_reason, kinds_differ};
@@ -328,5 +332,117 @@ fn print(
     match format {
         Format::Lines => text_of_lines(alloc, lines),
         Format::Json => comparison_json(alloc, same, lines),
+    }
+}
+
+/// How two boot images are compared.
+#[derive(Clone, Copy)]
+pub struct CompareOptions<'a> {
+    /// What is left out of both.
+    pub ignored: &'a [Ignored],
+    /// Whether the devicetrees that are payloads are compared by their trees, too.
+    pub deep: bool,
+    /// Whether only `same` is wanted, so that the differences are empty.
+    pub quiet: bool,
+    /// The form of the differences.
+    pub format: Format,
+}
+
+/// Compares two boot images with options.
+///
+/// Errors, the first that applies: One with the fault of the first file; Other with that of the
+/// second one; then One and Other with TooLarge at the limit, if a meaning is too long to describe:
+/// always if something is ignored, or else only if the meanings differ and the differences are
+/// wanted. OutOfMemory may come instead of any of these.
+pub fn compare_with(
+    alloc: Global,
+    one: &[u8],
+    other: &[u8],
+    limits: Limits,
+    options: CompareOptions,
+) -> Result<Comparison, CompareError> {
+    let image = read_one(alloc, one, limits)?;
+    let other_image = read_other(alloc, other, limits)?;
+    if options.ignored.is_empty() {
+        let same = mean_the_same(alloc, &image, &other_image)?;
+        if same || options.quiet {
+            return conclude(alloc, same, options);
+        }
+    }
+    let mut one = keep_described(alloc, &image, limits, options.deep, CompareError::One)?;
+    let mut other = keep_described(alloc, &other_image, limits, options.deep, CompareError::Other)?;
+    if let Some((kind, other_kind)) = different_kinds(&one, &other) {
+        if options.quiet {
+            return conclude(alloc, false, options);
+        }
+        let lines = kinds_differ(alloc, kind, other_kind)?;
+        return Ok(Comparison {
+            same: false,
+            differences: print(alloc, options.format, false, &lines)?,
+        });
+    }
+    if !options.ignored.is_empty() {
+        open_payloads(&mut one, &mut other, options.ignored);
+        one = leave_out(alloc, one, options.ignored)?;
+        other = leave_out(alloc, other, options.ignored)?;
+        let same = are_same(&one, &other);
+        if same || options.quiet {
+            return conclude(alloc, same, options);
+        }
+        find_paths(alloc, &mut one, limits)?;
+        find_paths(alloc, &mut other, limits)?;
+    }
+    let kept = KeptLines::of_deep(alloc, &mut one)?;
+    let other_kept = KeptLines::of_deep(alloc, &mut other)?;
+    let lines = differences_or_reason(alloc, &kept, &other_kept)?;
+    Ok(Comparison {
+        same: false,
+        differences: print(alloc, options.format, false, &lines)?,
+    })
+}
+
+/// Returns a comparison without lines.
+fn conclude(
+    alloc: Global,
+    same: bool,
+    options: CompareOptions,
+) -> Result<Comparison, CompareError> {
+    let differences = if options.quiet {
+        String::new(alloc)
+    } else {
+        print(alloc, options.format, same, &[])?
+    };
+    Ok(Comparison { same, differences })
+}
+
+/// Computes the paths of the nodes inside the payloads of an image again.
+fn find_paths(alloc: Global, image: &mut DeepImage, limits: Limits) -> Result<(), CompareError> {
+    match image.find_paths(alloc, limits) {
+        Ok(()) => Ok(()),
+        Err(_) => Err(CompareError::OutOfMemory),
+    }
+}
+
+/// Returns what the description of an image is made from, if it is within the limits.
+fn keep_described<'a, 'b>(
+    alloc: Global,
+    image: &'b BootImage<'a>,
+    limits: Limits,
+    deep: bool,
+    refusal: fn(Fault) -> CompareError,
+) -> Result<DeepImage<'a, 'b>, CompareError> {
+    match describe_image_deep(alloc, image, limits, Format::Lines, deep) {
+        Ok(described) => Ok(described),
+        Err(Error::Refused(fault)) => Err(refusal(fault)),
+        Err(_) => Err(CompareError::OutOfMemory),
+    }
+}
+
+/// Returns the words for the kinds of two images, if they differ.
+fn different_kinds(one: &DeepImage, other: &DeepImage) -> Option<(&'static str, &'static str)> {
+    match (&one.head, &other.head) {
+        (DeepHead::Legacy(_), DeepHead::Fit(_)) => Some(("kind legacy", "kind fit")),
+        (DeepHead::Fit(_), DeepHead::Legacy(_)) => Some(("kind fit", "kind legacy")),
+        _ => None,
     }
 }

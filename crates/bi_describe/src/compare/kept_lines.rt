@@ -11,6 +11,7 @@ ghost use Rattle.bi_describe.specs.MadeLines.{compared_line, compared_lines};
 use super::line_keeper::{LineKeeper, Mark};
 use super::signed_lines::ComparedLine;
 use crate::describe::DescribedImage;
+use crate::describe::deep::DeepImage;
 use std::alloc::{AllocError, Global};
 
 /// The lines of a description.
@@ -37,6 +38,22 @@ impl KeptLines {
         requires { IsAscii (text_of_lines (described_lines described.old)) }
         ensures { IfOk result (KeepsLines (described_lines described.old)) }
     {
+        let mut keeper = LineKeeper::new(alloc);
+        described.put_lines(&mut keeper);
+        let (text, marks) = keeper.into_parts()?;
+        match String::from_utf8(text) {
+            Ok(text) => Ok(KeptLines { text, marks }),
+            Err(_) => unreachable!(),
+        }
+    }
+
+    /// Returns the lines of a deep description.
+    ///
+    /// Fails only if memory runs out.
+    pub(super) fn of_deep(
+        alloc: Global,
+        described: &mut DeepImage,
+    ) -> Result<KeptLines, AllocError> {
         let mut keeper = LineKeeper::new(alloc);
         described.put_lines(&mut keeper);
         let (text, marks) = keeper.into_parts()?;

@@ -61,7 +61,7 @@ impl<'a, 'b> DescribedFit<'a, 'b> {
     {
         let bounded = BoundedFit::new(fit, limits)?;
         let order = fit.name_order(alloc, limits.file())?;
-        let entries = entries_of(alloc, bounded, &order)?;
+        let entries = entries_of(alloc, bounded, &order.properties)?;
         let names = vec![in alloc; b"".as_slice(); most_open(&entries)]?;
         Ok(DescribedFit {
             blob: fit.blob(),
@@ -92,7 +92,7 @@ impl<'a, 'b> DescribedFit<'a, 'b> {
 }
 
 /// Puts the line of the kind, and that of the boot processor.
-fn put_head<L: LinePen>(boot_cpu: u32, pen: &mut L)
+pub(super) fn put_head<L: LinePen>(boot_cpu: u32, pen: &mut L)
     ensures { L.puts pen.old (tokens_of_lines (head_lines boot_cpu)) pen.new }
 {
     put_lines(

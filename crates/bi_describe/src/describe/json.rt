@@ -35,7 +35,7 @@ pub(super) fn put_fit<J: JsonPen>(blob: &Blob, entries: &[Entry], json: &mut J)
 }
 
 /// Puts the members of the kind and of the boot processor.
-fn put_processor_members<J: JsonPen>(blob: &Blob, json: &mut J)
+pub(super) fn put_processor_members<J: JsonPen>(blob: &Blob, json: &mut J)
     ensures { J.puts json.old (member_tokens (processor_members blob.now.cpu)) json.new }
 {
     let members = [
@@ -46,7 +46,7 @@ fn put_processor_members<J: JsonPen>(blob: &Blob, json: &mut J)
 }
 
 /// Puts the member of the memory reservations.
-fn put_reservations_member<J: JsonPen>(blob: &Blob, json: &mut J)
+pub(super) fn put_reservations_member<J: JsonPen>(blob: &Blob, json: &mut J)
     ensures { J.puts json.old (member_tokens (reservations_member blob.now.reservations ∷ []))
         json.new }
 {
@@ -57,7 +57,7 @@ fn put_reservations_member<J: JsonPen>(blob: &Blob, json: &mut J)
 }
 
 /// Puts the member of the root of a tree with these entries.
-fn put_root<J: JsonPen>(entries: &[Entry], json: &mut J)
+pub(super) fn put_root<J: JsonPen>(entries: &[Entry], json: &mut J)
     ensures { J.puts json.old (root_tokens (map as_entry entries.now)) json.new }
 {
     json.put(JsonToken::Name("root"));
@@ -76,7 +76,7 @@ fn put_entries<J: JsonPen>(entries: &[Entry], json: &mut J)
 }
 
 /// Puts the tokens of an entry.
-fn put_entry<J: JsonPen>(entry: Entry, json: &mut J)
+pub(super) fn put_entry<J: JsonPen>(entry: Entry, json: &mut J)
     ensures { J.puts json.old (entry_tokens (as_entry entry.entry)) json.new }
 {
     match entry {
@@ -90,7 +90,7 @@ fn put_entry<J: JsonPen>(entry: Entry, json: &mut J)
 }
 
 /// Puts what begins a node of this name.
-fn put_begin<J: JsonPen>(name: &[u8], json: &mut J)
+pub(super) fn put_begin<J: JsonPen>(name: &[u8], json: &mut J)
     ensures { J.puts json.old (entry_tokens (NodeBegins name.now)) json.new }
 {
     json.put(JsonToken::BeginObject);
@@ -98,7 +98,7 @@ fn put_begin<J: JsonPen>(name: &[u8], json: &mut J)
 }
 
 /// Puts the member of the payload of an image node, if it has one.
-fn put_payload<J: JsonPen>(digest: Option<PayloadDigest>, json: &mut J)
+pub(super) fn put_payload<J: JsonPen>(digest: Option<PayloadDigest>, json: &mut J)
     ensures { J.puts json.old (entry_tokens (PayloadEntry (option_map digest_made digest)))
         json.new }
 {
@@ -107,7 +107,7 @@ fn put_payload<J: JsonPen>(digest: Option<PayloadDigest>, json: &mut J)
 }
 
 /// Puts the size and the SHA-256 of a payload, or `null` if there is none.
-fn put_payload_value<J: JsonPen>(digest: Option<PayloadDigest>, json: &mut J)
+pub(super) fn put_payload_value<J: JsonPen>(digest: Option<PayloadDigest>, json: &mut J)
     ensures { J.puts json.old (json_tokens (payload_or_null (option_map digest_made digest)))
         json.new }
 {
@@ -146,7 +146,7 @@ fn put_children_begin<J: JsonPen>(json: &mut J)
 }
 
 /// Puts what ends the children of a node, and the node.
-fn put_end<J: JsonPen>(json: &mut J)
+pub(super) fn put_end<J: JsonPen>(json: &mut J)
     ensures { J.puts json.old (entry_tokens NodeEnds) json.new }
 {
     json.put(JsonToken::EndArray);
@@ -186,4 +186,12 @@ fn put_strings<J: JsonPen>(value: &[u8], json: &mut J)
         put_value(JsonValue::String(Field::Text(text)), json);
         rest = later;
     }
+}
+
+/// Puts the member of the boot processor of a devicetree.
+pub(super) fn put_processor<J: JsonPen>(blob: &Blob, json: &mut J) {
+    put_member(
+        ("boot_cpu", JsonValue::Number(u64::from(blob.boot_cpu()))),
+        json,
+    );
 }
