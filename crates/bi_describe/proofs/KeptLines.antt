@@ -1,7 +1,7 @@
 use Rattle.std.proofs.Common.{◌≡◌, ℕ, zero, suc, ◌+◌, ◌-◌, ◌<◌, ◌≤◌, Bool, true, false, get_or, List, [], ◌∷◌, ◌++◌, append-nil}
 use Rattle.std.proofs.Common.{append_assoc, arith, length}
 use Rattle.std.proofs.Common.{length-append, map, take, drop, flat_map, refl, sym, ap, ◌∙◌, Some, None, Option, ◌⊎◌, inl, inr}
-use Rattle.std.proofs.Common.{codes, if◌then◌else◌, ◌==◌}
+use Rattle.std.proofs.Common.{codes}
 use Rattle.std.specs.Option.{option_map}
 use Rattle.std.proofs.lemmas.Bool.{and_parts, le-leb, leb-true, lt-ltb, ltb-true, ne_eqb}
 use Rattle.std.proofs.lemmas.Grind.{flat_map-append}
@@ -16,8 +16,7 @@ use Rattle.bi_common.specs.Tokens.{fact_after, tokens_text}
 use Rattle.bi_common.proofs.WrittenLines.{text_of_tokens}
 use Rattle.bi_describe.specs.declared.compare.line_keeper.Mark.{Mark}
 use Rattle.bi_describe.specs.declared.compare.line_keeper.OpenLine.{OpenLine}
-use Rattle.bi_describe.specs.Differences.{ComparedLine, key_of_line, key_words, line_bytes, line_to_compare, missing_words}
-use Rattle.bi_describe.specs.Differences.{words_of_key}
+use Rattle.bi_describe.specs.Differences.{ComparedLine, key_of_line, line_bytes, line_to_compare, words_of_key}
 use Rattle.bi_describe.specs.LineMarks.{marks_fit, cut_line, cut_lines, mark_of}
 use Rattle.bi_describe.specs.LineKeeping.{Keeping, Keeps, KeeperPuts, line_after_word, end_mark, keep_token, keep_tokens}
 use Rattle.bi_describe.specs.LineKeeping.{keep_tokens-append}
@@ -49,33 +48,19 @@ words_text words =
     ∙ ap (tokens_text line_writing false) (sym (append-nil (line_tokens words)))
     ∙ text_of_tokens (words ∷ []) ∙ append-nil (line_text words))
 
--- The words of a line after its key, of which so many words are to come.
-other_words : (missing : ℕ) → Line → Line
-other_words missing [] = []
-other_words missing (word ∷ later) =
-    if missing == 0 then word ∷ later else other_words (missing_words missing word) later
-
--- They follow the key.
-key_and_others : (missing : ℕ) (words : Line) → key_words missing words ++ other_words missing words ≡ words
-key_and_others missing [] = refl
-key_and_others zero (word ∷ later) = refl
-key_and_others (suc missing) (word ∷ later) =
-    rw (ne_eqb (suc missing) 0 (omega arith)) (ap (λ words. word ∷ words) (key_and_others (missing_words (suc missing) word) later))
-
 -- The text of a line begins with that of its key.
 key_before : (words : Line) → (rest : List ℕ) × (line_bytes words ≡ line_bytes (key_of_line words) ++ rest)
 key_before [] = ([], refl)
 key_before (first ∷ later) =
     let words : Line = first ∷ later in
-    let key : Line = key_words (words_of_key first) words in
-    let others : Line = other_words (words_of_key first) words in (
+    let count = words_of_key first in (
       _,
       sym (words_text words)
-          ∙ ap (text_from false) (sym (key_and_others (words_of_key first) words))
-          ∙ ap (tokens_text line_writing false) (flat_map-append one_field key others)
-          ∙ text_in_turn false key (flat_map one_field others)
-          ∙ ap (λ text. text ++ tokens_text line_writing (fact_after line_writing false (flat_map one_field key))
-          (flat_map one_field others)) (words_text key),
+          ∙ ap (text_from false) (sym (take-append-drop count words))
+          ∙ ap (tokens_text line_writing false) (flat_map-append one_field (take count words) (drop count words))
+          ∙ text_in_turn false (take count words) (flat_map one_field (drop count words))
+          ∙ ap (λ text. text ++ tokens_text line_writing (fact_after line_writing false (flat_map one_field (take count words)))
+          (flat_map one_field (drop count words))) (words_text (take count words)),
     )
 
 -- ---- what is kept
@@ -111,18 +96,18 @@ key_ended [] text marks start key_end is_later = refl
 key_ended (word ∷ words) text marks start key_end is_later =
     key_ended words (text ++ line_token_text is_later (NextField word)) marks start key_end (has_word is_later (NextField word))
 
--- The key ends after the words that are missing.
+-- The key ends after as many words as are missing.
 key_ends : (missing : ℕ) (words : Line) (text : List ℕ) (marks : List Mark) (start counted : ℕ) (is_later : Bool) → counted ≡ missing →
     (keep_tokens (keeping text marks start (length text) counted is_later) (flat_map one_field words)).line.key_end
-    ≡ length (text ++ text_from is_later (key_words missing words))
+    ≡ length (text ++ text_from is_later (take missing words))
 unfolding one_field
-key_ends missing [] text marks start counted is_later is = ap length (sym (append-nil text))
-key_ends zero (word ∷ words) text marks start counted is_later is =
-    rw is (key_ended (word ∷ words) text marks start (length text) is_later ∙ ap length (sym (append-nil text)))
+key_ends zero words text marks start counted is_later is =
+    rw is (key_ended words text marks start (length text) is_later ∙ ap length (sym (append-nil text)))
+key_ends (suc missing) [] text marks start counted is_later is = ap length (sym (append-nil text))
 key_ends (suc missing) (word ∷ words) text marks start counted is_later is =
     let own = line_token_text is_later (NextField word) in
-    rw (is, ne_eqb (suc missing) 0 (omega arith)) (key_ends (missing_words (suc missing) word) words (text ++ own) marks start
-    (missing_words (suc missing) word) (has_word is_later (NextField word)) refl
+    rw (is, ne_eqb (suc missing) 0 (omega arith)) (key_ends missing words (text ++ own) marks start (suc missing - 1)
+    (has_word is_later (NextField word)) (omega arith)
     ∙ ap length (append_assoc text own _))
 
 -- The key of a line.
@@ -133,7 +118,7 @@ key_kept [] text marks = ap length (sym (append-nil text))
 key_kept (first ∷ later) text marks =
     let count = words_of_key first in
     key_ends count (first ∷ later) text marks (length text) count false refl
-    ∙ ap (λ key. length (text ++ key)) (words_text (key_words count (first ∷ later)))
+    ∙ ap (λ key. length (text ++ key)) (words_text (take count (first ∷ later)))
 
 -- The end of a line.
 line_ended : (words : Line) (text : List ℕ) (kept : Keeping) → kept.text ≡ text ++ line_bytes words → kept.line.start ≡ length text →

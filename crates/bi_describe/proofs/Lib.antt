@@ -8,7 +8,6 @@ pub mod PrintedDescriptions
 pub mod JsonReading
 pub mod JsonDescriptions
 pub mod DescriptionFacts
-pub mod ReductionFacts
 pub mod DifferenceFacts
 pub mod DescribedFileFacts
 pub mod RefusalFacts
@@ -23,7 +22,3 @@ pub mod NextNodes
 pub mod EntriesOfNodes
 pub mod DescribedFiles
 pub mod JsonComparisons
-pub mod InsidePaths
-pub mod DeepDescriptions
-pub mod FurtherWords
-pub mod InsideBlobs

@@ -40,7 +40,7 @@ own_before names own later = by own.payload
         ap (λ (lines : List Line). payload_lines names (OfImage payload) ++ lines) (properties_before names (entries own.properties) later)
 
 -- After the end of a node, the nodes above it are open.
-pub closed : (above : List (List ℕ)) (name : List ℕ) → take (length (above ++ name ∷ []) - 1) (above ++ name ∷ []) ≡ above
+closed : (above : List (List ℕ)) (name : List ℕ) → take (length (above ++ name ∷ []) - 1) (above ++ name ∷ []) ≡ above
 closed above name =
     let counted : length (above ++ name ∷ []) - 1 ≡ length above = omega (arith, length-append above (name ∷ [])) in
     ap (λ n. take n (above ++ name ∷ [])) counted

@@ -1,7 +1,7 @@
 use Rattle.std.specs.Prelude.{ℕ, List, [], ◌∷◌, ◌++◌, Option, None, Some, map, codes}
 use Rattle.std.specs.Prelude.{if◌then◌else◌}
 use Rattle.std.specs.FinMap.{entries}
-use Rattle.bi_blob.specs.Tree.{Nodes, none, node, Property, PropertyMap}
+use Rattle.bi_blob.specs.Tree.{Nodes, none, node, Property}
 use Rattle.bi_fit.specs.ImageTree.{ImageTree}
 use Rattle.bi_fit.specs.Judgement.{listed_names}
 use Rattle.bi_legacy.specs.Meaning.{LegacyImage}
@@ -57,29 +57,20 @@ abbrev pub payload_members : NodePayload → List Member
 payload_members NotAnImage = []
 payload_members (OfImage payload) = (codes "payload", payload_or_null payload) ∷ []
 
--- The members of a node after its name, if it has children with these values. `first` are those for
--- its payload. Its properties are in byte order of their names.
-abbrev pub members_with : (first : List Member) → PropertyMap → (children : List Json)
-    → List Member
-members_with first properties children =
-    first
-    ++ (codes "properties", json_array (map property_object (entries properties)))
+-- The members of a node after its name, if it has children with these values. Its properties are in
+-- byte order of their names.
+abbrev pub node_members : DescribedNode → (children : List Json) → List Member
+node_members own children =
+    payload_members own.payload
+    ++ (codes "properties", json_array (map property_object (entries own.properties)))
     ∷ (codes "children", json_array children) ∷ []
 
-abbrev pub node_members : DescribedNode → (children : List Json) → List Member
-node_members own children = members_with (payload_members own.payload) own.properties children
-
--- These nodes, each with those below it, if `members_of` are the members of a node after its name.
-abbrev pub objects_with : {Own : Type 0} → (members_of : Own → (children : List Json) → List Member)
-    → Nodes Own → List Json
-objects_with members_of none = []
-objects_with members_of (node name own children later) =
-    json_object
-    (name_member (codes "name") name ∷ members_of own (objects_with members_of children))
-    ∷ objects_with members_of later
-
+-- These nodes, each with those below it.
 abbrev pub node_objects : Nodes DescribedNode → List Json
-node_objects nodes = objects_with node_members nodes
+node_objects none = []
+node_objects (node name own children later) =
+    json_object (name_member (codes "name") name ∷ node_members own (node_objects children))
+    ∷ node_objects later
 
 -- A flattened image tree.
 abbrev pub fit_object : ImageTree → Json

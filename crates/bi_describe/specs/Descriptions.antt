@@ -10,8 +10,8 @@ use Rattle.bi_hash.specs.Digests.{digest_of}
 use Rattle.bi_legacy.specs.Meaning.{LegacyImage}
 use Rattle.bi_norm.specs.Meaning.{Meaning, OfLegacy, OfFit}
 use Rattle.bi_common.specs.CommonLines.{header_lines, reservation_line}
-use Rattle.bi_common.specs.Lines.{Field, Line, Text, Name, Decimal, Digits, Path, Value}
-use Rattle.bi_common.specs.Lines.{field_texts, text_of_lines}
+use Rattle.bi_common.specs.Lines.{Line, Text, Name, Decimal, Digits, Path, Value, field_texts}
+use Rattle.bi_common.specs.Lines.{text_of_lines}
 
 -- The description of what a boot image means: lines that depend on the meaning alone, and not on
 -- the layout, the form, padding, versions or the order of properties (profile of this project).
@@ -79,21 +79,14 @@ described_nodes (node name own children later) payloads =
     node name (plain_node own) (described_children name children payloads)
     (described_nodes later payloads)
 
--- The line of a node with this path.
-abbrev pub node_line_at : (path : Field) → Line
-node_line_at path = Text (codes "node") ∷ path ∷ []
-
 -- The line of a node. A node is named by the names of the nodes on the way to it.
 abbrev pub node_line : (names : List (List ℕ)) → Line
-node_line names = node_line_at (Path names)
+node_line names = Text (codes "node") ∷ Path names ∷ []
 
--- The line of a property of a node with this path.
-abbrev pub property_line_at : (path : Field) → Property → Line
-property_line_at path property =
-    Text (codes "property") ∷ path ∷ Name property.0 ∷ Value property.1 ∷ []
-
+-- The line of a property.
 abbrev pub property_line : (names : List (List ℕ)) → Property → Line
-property_line names property = property_line_at (Path names) property
+property_line names property =
+    Text (codes "property") ∷ Path names ∷ Name property.0 ∷ Value property.1 ∷ []
 
 -- The words for the payload of an image node, if it has one.
 abbrev pub payload_words : Option PayloadDigest → Line
@@ -101,35 +94,25 @@ payload_words None = Text (codes "none") ∷ []
 payload_words (Some digest) = digest_words digest
 
 -- The line of the payload of an image node. Any other node has none.
-abbrev pub payload_lines_at : (path : Field) → NodePayload → List Line
-payload_lines_at path NotAnImage = []
-payload_lines_at path (OfImage payload) =
-    (Text (codes "payload") ∷ path ∷ payload_words payload) ∷ []
-
 abbrev pub payload_lines : (names : List (List ℕ)) → NodePayload → List Line
-payload_lines names payload = payload_lines_at (Path names) payload
+payload_lines names NotAnImage = []
+payload_lines names (OfImage payload) =
+    (Text (codes "payload") ∷ Path names ∷ payload_words payload) ∷ []
 
 -- The lines of a node without those of its children: its properties are in byte order of their
 -- names.
-abbrev pub own_lines_at : (path : Field) → DescribedNode → List Line
-own_lines_at path own =
-    node_line_at path
-    ∷ (payload_lines_at path own.payload ++ map (property_line_at path) (entries own.properties))
-
 abbrev pub own_lines : (names : List (List ℕ)) → DescribedNode → List Line
-own_lines names own = own_lines_at (Path names) own
+own_lines names own =
+    node_line names
+    ∷ (payload_lines names own.payload ++ map (property_line names) (entries own.properties))
 
--- The lines of nodes, each before those of its children, if `lines_of` are those of a node without
--- its children. `above` are the names on the way from the root to the parent of the nodes.
-abbrev pub lines_with : {Own : Type 0} → (lines_of : (names : List (List ℕ)) → Own → List Line)
-    → (above : List (List ℕ)) → Nodes Own → List Line
-lines_with lines_of above none = []
-lines_with lines_of above (node name own children later) =
-    lines_of (above ++ name ∷ []) own
-    ++ (lines_with lines_of (above ++ name ∷ []) children ++ lines_with lines_of above later)
-
+-- The lines of nodes, each before those of its children. `above` are the names on the way from the
+-- root to the parent of the nodes.
 abbrev pub node_lines : (above : List (List ℕ)) → Nodes DescribedNode → List Line
-node_lines above nodes = lines_with own_lines above nodes
+node_lines above none = []
+node_lines above (node name own children later) =
+    own_lines (above ++ name ∷ []) own
+    ++ (node_lines (above ++ name ∷ []) children ++ node_lines above later)
 
 -- The lines of the nodes of a flattened image tree, the root first.
 abbrev pub tree_lines : ImageTree → List Line

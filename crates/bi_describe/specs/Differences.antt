@@ -1,4 +1,4 @@
-use Rattle.std.specs.Prelude.{ℕ, ◌==◌, ◌-◌, ◌&&◌, ◌||◌, Bool, false, List, [], ◌∷◌, ◌++◌, codes}
+use Rattle.std.specs.Prelude.{ℕ, ◌&&◌, ◌||◌, Bool, false, List, [], ◌∷◌, ◌++◌, codes, take}
 use Rattle.std.specs.Prelude.{Option, Some, None, flat_map, bytes_eq, if◌then◌else◌}
 use Rattle.std.specs.List.{join_with_byte, list_any}
 use Rattle.bi_common.specs.Lines.{Field, Line, Text, field_texts}
@@ -11,11 +11,10 @@ use Rattle.bi_describe.specs.declared.compare.signed_lines.Sign.TheVariants as s
 abbrev pub line_bytes : Line → List ℕ
 line_bytes words = join_with_byte 32 (flat_map field_texts words)
 
--- How many words the key of a line has, by its first word. If the last of them is `reservation`,
--- its two numbers follow.
+-- How many words the key of a line has, by its first word.
 abbrev pub words_of_key_named : (first : List ℕ) → ℕ
 words_of_key_named word =
-    if bytes_eq word (codes "property") || bytes_eq word (codes "inside") then 3 else
+    if bytes_eq word (codes "property") || bytes_eq word (codes "reservation") then 3 else
     if bytes_eq word (codes "node") || (bytes_eq word (codes "payload")
     || bytes_eq word (codes "part")) then 2 else 1
 
@@ -23,27 +22,12 @@ abbrev pub words_of_key : (first : Field) → ℕ
 words_of_key (Text word) = words_of_key_named word
 words_of_key word = 1
 
--- The word is the text `reservation`.
-abbrev pub is_reservation : Field → Bool
-is_reservation (Text word) = bytes_eq word (codes "reservation")
-is_reservation word = false
-
--- How many words of the key are to come after a word, if so many were to come before it.
-abbrev pub missing_words : (missing : ℕ) → Field → ℕ
-missing_words missing word = if missing == 1 && is_reservation word then 2 else missing - 1
-
--- The first of these words, of which so many belong to the key.
-abbrev pub key_words : (missing : ℕ) → Line → Line
-key_words missing [] = []
-key_words missing (word ∷ later) =
-    if missing == 0 then [] else word ∷ key_words (missing_words missing word) later
-
 -- The key of a line, which names what the line is about: of `property` the first three words, of
--- `node`, `payload` and `part` the first two, of `reservation` all three, of `inside` the first
--- three or, where the third is `reservation`, all five, of any other the first word.
+-- `node`, `payload` and `part` the first two, of `reservation` all three, of any other the first
+-- word.
 abbrev pub key_of_line : Line → Line
 key_of_line [] = []
-key_of_line (first ∷ later) = key_words (words_of_key first) (first ∷ later)
+key_of_line (first ∷ later) = take (words_of_key first) (first ∷ later)
 
 -- A line as it is compared: its text without the newline, and that of its key.
 pub record ComparedLine : Type 0 where

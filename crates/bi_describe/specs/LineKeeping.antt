@@ -7,7 +7,7 @@ use Rattle.bi_common.specs.Lines.{Field}
 use Rattle.bi_common.specs.Tokens.{PutsInTurn, PutsNothing}
 use Rattle.bi_describe.specs.declared.compare.line_keeper.Mark.{Mark}
 use Rattle.bi_describe.specs.declared.compare.line_keeper.OpenLine.{OpenLine}
-use Rattle.bi_describe.specs.Differences.{missing_words, words_of_key}
+use Rattle.bi_describe.specs.Differences.{words_of_key}
 
 -- A pen that keeps lines, as contracts see it.
 
@@ -36,7 +36,7 @@ line_after_word line word end =
     record {
       start = line.start;
       key_end = if missing == 0 then line.key_end else end;
-      missing = Some (missing_words missing word);
+      missing = Some (missing - 1);
       has_word = has_word line.has_word (NextField word);
     }
 

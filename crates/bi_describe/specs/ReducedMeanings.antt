@@ -1,173 +1,170 @@
-use Rattle.std.specs.Prelude.{◌≡◌, ◌&&◌, ◌||◌, ◌+◌, ℕ, map, not, Bool, true, false, List, [], ◌∷◌, ◌++◌}
+use Rattle.std.specs.Prelude.{◌≡◌, ℕ, ◌+◌, map, not, List, [], ◌∷◌, ◌++◌, codes, drop, take}
 use Rattle.std.specs.Prelude.{Option, Some, None, flat_map, if◌then◌else◌}
 use Rattle.std.specs.FinMap.{retain_keys}
-use Rattle.std.specs.List.{list_any}
-use Rattle.bi_blob.specs.Tree.{Nodes, none, node, names, PropertyMap, Root}
-use Rattle.bi_fit.specs.ImageTree.{image_nodes, nodes_or_none}
+use Rattle.bi_blob.specs.Blob.{Reservation}
+use Rattle.bi_blob.specs.Tree.{Nodes, none, node, PropertyMap, Root, with_each}
+use Rattle.bi_fit.specs.ImageTree.{ImageTree}
+use Rattle.bi_legacy.specs.Meaning.{LegacyImage}
 use Rattle.bi_norm.specs.Meaning.{Meaning, OfLegacy, OfFit}
-use Rattle.bi_common.specs.Lines.{text_of_lines}
-use Rattle.bi_describe.specs.Comparing.{lines_or, reason}
-use Rattle.bi_describe.specs.DeepMeanings.{ComparedLegacy, ComparedMeaning, LegacyCompared}
-use Rattle.bi_describe.specs.DeepMeanings.{TreeCompared, ComparedNode, ComparedPayload}
-use Rattle.bi_describe.specs.DeepMeanings.{ComparedTree, InsideTree, NodePayload, NotAnImage}
-use Rattle.bi_describe.specs.DeepMeanings.{WithoutPayload, WithPayload, last_name, Devicetree}
-use Rattle.bi_describe.specs.DeepMeanings.{compared_lines, compared_meaning}
-use Rattle.bi_describe.specs.Differences.{ComparedLine, SignedLine, differences, line_to_compare}
-use Rattle.bi_describe.specs.Ignoring.{Ignored, NodePlace, TreePlace, Itself, Inside}
-use Rattle.bi_describe.specs.Ignoring.{PayloadPlace, OfImageNamed, OfPart, is_node_ignored, node_at}
-use Rattle.bi_describe.specs.Ignoring.{is_looked_inside, is_part_ignored, is_property_ignored}
-use Rattle.bi_describe.specs.Ignoring.{is_same_payload, is_time_ignored}
+use Rattle.bi_common.specs.CommonLines.{header_lines, reservation_line}
+use Rattle.bi_common.specs.Lines.{Line, Text, Decimal}
+use Rattle.bi_describe.specs.ComparedNodes.{ComparedNode, compared_nodes, described_node}
+use Rattle.bi_describe.specs.ComparedNodes.{plain_compared}
+use Rattle.bi_describe.specs.Descriptions.{digest_of_payload, head_lines, node_lines, own_lines}
+use Rattle.bi_describe.specs.Descriptions.{part_line}
+use Rattle.bi_describe.specs.Ignoring.{Ignored, is_node_ignored, is_part_ignored}
+use Rattle.bi_describe.specs.Ignoring.{is_property_ignored, is_time_ignored}
 
 -- What is compared of a meaning once something is left out of it (profile of this project).
 
 -- ---- trees
 
--- The properties of a node that are not left out.
-abbrev pub kept_properties : List Ignored → NodePlace → PropertyMap → PropertyMap
-kept_properties words place properties =
-    retain_keys properties (λ name. not (is_property_ignored words place name))
+-- The properties of the node with these names that stay.
+abbrev pub kept_properties : List Ignored → (names : List (List ℕ)) → PropertyMap → PropertyMap
+kept_properties words names properties =
+    retain_keys properties (λ name. not (is_property_ignored words names name))
 
--- The nodes that are not left out, and are not below one that is. `keep` takes out of a node what
--- is left out of it itself.
-abbrev pub kept_nodes : {Own : Type 0} → List Ignored → (keep : NodePlace → Own → Own) → TreePlace
-    → (above : List (List ℕ)) → Nodes Own → Nodes Own
-kept_nodes words keep tree above none = none
-kept_nodes words keep tree above (node name own children later) =
-    let place : NodePlace = node_at tree (above ++ name ∷ []) in
-    if is_node_ignored words place then kept_nodes words keep tree above later
-    else node name (keep place own) (kept_nodes words keep tree (above ++ name ∷ []) children)
-    (kept_nodes words keep tree above later)
+-- What stays of the node with these names itself. Its payload stays.
+abbrev pub kept_own : List Ignored → (names : List (List ℕ)) → ComparedNode → ComparedNode
+kept_own words names own =
+    record { properties = kept_properties words names own.properties; payload = own.payload }
 
--- A root with the nodes that are not left out. If the root is, there is none.
-abbrev pub kept_root : {Own : Type 0} → List Ignored → (keep : NodePlace → Own → Own) → TreePlace
-    → Option (Root Own) → Option (Root Own)
-kept_root words keep tree None = None
-kept_root words keep tree (Some root) =
-    let place : NodePlace = node_at tree [] in
-    if is_node_ignored words place then None
+-- The nodes that stay: those that are not left out, and are not below one that is. `above` are the
+-- names on the way from the root to the parent of the nodes.
+abbrev pub kept_nodes : List Ignored → (above : List (List ℕ)) → Nodes ComparedNode
+    → Nodes ComparedNode
+kept_nodes words above none = none
+kept_nodes words above (node name own children later) =
+    let names : List (List ℕ) = above ++ name ∷ [] in
+    if is_node_ignored words names then kept_nodes words above later
+    else node name (kept_own words names own) (kept_nodes words names children)
+    (kept_nodes words above later)
+
+-- What stays of a tree. If its root is left out, that is nothing.
+abbrev pub kept_root : List Ignored → Root ComparedNode → Option (Root ComparedNode)
+kept_root words root =
+    if is_node_ignored words [] then None
     else Some (record {
-      own = keep place root.own;
-      children = kept_nodes words keep tree [] root.children;
+      own = kept_own words [] root.own;
+      children = kept_nodes words [] root.children;
     })
 
--- What is inside a payload, without what is left out.
-abbrev pub kept_inside : List Ignored → PayloadPlace → Option InsideTree → Option InsideTree
-kept_inside words payload None = None
-kept_inside words payload (Some tree) =
-    Some (record {
-      cpu = tree.cpu;
-      reservations = tree.reservations;
-      root = kept_root words (kept_properties words) (Inside payload) tree.root;
-    })
-
--- A payload without what is left out. Its bytes are left out if it is opened: then it is compared by
--- its tree.
-abbrev pub kept_payload : List Ignored → (is_opened : PayloadPlace → Bool) → PayloadPlace
-    → ComparedPayload → ComparedPayload
-kept_payload words is_opened place payload =
+-- The root of a tree with the payloads of its images.
+abbrev pub compared_root : Root PropertyMap → List (Option (List ℕ)) → Root ComparedNode
+compared_root root payloads =
     record {
-      bytes = if is_opened place then None else payload.bytes;
-      inside = kept_inside words place payload.inside;
+      own = plain_compared root.own;
+      children = compared_nodes root.children payloads;
     }
 
-abbrev pub kept_node_payload : List Ignored → (is_opened : PayloadPlace → Bool) → (name : List ℕ)
-    → NodePayload → NodePayload
-kept_node_payload words is_opened name (WithPayload payload) =
-    WithPayload (kept_payload words is_opened (OfImageNamed name) payload)
-kept_node_payload words is_opened name payload = payload
+-- ---- legacy images
 
--- What a node of the image itself has, without what is left out.
-abbrev pub kept_own : List Ignored → (is_opened : PayloadPlace → Bool) → NodePlace → ComparedNode
-    → ComparedNode
-kept_own words is_opened place own =
-    record {
-      properties = kept_properties words place own.properties;
-      payload = kept_node_payload words is_opened (last_name place.names) own.payload;
-    }
+-- A legacy image with these fields, but with the time 0 and without parts.
+abbrev pub fields_alone : LegacyImage → LegacyImage
+fields_alone image = record {
+  time = 0;
+  load = image.load;
+  entry = image.entry;
+  os = image.os;
+  arch = image.arch;
+  image_type = image.image_type;
+  compression = image.compression;
+  name = image.name;
+  parts = [];
+}
+
+-- Parts with their indices, the first of which is this.
+abbrev pub numbered_parts : (index : ℕ) → List (List ℕ) → List (ℕ × List ℕ)
+numbered_parts index [] = []
+numbered_parts index (part ∷ later) = (index, part) ∷ numbered_parts (index + 1) later
+
+-- A part, if it stays. It keeps its index.
+abbrev pub kept_part : List Ignored → ℕ × List ℕ → List (ℕ × List ℕ)
+kept_part words part = if is_part_ignored words part.0 then [] else part ∷ []
+
+-- The time, if it stays.
+abbrev pub kept_time : List Ignored → (time : ℕ) → Option ℕ
+kept_time words time = if is_time_ignored words then None else Some time
 
 -- ---- meanings
 
--- A part, if it is not left out.
-abbrev pub kept_part : List Ignored → (is_opened : PayloadPlace → Bool) → ℕ × ComparedPayload
-    → List (ℕ × ComparedPayload)
-kept_part words is_opened part =
-    if is_part_ignored words part.0 then []
-    else (part.0, kept_payload words is_opened (OfPart part.0) part.1) ∷ []
+-- What stays of a legacy image: its fields but for the time, the time, and parts with their
+-- indices.
+pub record ReducedLegacy : Type 0 where
+  pub fields : LegacyImage
+  pub time : Option ℕ
+  pub parts : List (ℕ × List ℕ)
 
-abbrev pub kept_time : List Ignored → Option ℕ → Option ℕ
-kept_time words time = if is_time_ignored words then None else time
+-- What stays of a flattened image tree.
+pub record ReducedTree : Type 0 where
+  pub cpu : ℕ
+  pub reservations : List Reservation
+  pub root : Option (Root ComparedNode)
 
--- All that is compared of a meaning once what these words leave out is taken out of it.
-abbrev pub kept_meaning : List Ignored → (is_opened : PayloadPlace → Bool) → ComparedMeaning
-    → ComparedMeaning
-kept_meaning words is_opened (LegacyCompared image) =
-    LegacyCompared (record {
-      fields = image.fields;
-      time = kept_time words image.time;
-      parts = flat_map (kept_part words is_opened) image.parts;
-    })
-kept_meaning words is_opened (TreeCompared tree) =
-    TreeCompared (record {
-      cpu = tree.cpu;
-      reservations = tree.reservations;
-      root = kept_root words (kept_own words is_opened) Itself tree.root;
-    })
+pub data ReducedMeaning : Type 0 where
+  OfReducedLegacy : ReducedLegacy → ReducedMeaning
+  OfReducedTree : ReducedTree → ReducedMeaning
 
--- ---- which payloads are opened
+-- What stays of a legacy image, and of a flattened image tree, once what these words leave out is
+-- taken out of it.
+abbrev pub reduced_legacy : List Ignored → LegacyImage → ReducedLegacy
+reduced_legacy words image = record {
+  fields = fields_alone image;
+  time = kept_time words image.time;
+  parts = flat_map (kept_part words) (numbered_parts 0 image.parts);
+}
 
--- Places of parts, the first of which has this index.
-abbrev pub part_places : (index : ℕ) → List (List ℕ) → List PayloadPlace
-part_places index [] = []
-part_places index (part ∷ later) = OfPart index ∷ part_places (index + 1) later
+abbrev pub reduced_tree : List Ignored → ImageTree → ReducedTree
+reduced_tree words tree = record {
+  cpu = tree.cpu;
+  reservations = tree.reservations;
+  root = kept_root words (compared_root tree.root tree.payloads);
+}
 
--- The places of the payloads of a meaning, in their order.
-abbrev pub payload_places : Meaning → List PayloadPlace
-payload_places (OfLegacy image) = part_places 0 image.parts
-payload_places (OfFit tree) =
-    map OfImageNamed (names (nodes_or_none (image_nodes tree.root)))
+-- What stays of a meaning.
+abbrev pub reduced : List Ignored → Meaning → ReducedMeaning
+reduced words (OfLegacy image) = OfReducedLegacy (reduced_legacy words image)
+reduced words (OfFit tree) = OfReducedTree (reduced_tree words tree)
 
--- A devicetree is inside the payload at this place.
-abbrev pub has_inside_at : List PayloadPlace → List (Option Devicetree) → PayloadPlace → Bool
-has_inside_at (other ∷ places) (None ∷ insides) place = has_inside_at places insides place
-has_inside_at (other ∷ places) (Some tree ∷ insides) place =
-    is_same_payload other place || has_inside_at places insides place
-has_inside_at places insides place = false
-
--- Two meanings, each with what is inside its payloads.
-pub record ComparedPair : Type 0 where
-  pub one : Meaning
-  pub insides : List (Option Devicetree)
-  pub other : Meaning
-  pub other_insides : List (Option Devicetree)
-
--- The payload is compared by its trees: a word names something inside it, and it is a devicetree in
--- both.
-abbrev pub is_opened : List Ignored → ComparedPair → PayloadPlace → Bool
-is_opened words pair place =
-    is_looked_inside words place
-    && (has_inside_at (payload_places pair.one) pair.insides place
-    && has_inside_at (payload_places pair.other) pair.other_insides place)
-
--- What is compared of the first meaning, and of the second one.
-abbrev pub reduced_one : List Ignored → ComparedPair → ComparedMeaning
-reduced_one words pair =
-    kept_meaning words (is_opened words pair) (compared_meaning pair.one pair.insides)
-
-abbrev pub reduced_other : List Ignored → ComparedPair → ComparedMeaning
-reduced_other words pair =
-    kept_meaning words (is_opened words pair) (compared_meaning pair.other pair.other_insides)
-
--- The meanings are the same once what the words leave out is taken out of both. Meanings of
+-- Two meanings are the same once what the words leave out is taken out of both. Meanings of
 -- different kinds never are.
-abbrev pub AreSameWithout : List Ignored → ComparedPair → Type 0
-AreSameWithout words pair = reduced_one words pair ≡ reduced_other words pair
+abbrev pub AreSameWithout : List Ignored → (one other : Meaning) → Type 0
+AreSameWithout words one other = reduced words one ≡ reduced words other
 
--- The lines of what stays, as they are compared.
-abbrev pub lines_to_compare : ComparedMeaning → List ComparedLine
-lines_to_compare reduced = map line_to_compare (compared_lines reduced)
+-- ---- lines
 
--- What differs between what stays of two meanings of one kind that are not the same.
-abbrev pub reduced_differences : (one other : ComparedMeaning) → List SignedLine
-reduced_differences one other =
-    lines_or (differences (lines_to_compare one) (lines_to_compare other))
-    (reason (text_of_lines (compared_lines one)) (text_of_lines (compared_lines other)))
+-- The lines of a tree, the root first. There are none if the root is left out.
+abbrev pub reduced_root_lines : Option (Root ComparedNode) → List Line
+reduced_root_lines None = []
+reduced_root_lines (Some root) =
+    own_lines [] (described_node root.own)
+    ++ node_lines [] (with_each described_node root.children)
+
+-- The line for the time, if it stays.
+abbrev pub time_lines : Option ℕ → List Line
+time_lines None = []
+time_lines (Some time) = (Text (codes "time") ∷ Decimal time ∷ []) ∷ []
+
+-- The lines of a header with this line, or none, for its time: that is the third line.
+abbrev pub reduced_header_lines : LegacyImage → (time : Option ℕ) → List Line
+reduced_header_lines image time =
+    take 2 (header_lines image) ++ (time_lines time ++ drop 3 (header_lines image))
+
+-- The lines of parts.
+abbrev pub reduced_part_lines : List (ℕ × List ℕ) → List Line
+reduced_part_lines parts = map (λ part. part_line part.0 (digest_of_payload part.1)) parts
+
+-- The lines of what stays of a legacy image, and of a flattened image tree.
+abbrev pub reduced_legacy_lines : ReducedLegacy → List Line
+reduced_legacy_lines image =
+    reduced_header_lines image.fields image.time ++ reduced_part_lines image.parts
+
+abbrev pub reduced_tree_lines : ReducedTree → List Line
+reduced_tree_lines tree =
+    head_lines tree.cpu
+    ++ (map reservation_line tree.reservations ++ reduced_root_lines tree.root)
+
+-- The lines of what stays: those of the description that stay.
+abbrev pub reduced_lines : ReducedMeaning → List Line
+reduced_lines (OfReducedLegacy image) = reduced_legacy_lines image
+reduced_lines (OfReducedTree tree) = reduced_tree_lines tree

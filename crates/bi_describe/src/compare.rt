@@ -19,18 +19,22 @@ ghost use Rattle.bi_common.specs.HeldImages.{IsHeldImage};
 ghost use Rattle.bi_describe.specs.Comparing.{IsComparison, IsComparisonError, IsComparisonOf};
 ghost use Rattle.bi_describe.specs.Comparing.{IsReadingError, IsDescribingError, comparison};
 ghost use Rattle.bi_describe.specs.Comparing.{comparison_text};
-ghost use Rattle.bi_describe.specs.Describing.{CanBeDescribed, IsImageError};
+ghost use Rattle.bi_describe.specs.ComparingWithout.{AreComparedWithout, IsComparisonWithout};
+ghost use Rattle.bi_describe.specs.ComparingWithout.{IsIgnoringError};
+ghost use Rattle.bi_describe.specs.DescribedImages.{IsDescribed};
+ghost use Rattle.bi_describe.specs.Describing.{CanBeDescribed};
 ghost use Rattle.bi_describe.specs.Descriptions.{description_lines};
 ghost use Rattle.bi_describe.specs.KeptLines.{KeepsLines};
 ghost use Rattle.bi_describe.specs.MadeLines.{made_lines};
+ghost use Rattle.bi_describe.specs.MadeOptions.{ignoring_model};
 
-use crate::describe::deep::{DeepHead, DeepImage};
-use crate::describe::{describe_image, describe_image_deep, description_is_ascii};
-use crate::ignored::Ignored;
+use crate::describe::kept::{KeptImage, kept_is_ascii};
+use crate::describe::{DescribedImage, describe_image, description_is_ascii};
 use bi_base::{Error, Fault, Limits};
 use bi_common::format::Format;
 use bi_norm::BootImage;
-use ignoring::{are_same, leave_out, open_payloads};
+use ignoring::compare_kept;
+pub use ignoring::IgnoringOptions;
 use json::comparison_json;
 use kept_lines::KeptLines;
 use reasons::{differences_or_reason, kinds_differ};
@@ -129,6 +133,59 @@ pub fn compare_json(
     ensures failed { IfErr result (IsComparisonError limits one.now other.now) }
 {
     compare_as(alloc, one, other, limits, Format::Json)
+}
+
+/// Returns whether two boot images mean the same once something is left out of both, and what
+/// differs then: the differences of the lines of their descriptions that stay. They are empty if
+/// and only if both mean the same, or if `quiet` is set. Payloads that stay are compared byte by
+/// byte. Images of different kinds differ, and nothing is left out of them.
+///
+/// Errors, the first that applies: One with the fault of the first file; Other with that of the
+/// second one; One and then Other with TooLarge at the limit, if a meaning is too long to describe,
+/// whatever is left out or written. OutOfMemory may come instead of any of these, but only after the
+/// first file has passed the checks of a legacy image, or of the header and the memory reservation
+/// block of a blob.
+pub fn compare_ignoring(
+    alloc: Global,
+    one: &[u8],
+    other: &[u8],
+    limits: Limits,
+    options: IgnoringOptions,
+) -> Result<Comparison, CompareError>
+    ensures compared { IfOk result (λ comparison. AreComparedWithout (ignoring_model options.entry)
+        limits one.now other.now comparison.same (string_bytes comparison.differences)) }
+    ensures failed { IfErr result (IsIgnoringError limits one.now other.now) }
+{
+    let image = read_one(alloc, one, limits)?;
+    let other_image = read_other(alloc, other, limits)?;
+    compare_without(alloc, &image, &other_image, limits, options)
+}
+
+/// Compares what stays of two images. Requires: the images were read.
+fn compare_without(
+    alloc: Global,
+    image: &BootImage<'_>,
+    other: &BootImage<'_>,
+    limits: Limits,
+    options: IgnoringOptions,
+) -> Result<Comparison, CompareError>
+    requires held { IsHeldImage image.now }
+    requires other_held { IsHeldImage other.now }
+    ensures within { OnOk result (CanBeDescribed Lines limits (meaning_of image.now)) }
+    ensures other_within { OnOk result (CanBeDescribed Lines limits (meaning_of other.now)) }
+    ensures compared { IfOk result (λ comparison. IsComparisonWithout
+        (ignoring_model options.entry) (meaning_of image.now) (meaning_of other.now)
+        comparison.same (string_bytes comparison.differences)) }
+    ensures failed { IfErr result (λ error. (error ≡ CompareError.OutOfMemory)
+        ⊎ IsDescribingError limits (meaning_of image.now) (meaning_of other.now) error) }
+{
+    let described = describe_one(alloc, image, limits)?;
+    let other_described = describe_other(alloc, other, limits)?;
+    let kept = KeptImage::new(alloc, &described, options.words)?;
+    let other_kept = KeptImage::new(alloc, &other_described, options.words)?;
+    kept_is_ascii(image);
+    kept_is_ascii(other);
+    Ok(compare_kept(alloc, &kept, &other_kept, options)?)
 }
 
 impl From<AllocError> for CompareError {
@@ -247,11 +304,8 @@ fn keep_one(alloc: Global, image: &BootImage<'_>, limits: Limits) -> Result<Kept
     ensures failed { IfErr result (λ error. (error ≡ CompareError.OutOfMemory)
         ⊎ ((other : Meaning) → IsDescribingError limits (meaning_of image.now) other error)) }
 {
-    match keep_lines(alloc, image, limits) {
-        Ok(kept) => Ok(kept),
-        Err(Error::Refused(fault)) => Err(CompareError::One(fault)),
-        Err(_) => Err(CompareError::OutOfMemory),
-    }
+    let mut described = describe_one(alloc, image, limits)?;
+    Ok(keep_lines(alloc, image, &mut described)?)
 }
 
 /// Keeps the lines of the second image. Requires: the image was read.
@@ -267,25 +321,64 @@ fn keep_other(
         ⊎ ((one : Meaning) → CanBeDescribed Lines limits one
         → IsDescribingError limits one (meaning_of image.now) error)) }
 {
-    match keep_lines(alloc, image, limits) {
-        Ok(kept) => Ok(kept),
-        Err(Error::Refused(fault)) => Err(CompareError::Other(fault)),
+    let mut described = describe_other(alloc, image, limits)?;
+    Ok(keep_lines(alloc, image, &mut described)?)
+}
+
+/// Keeps the lines of the description of an image, which is made from this. Requires: the image was
+/// read.
+///
+/// Fails only if memory runs out.
+fn keep_lines(
+    alloc: Global,
+    image: &BootImage<'_>,
+    described: &mut DescribedImage,
+) -> Result<KeptLines, AllocError>
+    requires held { IsHeldImage image.now }
+    requires described { IsDescribed (meaning_of image.now) described.old }
+    ensures { IfOk result (KeepsLines (description_lines (meaning_of image.now))) }
+{
+    description_is_ascii(image, Format::Lines);
+    KeptLines::new(alloc, described)
+}
+
+/// Returns what the description of the first image is made from. Requires: the image was read.
+fn describe_one<'a, 'b>(
+    alloc: Global,
+    image: &'b BootImage<'a>,
+    limits: Limits,
+) -> Result<DescribedImage<'a, 'b>, CompareError>
+    requires held { IsHeldImage image.now }
+    ensures within { OnOk result (CanBeDescribed Lines limits (meaning_of image.now)) }
+    ensures described { IfOk result (IsDescribed (meaning_of image.entry.now)) }
+    ensures failed { IfErr result (λ error. (error ≡ CompareError.OutOfMemory)
+        ⊎ ((other : Meaning) → IsDescribingError limits (meaning_of image.now) other error)) }
+{
+    match describe_image(alloc, image, limits, Format::Lines) {
+        Ok(described) => Ok(described),
+        Err(Error::Refused(fault)) => Err(CompareError::One(fault)),
         Err(_) => Err(CompareError::OutOfMemory),
     }
 }
 
-/// Keeps the lines of the description of an image. Requires: the image was read.
-///
-/// Errors: TooLarge at the limit, if the payloads or the description are longer; OutOfMemory.
-fn keep_lines(alloc: Global, image: &BootImage<'_>, limits: Limits) -> Result<KeptLines, Error>
+/// Returns what the description of the second image is made from. Requires: the image was read.
+fn describe_other<'a, 'b>(
+    alloc: Global,
+    image: &'b BootImage<'a>,
+    limits: Limits,
+) -> Result<DescribedImage<'a, 'b>, CompareError>
     requires held { IsHeldImage image.now }
     ensures within { OnOk result (CanBeDescribed Lines limits (meaning_of image.now)) }
-    ensures kept { IfOk result (KeepsLines (description_lines (meaning_of image.now))) }
-    ensures failed { IfErr result (IsImageError Lines limits (meaning_of image.now)) }
+    ensures described { IfOk result (IsDescribed (meaning_of image.entry.now)) }
+    ensures failed { IfErr result (λ error. (error ≡ CompareError.OutOfMemory)
+        ⊎ ((one : Meaning) → CanBeDescribed Lines limits one
+        → IsDescribingError limits one (meaning_of image.now) error)) }
 {
-    let mut described = describe_image(alloc, image, limits, Format::Lines)?;
-    description_is_ascii(image, Format::Lines);
-    Ok(KeptLines::new(alloc, &mut described)?)
+    match describe_image(alloc, image, limits, Format::Lines) {
+        Ok(described) => Ok(described),
+        Err(Error::Refused(fault)) => Err(CompareError::Other(fault)),
+        Err(_) => Err(CompareError::OutOfMemory),
+    }
 }
 
 /// Returns what differs between two images that do not mean the same, whose lines are kept.
@@ -332,117 +425,5 @@ fn print(
     match format {
         Format::Lines => text_of_lines(alloc, lines),
         Format::Json => comparison_json(alloc, same, lines),
-    }
-}
-
-/// How two boot images are compared.
-#[derive(Clone, Copy)]
-pub struct CompareOptions<'a> {
-    /// What is left out of both.
-    pub ignored: &'a [Ignored],
-    /// Whether the devicetrees that are payloads are compared by their trees, too.
-    pub deep: bool,
-    /// Whether only `same` is wanted, so that the differences are empty.
-    pub quiet: bool,
-    /// The form of the differences.
-    pub format: Format,
-}
-
-/// Compares two boot images with options.
-///
-/// Errors, the first that applies: One with the fault of the first file; Other with that of the
-/// second one; then One and Other with TooLarge at the limit, if a meaning is too long to describe:
-/// always if something is ignored, or else only if the meanings differ and the differences are
-/// wanted. OutOfMemory may come instead of any of these.
-pub fn compare_with(
-    alloc: Global,
-    one: &[u8],
-    other: &[u8],
-    limits: Limits,
-    options: CompareOptions,
-) -> Result<Comparison, CompareError> {
-    let image = read_one(alloc, one, limits)?;
-    let other_image = read_other(alloc, other, limits)?;
-    if options.ignored.is_empty() {
-        let same = mean_the_same(alloc, &image, &other_image)?;
-        if same || options.quiet {
-            return conclude(alloc, same, options);
-        }
-    }
-    let mut one = keep_described(alloc, &image, limits, options.deep, CompareError::One)?;
-    let mut other = keep_described(alloc, &other_image, limits, options.deep, CompareError::Other)?;
-    if let Some((kind, other_kind)) = different_kinds(&one, &other) {
-        if options.quiet {
-            return conclude(alloc, false, options);
-        }
-        let lines = kinds_differ(alloc, kind, other_kind)?;
-        return Ok(Comparison {
-            same: false,
-            differences: print(alloc, options.format, false, &lines)?,
-        });
-    }
-    if !options.ignored.is_empty() {
-        open_payloads(&mut one, &mut other, options.ignored);
-        one = leave_out(alloc, one, options.ignored)?;
-        other = leave_out(alloc, other, options.ignored)?;
-        let same = are_same(&one, &other);
-        if same || options.quiet {
-            return conclude(alloc, same, options);
-        }
-        find_paths(alloc, &mut one, limits)?;
-        find_paths(alloc, &mut other, limits)?;
-    }
-    let kept = KeptLines::of_deep(alloc, &mut one)?;
-    let other_kept = KeptLines::of_deep(alloc, &mut other)?;
-    let lines = differences_or_reason(alloc, &kept, &other_kept)?;
-    Ok(Comparison {
-        same: false,
-        differences: print(alloc, options.format, false, &lines)?,
-    })
-}
-
-/// Returns a comparison without lines.
-fn conclude(
-    alloc: Global,
-    same: bool,
-    options: CompareOptions,
-) -> Result<Comparison, CompareError> {
-    let differences = if options.quiet {
-        String::new(alloc)
-    } else {
-        print(alloc, options.format, same, &[])?
-    };
-    Ok(Comparison { same, differences })
-}
-
-/// Computes the paths of the nodes inside the payloads of an image again.
-fn find_paths(alloc: Global, image: &mut DeepImage, limits: Limits) -> Result<(), CompareError> {
-    match image.find_paths(alloc, limits) {
-        Ok(()) => Ok(()),
-        Err(_) => Err(CompareError::OutOfMemory),
-    }
-}
-
-/// Returns what the description of an image is made from, if it is within the limits.
-fn keep_described<'a, 'b>(
-    alloc: Global,
-    image: &'b BootImage<'a>,
-    limits: Limits,
-    deep: bool,
-    refusal: fn(Fault) -> CompareError,
-) -> Result<DeepImage<'a, 'b>, CompareError> {
-    match describe_image_deep(alloc, image, limits, Format::Lines, deep) {
-        Ok(described) => Ok(described),
-        Err(Error::Refused(fault)) => Err(refusal(fault)),
-        Err(_) => Err(CompareError::OutOfMemory),
-    }
-}
-
-/// Returns the words for the kinds of two images, if they differ.
-fn different_kinds(one: &DeepImage, other: &DeepImage) -> Option<(&'static str, &'static str)> {
-    match (&one.head, &other.head) {
-        (DeepHead::Legacy(_), DeepHead::Fit(_)) => Some(("kind legacy", "kind fit")),
-        (DeepHead::Fit(_), DeepHead::Legacy(_)) => Some(("kind fit", "kind legacy")),
-        _ => None,
     }
 }

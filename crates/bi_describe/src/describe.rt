@@ -16,17 +16,17 @@ ghost use Rattle.bi_describe.specs.Describing.{IsDescription, IsDescribeError};
 ghost use Rattle.bi_describe.specs.Describing.{describe_promise, describe_laws};
 
 mod bounded_pen;
-pub(crate) mod deep;
 mod digests;
-pub(crate) mod entries;
+mod entries;
 mod fit;
 mod image_nodes;
 mod image_payload;
-pub(crate) mod inside;
 mod json;
+pub(crate) mod kept;
 mod legacy;
 mod lines;
 mod nodes;
+mod part;
 mod properties;
 
 use bi_base::{Command, Error, Limits, MemoryPen, Pen, Sink, SinkPen, are_bytes, pipe_to};
@@ -311,56 +311,4 @@ fn describe_into<S: Sink>(
     let mut pen = SinkPen::new(sink);
     described.put(format, &mut pen);
     pen.result()
-}
-
-/// Returns the deep description of what a boot image means, in a form: the description, with lines
-/// for the devicetrees that are payloads.
-///
-/// The errors are those of `describe` or `describe_json`.
-pub fn describe_deep(
-    alloc: Global,
-    file: &[u8],
-    limits: Limits,
-    format: Format,
-) -> Result<String, Error> {
-    let image = BootImage::read(alloc, file, limits)?;
-    let mut described = describe_image_deep(alloc, &image, limits, format, true)?;
-    let mut pen = MemoryPen::new(alloc);
-    put_deep(&mut described, format, &mut pen);
-    match String::from_utf8(pen.into_vec()?) {
-        Ok(text) => Ok(text),
-        Err(_) => unreachable!(),
-    }
-}
-
-/// Puts a deep description, in a form.
-fn put_deep<P: Pen>(described: &mut deep::DeepImage, format: Format, pen: &mut P) {
-    match format {
-        Format::Lines => described.put_lines(&mut LineWriter::new(pen)),
-        Format::Json => {
-            described.put_object(&mut JsonWriter::new(pen));
-            pen.put(b"\n");
-        }
-    }
-}
-
-/// Returns what a description is made from, which is no longer than the limit in a form. Nothing is
-/// inside payloads if `deep` is false.
-///
-/// Errors: TooLarge at the limit, if the payloads or the description are longer; OutOfMemory.
-pub(crate) fn describe_image_deep<'a, 'b>(
-    alloc: Global,
-    image: &'b BootImage<'a>,
-    limits: Limits,
-    format: Format,
-    deep: bool,
-) -> Result<deep::DeepImage<'a, 'b>, Error> {
-    let mut described = deep::DeepImage::new(alloc, image, limits, deep)?;
-    if format == Format::Lines {
-        described.find_paths(alloc, limits)?;
-    }
-    let mut room = BoundedPen::new(limits.file());
-    put_deep(&mut described, format, &mut room);
-    room.check(limits.file())?;
-    Ok(described)
 }

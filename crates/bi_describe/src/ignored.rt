@@ -1,20 +1,40 @@
-//! What `compare` leaves out, read from the words of its option.
+//! What `compare` leaves out, and the words for it.
 
-mod shown_paths;
+mod matching;
+mod path_words;
+
+ghost use Rattle.std.specs.Prelude.{◌≡◌, ◌++◌, OnOk, IfOk, IfErr, IfSome, IfNone};
+ghost use Rattle.bi_base.specs.declared.fault.Error.TheVariants.{OutOfMemory};
+ghost use Rattle.bi_common.specs.MadeFields.{bytes_of_names};
+ghost use Rattle.bi_describe.specs.IgnoredWords.{AreWordsOfValue, AreWordsOfValues, IsBadValue};
+ghost use Rattle.bi_describe.specs.IgnoredWords.{IsPlainWord, IsNoPlainWord, ArePlainWords};
+ghost use Rattle.bi_describe.specs.IgnoredWords.{AreNoPlainWords};
+ghost use Rattle.bi_describe.specs.IgnoredErrors.{IsParseError};
+ghost use Rattle.bi_describe.specs.MadeWords.{ignored_word, ignored_words};
 
 use bi_base::Error;
-use shown_paths::{child_name_shown_as, path_shown_as, property_name_shown_as};
-use std::alloc::Global;
+pub(crate) use matching::{
+    is_node_ignored, is_part_ignored, is_property_ignored, is_time_ignored,
+};
+use path_words::path_word;
+use std::alloc::{AllocError, Global};
+
+/// Where a devicetree is that is inside an image.
+#[derive(Drop)]
+pub enum PayloadPlace {
+    /// In the payload of the image with this name.
+    Image(Vec<u8>),
+    /// In the part of a legacy image with this index.
+    Part(u64),
+}
 
 /// The tree that a node is in.
 #[derive(Drop)]
 pub enum TreePlace {
     /// The tree of the image itself.
     Itself,
-    /// The devicetree in the payload of the image with this name.
-    InImage(Vec<u8>),
-    /// The devicetree in the part with this index.
-    InPart(u64),
+    /// A devicetree that is inside it.
+    Inside(PayloadPlace),
 }
 
 /// A node: the tree that it is in, and the names of the nodes on the way to it.
@@ -22,7 +42,8 @@ pub enum TreePlace {
 pub struct NodePlace {
     /// The tree.
     pub tree: TreePlace,
-    /// The names of the nodes on the way to the node, without the root.
+    /// The names of the nodes on the way to the node, the first of which is a child of the root.
+    /// There are none for the root.
     pub names: Vec<Vec<u8>>,
 }
 
@@ -32,148 +53,120 @@ pub enum Ignored {
     /// The time of a legacy image, and the property `timestamp` of the root of a flattened image
     /// tree.
     Time,
-    /// Each child of an image or a configuration whose name begins with `signature`, and all nodes
+    /// Each child of an image or a configuration whose name begins with `signature`, with all nodes
     /// below it.
     Signatures,
-    /// A node, and all nodes below it.
+    /// A node, with its payload and all nodes below it.
     Node(NodePlace),
     /// A property of a node.
     Property(NodePlace, Vec<u8>),
-    /// The part with this index, and all that is inside it.
+    /// The part of a legacy image with this index. Other parts keep their indices.
     Part(u64),
 }
 
-impl Ignored {
-    /// Returns what the words of an option leave out. The words are `time` and `signatures`, with a
-    /// comma between each two, or one word of the form PATH, or PATH, a space and the name of a
-    /// property. PATH is the path of a node as a description prints it: inside a payload too, after
-    /// the path of the payload and `//`. `part-` and the index of a part is a word, too. Returns
-    /// None if the words are of no such form.
-    ///
-    /// Fails only with OutOfMemory.
-    pub fn parse_all(alloc: Global, words: &[u8]) -> Result<Option<Vec<Ignored>>, Error> {
-        if words.starts_with(b"/") || words.starts_with(b"part-") {
-            let Some(word) = path_word(alloc, words)? else {
-                return Ok(None);
-            };
-            return Ok(Some(Vec::from_array(alloc, [word])?));
-        }
-        plain_words(alloc, words)
+/// Why words for what is ignored were not read.
+#[derive(Clone, Copy, Debug, PartialEq, Eq, thiserror::Error)]
+pub enum IgnoredError {
+    /// The value with this index is for no words. It is the first such value.
+    #[error("a value is for no words")]
+    BadValue(usize),
+    /// Memory ran out.
+    #[error("out of memory")]
+    OutOfMemory,
+}
+
+impl From<AllocError> for IgnoredError {
+    ghost use Rattle.bi_describe.specs.declared.ignored.IgnoredError.TheVariants.{OutOfMemory};
+
+    ghost from_gives = { λ _ error. error ≡ OutOfMemory };
+
+    fn from(_error: AllocError) -> IgnoredError {
+        IgnoredError::OutOfMemory
     }
 }
 
-/// Returns what words with a comma between each two leave out: `time` and `signatures`. Returns
-/// None for any other word. Fails if memory runs out.
-fn plain_words(alloc: Global, words: &[u8]) -> Result<Option<Vec<Ignored>>, Error> {
-    let mut all = Vec::new(alloc);
-    let mut rest = words;
-    while let Some(comma) = rest.iter().position(|&byte| byte == b',') {
-        let Some(word) = plain_word(&rest[..comma]) else {
+impl Ignored {
+    /// Returns what the values of an option leave out, in their order. A value is `time` or
+    /// `signatures`, or several of these with a comma between each two. Or it is one word: PATH, or
+    /// PATH, a space and the name of a property, both as a description prints them. PATH is the
+    /// path of a node, or `part-` and the index of a part of a legacy image. The path of a node
+    /// inside a payload is the path of the payload, `/`, and the path in its tree: such a word
+    /// leaves out nothing, since nothing that is inside a payload is compared by itself.
+    ///
+    /// Errors: BadValue with the index of the first value that is of another form, as the empty one
+    /// is; OutOfMemory.
+    pub fn parse_all(alloc: Global, values: &[&[u8]]) -> Result<Vec<Ignored>, IgnoredError>
+        ensures words { IfOk result (λ words.
+            AreWordsOfValues (bytes_of_names values.now) (ignored_words words.items)) }
+        ensures failed { IfErr result (IsParseError (bytes_of_names values.now)) }
+    {
+        let mut all = Vec::new(alloc);
+        for index in 0..values.len() {
+            match words_of_value(alloc, values[index]) {
+                Ok(Some(words)) => append_words(&mut all, words)?,
+                Ok(None) => return Err(IgnoredError::BadValue(index)),
+                Err(_) => return Err(IgnoredError::OutOfMemory),
+            }
+        }
+        Ok(all)
+    }
+}
+
+/// Appends words to others. Fails if memory runs out.
+fn append_words(all: &mut Vec<Ignored>, words: Vec<Ignored>) -> Result<(), AllocError>
+    ensures { OnOk result (ignored_words all.new.items
+        ≡ ignored_words all.old.items ++ ignored_words words.items) }
+{
+    for word in words {
+        all.push(word)?;
+    }
+    Ok(())
+}
+
+/// Returns what a value leaves out. Returns None if it is of no known form. Fails if memory runs
+/// out.
+fn words_of_value(alloc: Global, value: &[u8]) -> Result<Option<Vec<Ignored>>, Error>
+    ensures some { IfOk result (λ found. IfSome found (λ words.
+        AreWordsOfValue value.now (ignored_words words.items))) }
+    ensures none { IfOk result (λ found. IfNone found (IsBadValue value.now)) }
+    ensures failed { IfErr result (λ error. error ≡ OutOfMemory) }
+{
+    if let Some(words) = plain_words(alloc, value)? {
+        return Ok(Some(words));
+    }
+    match path_word(alloc, value)? {
+        Some(word) => Ok(Some(Vec::from_array(alloc, [word])?)),
+        None => Ok(None),
+    }
+}
+
+/// Returns what words without a path leave out, with a comma between each two. Returns None if one
+/// of them is no such word. Fails if memory runs out.
+fn plain_words(alloc: Global, value: &[u8]) -> Result<Option<Vec<Ignored>>, AllocError>
+    ensures some { IfOk result (λ found. IfSome found (λ words.
+        ArePlainWords value.now (ignored_words words.items))) }
+    ensures none { IfOk result (λ found. IfNone found (AreNoPlainWords value.now)) }
+{
+    let mut words = Vec::new(alloc);
+    for text in value.split(|&byte| byte == b',') {
+        let Some(word) = plain_word(text) else {
             return Ok(None);
         };
-        all.push(word)?;
-        rest = &rest[comma + 1..];
+        words.push(word)?;
     }
-    let Some(word) = plain_word(rest) else {
-        return Ok(None);
-    };
-    all.push(word)?;
-    Ok(Some(all))
+    Ok(Some(words))
 }
 
-/// Returns what a word without a path leaves out, if it is one.
-fn plain_word(word: &[u8]) -> Option<Ignored> {
-    if word == b"time".as_slice() {
+/// Returns what a word without a path leaves out. Returns None for any other text.
+fn plain_word(text: &[u8]) -> Option<Ignored>
+    ensures some { IfSome result (λ word. IsPlainWord text.now (ignored_word word)) }
+    ensures none { IfNone result (IsNoPlainWord text.now) }
+{
+    if text == b"time".as_slice() {
         return Some(Ignored::Time);
     }
-    if word == b"signatures".as_slice() {
+    if text == b"signatures".as_slice() {
         return Some(Ignored::Signatures);
     }
     None
 }
-
-/// Returns what a word with a path leaves out, if it is one. Fails if memory runs out.
-fn path_word(alloc: Global, word: &[u8]) -> Result<Option<Ignored>, Error> {
-    let Some(space) = word.iter().position(|&byte| byte == b' ') else {
-        if let Some(index) = part_shown_as(word) {
-            return Ok(Some(Ignored::Part(index)));
-        }
-        return Ok(match node_shown_as(alloc, word)? {
-            Some(node) => Some(Ignored::Node(node)),
-            None => None,
-        });
-    };
-    let Some(node) = node_shown_as(alloc, &word[..space])? else {
-        return Ok(None);
-    };
-    Ok(match property_name_shown_as(alloc, &word[space + 1..])? {
-        Some(name) => Some(Ignored::Property(node, name)),
-        None => None,
-    })
-}
-
-/// Returns the node with a path, if it is one. Fails if memory runs out.
-fn node_shown_as(alloc: Global, path: &[u8]) -> Result<Option<NodePlace>, Error> {
-    let Some(end) = position_of_two_slashes(path) else {
-        return Ok(match path_shown_as(alloc, path)? {
-            Some(names) => Some(NodePlace {
-                tree: TreePlace::Itself,
-                names,
-            }),
-            None => None,
-        });
-    };
-    let Some(tree) = payload_shown_as(alloc, &path[..end])? else {
-        return Ok(None);
-    };
-    Ok(match path_shown_as(alloc, &path[end + 1..])? {
-        Some(names) => Some(NodePlace { tree, names }),
-        None => None,
-    })
-}
-
-/// Returns the tree inside the payload with a path, if it is one. Fails if memory runs out.
-fn payload_shown_as(alloc: Global, path: &[u8]) -> Result<Option<TreePlace>, Error> {
-    if let Some(index) = part_shown_as(path) {
-        return Ok(Some(TreePlace::InPart(index)));
-    }
-    let Some(name) = path.strip_prefix(b"/images/".as_slice()) else {
-        return Ok(None);
-    };
-    Ok(match child_name_shown_as(alloc, name)? {
-        Some(name) => Some(TreePlace::InImage(name)),
-        None => None,
-    })
-}
-
-/// Returns the index of the first of two slashes one after the other, if there are any.
-fn position_of_two_slashes(path: &[u8]) -> Option<usize> {
-    let mut index = 0;
-    while index + 1 < path.len() {
-        if path[index] == b'/' && path[index + 1] == b'/' {
-            return Some(index);
-        }
-        index += 1;
-    }
-    None
-}
-
-/// Returns the index of a part, by its path: `part-` and the index as it is printed. An index above
-/// the greatest `u64` is that one, which no part has.
-fn part_shown_as(path: &[u8]) -> Option<u64> {
-    let digits = path.strip_prefix(b"part-".as_slice())?;
-    if digits.is_empty() || (digits.len() > 1 && digits[0] == b'0') {
-        return None;
-    }
-    let mut index: u64 = 0;
-    for digit in digits {
-        if !digit.is_ascii_digit() {
-            return None;
-        }
-        index = index.saturating_mul(10).saturating_add(u64::from(*digit - b'0'));
-    }
-    Some(index)
-}
-
-#[cfg(test)]
-mod tests;

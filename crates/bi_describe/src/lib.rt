@@ -4,9 +4,6 @@
 pub mod compare;
 pub mod describe;
 pub mod ignored;
-pub mod known_reductions;
 pub mod known_refusals;
 pub mod known_texts;
 pub mod laws;
-#[cfg(test)]
-mod deep_tests;

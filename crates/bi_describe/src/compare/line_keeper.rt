@@ -6,8 +6,6 @@ ghost use Rattle.bi_base.specs.MemoryPens.{MemoryPuts, memory_puts_nothing, memo
 ghost use Rattle.bi_common.specs.LineTokens.{NextField, is_nothing, line_token_text, space};
 ghost use Rattle.bi_common.specs.MadeFields.{field_of};
 ghost use Rattle.bi_describe.specs.Differences.{words_of_key as words_of, words_of_key_named};
-ghost use Rattle.bi_describe.specs.Differences.{is_reservation as is_reservation_word};
-ghost use Rattle.bi_describe.specs.Differences.{missing_words};
 ghost use Rattle.bi_describe.specs.LineKeeping.{Keeping, Keeps, KeeperPuts, line_after_word};
 ghost use Rattle.bi_describe.specs.LineKeeping.{end_mark};
 ghost use Rattle.bi_describe.specs.LineKeeping.{keeper_puts_nothing, keeper_puts_in_turn};
@@ -63,7 +61,7 @@ impl OpenLine {
         OpenLine {
             start: self.start,
             key_end: if missing == 0 { self.key_end } else { end },
-            missing: Some(missing_after(missing, word)),
+            missing: Some(missing.saturating_sub(1)),
             has_word: !is_empty_value(word) || self.has_word,
         }
     }
@@ -76,28 +74,6 @@ impl OpenLine {
             len: end.saturating_sub(self.start),
             key: self.key_end.saturating_sub(self.start),
         }
-    }
-}
-
-/// Returns how many words are still to come of a key after a word of its line, if so many were to
-/// come before it. If the last word of a key is `reservation`, its two numbers follow.
-fn missing_after(missing: usize, word: Field) -> usize
-    ensures { result ≡ missing_words missing (field_of word.entry) }
-{
-    if missing == 1 && is_reservation(word) {
-        2
-    } else {
-        missing.saturating_sub(1)
-    }
-}
-
-/// Returns whether a word is the text `reservation`.
-fn is_reservation(word: Field) -> bool
-    ensures { result ≡ is_reservation_word (field_of word.entry) }
-{
-    match word {
-        Field::Text(word) => word == b"reservation".as_slice(),
-        _ => false,
     }
 }
 
@@ -115,7 +91,7 @@ fn words_of_key(first: Field) -> usize
 fn words_of_key_of(word: &[u8]) -> usize
     ensures { result ≡ words_of_key_named word.now }
 {
-    if word == b"property".as_slice() || word == b"inside".as_slice() {
+    if word == b"property".as_slice() || word == b"reservation".as_slice() {
         return 3;
     }
     if word == b"node".as_slice() || word == b"payload".as_slice() || word == b"part".as_slice() {

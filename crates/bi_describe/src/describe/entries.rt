@@ -1,5 +1,7 @@
 //! What the lines of a flattened image tree's nodes are made from.
 
+use super::image_payload::ImagePayload;
+
 /// A payload, or a part of a legacy image, by its size and its SHA-256.
 #[derive(Clone, Copy)]
 pub(crate) struct PayloadDigest {
@@ -13,7 +15,7 @@ pub(crate) enum Entry<'a> {
     /// A node of this name begins.
     Begin(&'a [u8]),
     /// The payload of the innermost open node, an image node, if it has one.
-    Payload(Option<PayloadDigest>),
+    Payload(ImagePayload<'a>),
     /// The properties of the innermost open node begin.
     Properties,
     /// A property of the innermost open node.

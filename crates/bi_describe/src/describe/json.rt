@@ -10,11 +10,14 @@ ghost use Rattle.bi_describe.specs.ReadDescription.{processor_members, read_toke
 ghost use Rattle.bi_describe.specs.DescriptionJson.{digest_object, payload_or_null};
 ghost use Rattle.bi_describe.specs.DescriptionJson.{property_object, value_member};
 ghost use Rattle.bi_describe.specs.EntryTokens.{entry_tokens, root_tokens};
-ghost use Rattle.bi_describe.specs.TreeEntries.{as_entry, digest_made};
+ghost use Rattle.bi_describe.specs.ImagePayloads.{bytes_of_payload};
+ghost use Rattle.bi_describe.specs.MadeDigests.{digest_made};
+ghost use Rattle.bi_describe.specs.TreeEntries.{as_entry};
 ghost use Rattle.bi_describe.specs.TreeEntries.{NodeBegins, NodeEnds, PayloadEntry};
 ghost use Rattle.bi_describe.specs.TreeEntries.{PropertiesBegin, PropertyEntry, ChildrenBegin};
 
 use super::entries::{Entry, PayloadDigest};
+use super::image_payload::ImagePayload;
 use bi_common::common_lines::put_reservations;
 use bi_common::fields::{Field, are_quotable_texts};
 use bi_common::json_writer::{
@@ -35,7 +38,7 @@ pub(super) fn put_fit<J: JsonPen>(blob: &Blob, entries: &[Entry], json: &mut J)
 }
 
 /// Puts the members of the kind and of the boot processor.
-pub(super) fn put_processor_members<J: JsonPen>(blob: &Blob, json: &mut J)
+fn put_processor_members<J: JsonPen>(blob: &Blob, json: &mut J)
     ensures { J.puts json.old (member_tokens (processor_members blob.now.cpu)) json.new }
 {
     let members = [
@@ -46,7 +49,7 @@ pub(super) fn put_processor_members<J: JsonPen>(blob: &Blob, json: &mut J)
 }
 
 /// Puts the member of the memory reservations.
-pub(super) fn put_reservations_member<J: JsonPen>(blob: &Blob, json: &mut J)
+fn put_reservations_member<J: JsonPen>(blob: &Blob, json: &mut J)
     ensures { J.puts json.old (member_tokens (reservations_member blob.now.reservations ∷ []))
         json.new }
 {
@@ -57,7 +60,7 @@ pub(super) fn put_reservations_member<J: JsonPen>(blob: &Blob, json: &mut J)
 }
 
 /// Puts the member of the root of a tree with these entries.
-pub(super) fn put_root<J: JsonPen>(entries: &[Entry], json: &mut J)
+fn put_root<J: JsonPen>(entries: &[Entry], json: &mut J)
     ensures { J.puts json.old (root_tokens (map as_entry entries.now)) json.new }
 {
     json.put(JsonToken::Name("root"));
@@ -76,12 +79,12 @@ fn put_entries<J: JsonPen>(entries: &[Entry], json: &mut J)
 }
 
 /// Puts the tokens of an entry.
-pub(super) fn put_entry<J: JsonPen>(entry: Entry, json: &mut J)
+fn put_entry<J: JsonPen>(entry: Entry, json: &mut J)
     ensures { J.puts json.old (entry_tokens (as_entry entry.entry)) json.new }
 {
     match entry {
         Entry::Begin(name) => put_begin(name, json),
-        Entry::Payload(digest) => put_payload(digest, json),
+        Entry::Payload(payload) => put_payload(payload, json),
         Entry::Properties => put_properties_begin(json),
         Entry::Property { name, value } => put_property(name, value, json),
         Entry::Children => put_children_begin(json),
@@ -90,7 +93,7 @@ pub(super) fn put_entry<J: JsonPen>(entry: Entry, json: &mut J)
 }
 
 /// Puts what begins a node of this name.
-pub(super) fn put_begin<J: JsonPen>(name: &[u8], json: &mut J)
+fn put_begin<J: JsonPen>(name: &[u8], json: &mut J)
     ensures { J.puts json.old (entry_tokens (NodeBegins name.now)) json.new }
 {
     json.put(JsonToken::BeginObject);
@@ -98,16 +101,16 @@ pub(super) fn put_begin<J: JsonPen>(name: &[u8], json: &mut J)
 }
 
 /// Puts the member of the payload of an image node, if it has one.
-pub(super) fn put_payload<J: JsonPen>(digest: Option<PayloadDigest>, json: &mut J)
-    ensures { J.puts json.old (entry_tokens (PayloadEntry (option_map digest_made digest)))
+fn put_payload<J: JsonPen>(payload: ImagePayload, json: &mut J)
+    ensures { J.puts json.old (entry_tokens (PayloadEntry (bytes_of_payload payload.entry)))
         json.new }
 {
     json.put(JsonToken::Name("payload"));
-    put_payload_value(digest, json);
+    put_payload_value(payload.digest, json);
 }
 
 /// Puts the size and the SHA-256 of a payload, or `null` if there is none.
-pub(super) fn put_payload_value<J: JsonPen>(digest: Option<PayloadDigest>, json: &mut J)
+fn put_payload_value<J: JsonPen>(digest: Option<PayloadDigest>, json: &mut J)
     ensures { J.puts json.old (json_tokens (payload_or_null (option_map digest_made digest)))
         json.new }
 {
@@ -146,7 +149,7 @@ fn put_children_begin<J: JsonPen>(json: &mut J)
 }
 
 /// Puts what ends the children of a node, and the node.
-pub(super) fn put_end<J: JsonPen>(json: &mut J)
+fn put_end<J: JsonPen>(json: &mut J)
     ensures { J.puts json.old (entry_tokens NodeEnds) json.new }
 {
     json.put(JsonToken::EndArray);
@@ -186,12 +189,4 @@ fn put_strings<J: JsonPen>(value: &[u8], json: &mut J)
         put_value(JsonValue::String(Field::Text(text)), json);
         rest = later;
     }
-}
-
-/// Puts the member of the boot processor of a devicetree.
-pub(super) fn put_processor<J: JsonPen>(blob: &Blob, json: &mut J) {
-    put_member(
-        ("boot_cpu", JsonValue::Number(u64::from(blob.boot_cpu()))),
-        json,
-    );
 }

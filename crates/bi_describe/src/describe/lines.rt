@@ -1,19 +1,21 @@
 //! The lines of a tree, put to a pen.
 
 ghost use Rattle.std.specs.Prelude.{◌≡◌, ◌≤◌, ◌<◌, ◌+◌, ◌^◌, [], length, map, max, take};
-ghost use Rattle.std.specs.Option.{option_map};
 ghost use Rattle.bi_common.specs.LineTokens.{line_tokens, tokens_of_lines};
-ghost use Rattle.bi_common.specs.MadeFields.{bytes_of_names, field_of};
+ghost use Rattle.bi_common.specs.MadeFields.{bytes_of_names};
 ghost use Rattle.bi_describe.specs.ReadDescription.{root_lines};
-ghost use Rattle.bi_describe.specs.Descriptions.{OfImage, node_line_at, payload_lines_at};
-ghost use Rattle.bi_describe.specs.Descriptions.{property_line_at};
-ghost use Rattle.bi_describe.specs.TreeEntries.{as_entry, digest_made, entry_lines};
-ghost use Rattle.bi_describe.specs.TreeEntries.{lines_of_entry_at};
+ghost use Rattle.std.specs.Option.{option_map};
+ghost use Rattle.bi_describe.specs.ComparedNodes.{ImageWith, described_payload};
+ghost use Rattle.bi_describe.specs.Descriptions.{OfImage, node_line, payload_lines, property_line};
+ghost use Rattle.bi_describe.specs.ImagePayloads.{bytes_of_payload};
+ghost use Rattle.bi_describe.specs.MadeDigests.{digest_made};
+ghost use Rattle.bi_describe.specs.TreeEntries.{entry_lines, lines_of_entry, as_entry};
 ghost use Rattle.bi_describe.specs.TreeEntries.{count_after as count_after_of};
 ghost use Rattle.bi_describe.specs.TreeEntries.{most_open as most_open_of};
 ghost use Rattle.bi_describe.specs.TreeEntries.{open_after as open_after_of};
 
 use super::entries::{Entry, PayloadDigest};
+use super::image_payload::ImagePayload;
 use bi_common::fields::Field;
 use bi_common::lines::{LinePen, put_line};
 
@@ -57,7 +59,7 @@ pub(super) fn put_tree<'a, L: LinePen>(entries: &[Entry<'a>], names: &mut [&'a [
     ensures put { L.puts pen.old (tokens_of_lines (root_lines (map as_entry entries.now))) pen.new }
     ensures room { length names.new ≡ length names.old }
 {
-    put_node(Field::Path(&[]), pen);
+    put_node(&[], pen);
     put_entries(entries, names, pen);
 }
 
@@ -72,7 +74,7 @@ fn put_entries<'a, L: LinePen>(entries: &[Entry<'a>], names: &mut [&'a [u8]], pe
     let mut open = 0;
     for entry in entries {
         open = open_after(*entry, names, open);
-        put_entry(*entry, Field::Path(&names[..open]), pen);
+        put_entry(*entry, &names[..open], pen);
     }
 }
 
@@ -96,40 +98,35 @@ pub(super) fn open_after<'a>(entry: Entry<'a>, names: &mut [&'a [u8]], count: us
     }
 }
 
-/// Puts the line of an entry, if it has one. The innermost node that is open after it has this path.
-pub(super) fn put_entry<'a, 'b, L: LinePen>(entry: Entry<'a>, path: Field<'a, 'b>, pen: &mut L)
+/// Puts the line of an entry, if it has one. These are the names of the open nodes.
+fn put_entry<'a, L: LinePen>(entry: Entry<'a>, names: &[&'a [u8]], pen: &mut L)
     ensures { L.puts pen.old (tokens_of_lines
-        (lines_of_entry_at (field_of path.entry) (as_entry entry.entry))) pen.new }
+        (lines_of_entry (bytes_of_names names.now) (as_entry entry.entry))) pen.new }
 {
     match entry {
-        Entry::Begin(_) => put_node(path, pen),
-        Entry::Payload(digest) => put_payload(path, digest, pen),
-        Entry::Property { name, value } => put_property(path, name, value, pen),
+        Entry::Begin(_) => put_node(names, pen),
+        Entry::Payload(payload) => put_payload(names, payload, pen),
+        Entry::Property { name, value } => put_property(names, name, value, pen),
         _ => {}
     }
 }
 
 /// Puts the line of a node.
-pub(super) fn put_node<L: LinePen>(path: Field, pen: &mut L)
-    ensures { L.puts pen.old (line_tokens (node_line_at (field_of path.entry))) pen.new }
+fn put_node<L: LinePen>(names: &[&[u8]], pen: &mut L)
+    ensures { L.puts pen.old (line_tokens (node_line (bytes_of_names names.now))) pen.new }
 {
-    put_line(&[Field::Text(b"node"), path], pen);
+    put_line(&[Field::Text(b"node"), Field::Path(names)], pen);
 }
 
 /// Puts the line of a property.
-fn put_property<'a, 'b, L: LinePen>(
-    path: Field<'a, 'b>,
-    name: &'a [u8],
-    value: &'a [u8],
-    pen: &mut L,
-)
-    ensures { L.puts pen.old (line_tokens (property_line_at (field_of path.entry)
-        (name.entry.now, value.entry.now))) pen.new }
+fn put_property<'a, L: LinePen>(names: &[&'a [u8]], name: &'a [u8], value: &'a [u8], pen: &mut L)
+    ensures { L.puts pen.old (line_tokens
+        (property_line (bytes_of_names names.now) (name.entry.now, value.entry.now))) pen.new }
 {
     put_line(
         &[
             Field::Text(b"property"),
-            path,
+            Field::Path(names),
             Field::Shown(name),
             Field::Value(value),
         ],
@@ -138,12 +135,21 @@ fn put_property<'a, 'b, L: LinePen>(
 }
 
 /// Puts the line of a payload.
-pub(super) fn put_payload<L: LinePen>(path: Field, digest: Option<PayloadDigest>, pen: &mut L)
+fn put_payload<L: LinePen>(names: &[&[u8]], payload: ImagePayload, pen: &mut L)
+    ensures { L.puts pen.old (tokens_of_lines (payload_lines (bytes_of_names names.now)
+        (described_payload (ImageWith (bytes_of_payload payload.entry))))) pen.new }
+{
+    put_digest(names, payload.digest, pen);
+}
+
+/// Puts the line of a payload of this size and SHA-256.
+fn put_digest<L: LinePen>(names: &[&[u8]], digest: Option<PayloadDigest>, pen: &mut L)
     ensures { L.puts pen.old (tokens_of_lines
-        (payload_lines_at (field_of path.entry) (OfImage (option_map digest_made digest))))
+        (payload_lines (bytes_of_names names.now) (OfImage (option_map digest_made digest))))
         pen.new }
 {
     let payload = Field::Text(b"payload");
+    let path = Field::Path(names);
     match digest {
         Some(digest) => {
             let words = [

@@ -1,0 +1,213 @@
+//! Words with a path, for what is ignored.
+
+ghost use Rattle.std.specs.Prelude.{◌≡◌, ◌≢◌, ◌==◌, ◌++◌, ◌∷◌, IfOk, IfErr, IfSome, IfNone};
+ghost use Rattle.std.specs.Prelude.{ℕ, None, false};
+ghost use Rattle.std.specs.List.{AllByRecursion, position};
+ghost use Rattle.bi_base.specs.declared.fault.Error.TheVariants.{OutOfMemory};
+ghost use Rattle.bi_describe.specs.IgnoredWords.{IsNoWordWithPath, IsWordWithPath};
+ghost use Rattle.bi_describe.specs.MadeWords.{ignored_word, node_place, payload_place};
+ghost use Rattle.bi_describe.specs.WordParts.{IsNoNumber, IsNoPart, IsNoPayload, IsNoPlace};
+ghost use Rattle.bi_describe.specs.WordParts.{IsShownNumber, IsShownPart, IsShownPayload};
+ghost use Rattle.bi_describe.specs.WordParts.{IsShownPlace, IsSplit, has_two_slashes};
+
+use super::{Ignored, NodePlace, PayloadPlace, TreePlace};
+use bi_base::{Error, MemoryPen};
+use bi_common::fields::put_decimal;
+use bi_values::paths::{child_name_shown_as, path_shown_as, property_name_shown_as};
+use std::alloc::Global;
+
+/// Returns what a word with a path leaves out. Returns None if the text is no such word. Fails if
+/// memory runs out.
+pub(super) fn path_word(alloc: Global, text: &[u8]) -> Result<Option<Ignored>, Error>
+    ensures some { IfOk result (λ found. IfSome found (λ word.
+        IsWordWithPath text.now (ignored_word word))) }
+    ensures none { IfOk result (λ found. IfNone found (IsNoWordWithPath text.now)) }
+    ensures failed { IfErr result (λ error. error ≡ OutOfMemory) }
+{
+    match position_of_space(text) {
+        Some(space) => property_word(alloc, &text[..space], &text[space + 1..]),
+        None => node_word(alloc, text),
+    }
+}
+
+/// Returns what a word leaves out: a part, or a node. Returns None if the text is no word with a
+/// path. Fails if memory runs out. Requires: it has no space.
+fn node_word(alloc: Global, text: &[u8]) -> Result<Option<Ignored>, Error>
+    requires { position (λ byte. byte == 32) text.now ≡ None }
+    ensures some { IfOk result (λ found. IfSome found (λ word.
+        IsWordWithPath text.now (ignored_word word))) }
+    ensures none { IfOk result (λ found. IfNone found (IsNoWordWithPath text.now)) }
+    ensures failed { IfErr result (λ error. error ≡ OutOfMemory) }
+{
+    if let Some(index) = part_shown_as(alloc, text)? {
+        return Ok(Some(Ignored::Part(index)));
+    }
+    match node_shown_as(alloc, text)? {
+        Some(place) => Ok(Some(Ignored::Node(place))),
+        None => Ok(None),
+    }
+}
+
+/// Returns what the word leaves out that consists of these texts with a space between them: a
+/// property. Returns None if that is no word with a path. Fails if memory runs out. Requires: the
+/// first text has no space.
+fn property_word(alloc: Global, path: &[u8], name: &[u8]) -> Result<Option<Ignored>, Error>
+    requires { AllByRecursion (λ byte. byte ≢ 32) path.now }
+    ensures some { IfOk result (λ found. IfSome found (λ word.
+        IsWordWithPath (path.now ++ (32 ∷ name.now)) (ignored_word word))) }
+    ensures none { IfOk result (λ found. IfNone found
+        (IsNoWordWithPath (path.now ++ (32 ∷ name.now)))) }
+    ensures failed { IfErr result (λ error. error ≡ OutOfMemory) }
+{
+    let Some(place) = node_shown_as(alloc, path)? else {
+        return Ok(None);
+    };
+    match property_name_shown_as(alloc, name)? {
+        Some(name) => Ok(Some(Ignored::Property(place, name))),
+        None => Ok(None),
+    }
+}
+
+/// Returns the index of the first space, if there is one.
+fn position_of_space(text: &[u8]) -> Option<usize>
+    ensures { result ≡ position (λ byte. byte == 32) text.now }
+{
+    text.iter().position(|&byte| byte == b' ')
+}
+
+/// Returns the node with this path as it is printed. Returns None if the text is the path of no
+/// node. Fails if memory runs out.
+fn node_shown_as(alloc: Global, text: &[u8]) -> Result<Option<NodePlace>, Error>
+    ensures some { IfOk result (λ found. IfSome found (λ place.
+        IsShownPlace text.now (node_place place))) }
+    ensures none { IfOk result (λ found. IfNone found (IsNoPlace text.now)) }
+    ensures failed { IfErr result (λ error. error ≡ OutOfMemory) }
+{
+    match split_at_two_slashes(text) {
+        Some((payload, path)) => inner_node(alloc, payload, path),
+        None => own_node(alloc, text),
+    }
+}
+
+/// Returns the node of the image itself with this path. Returns None if the text is the path of no
+/// node. Fails if memory runs out. Requires: it has no two slashes one after the other.
+fn own_node(alloc: Global, path: &[u8]) -> Result<Option<NodePlace>, Error>
+    requires { has_two_slashes path.now ≡ false }
+    ensures some { IfOk result (λ found. IfSome found (λ place.
+        IsShownPlace path.now (node_place place))) }
+    ensures none { IfOk result (λ found. IfNone found (IsNoPlace path.now)) }
+    ensures failed { IfErr result (λ error. error ≡ OutOfMemory) }
+{
+    match path_shown_as(alloc, path)? {
+        Some(names) => Ok(Some(NodePlace {
+            tree: TreePlace::Itself,
+            names,
+        })),
+        None => Ok(None),
+    }
+}
+
+/// Returns the node with this path, inside the payload with that path. Returns None if there is no
+/// such node. Fails if memory runs out. Requires: these are the parts of a text that is split at
+/// its first two slashes one after the other.
+fn inner_node(alloc: Global, payload: &[u8], path: &[u8]) -> Result<Option<NodePlace>, Error>
+    requires { IsSplit (payload.now ++ (47 ∷ path.now)) payload.now path.now }
+    ensures some { IfOk result (λ found. IfSome found (λ place.
+        IsShownPlace (payload.now ++ (47 ∷ path.now)) (node_place place))) }
+    ensures none { IfOk result (λ found. IfNone found
+        (IsNoPlace (payload.now ++ (47 ∷ path.now)))) }
+    ensures failed { IfErr result (λ error. error ≡ OutOfMemory) }
+{
+    let Some(payload) = payload_shown_as(alloc, payload)? else {
+        return Ok(None);
+    };
+    match path_shown_as(alloc, path)? {
+        Some(names) => Ok(Some(NodePlace {
+            tree: TreePlace::Inside(payload),
+            names,
+        })),
+        None => Ok(None),
+    }
+}
+
+/// Returns the payload with this path as it is printed. Returns None if the text is the path of no
+/// payload. Fails if memory runs out.
+fn payload_shown_as(alloc: Global, text: &[u8]) -> Result<Option<PayloadPlace>, Error>
+    ensures some { IfOk result (λ found. IfSome found (λ payload.
+        IsShownPayload text.now (payload_place payload))) }
+    ensures none { IfOk result (λ found. IfNone found (IsNoPayload text.now)) }
+    ensures failed { IfErr result (λ error. error ≡ OutOfMemory) }
+{
+    if let Some(index) = part_shown_as(alloc, text)? {
+        return Ok(Some(PayloadPlace::Part(index)));
+    }
+    let Some(name) = text.strip_prefix(b"/images/".as_slice()) else {
+        return Ok(None);
+    };
+    match child_name_shown_as(alloc, name)? {
+        Some(name) => Ok(Some(PayloadPlace::Image(name))),
+        None => Ok(None),
+    }
+}
+
+/// Returns what is before the first two slashes one after the other, and the text from the second
+/// of them on. Returns None if there are no such slashes.
+fn split_at_two_slashes(text: &[u8]) -> Option<(&[u8], &[u8])>
+    ensures some { IfSome result (λ split. IsSplit text.now split.0.now split.1.now) }
+    ensures none { IfNone result (has_two_slashes text.now ≡ false) }
+{
+    let mut end = 0;
+    while end + 1 < text.len() {
+        if text[end] == b'/' && text[end + 1] == b'/' {
+            return Some((&text[..end], &text[end + 1..]));
+        }
+        end += 1;
+    }
+    None
+}
+
+/// Returns the index of the part with this path: `part-` and the index in decimal digits. Returns
+/// None if the text is the path of no part. Fails if memory runs out.
+fn part_shown_as(alloc: Global, text: &[u8]) -> Result<Option<u64>, Error>
+    ensures some { IfOk result (λ found. IfSome found (IsShownPart text.now)) }
+    ensures none { IfOk result (λ found. IfNone found (IsNoPart text.now)) }
+    ensures failed { IfErr result (λ error. error ≡ OutOfMemory) }
+{
+    match text.strip_prefix(b"part-".as_slice()) {
+        Some(digits) => number_shown_as(alloc, digits),
+        None => Ok(None),
+    }
+}
+
+/// Returns the number below 2^64 that is printed as these decimal digits. Returns None if none is.
+/// Fails if memory runs out.
+fn number_shown_as(alloc: Global, digits: &[u8]) -> Result<Option<u64>, Error>
+    ensures some { IfOk result (λ found. IfSome found (IsShownNumber digits.now)) }
+    ensures none { IfOk result (λ found. IfNone found (IsNoNumber digits.now)) }
+    ensures failed { IfErr result (λ error. error ≡ OutOfMemory) }
+{
+    let Some(number) = number_of_digits(digits) else {
+        return Ok(None);
+    };
+    let mut pen = MemoryPen::new(alloc);
+    put_decimal(number, &mut pen);
+    let shown = pen.into_vec()?;
+    Ok(if shown.as_slice() == digits {
+        Some(number)
+    } else {
+        None
+    })
+}
+
+/// Returns the number of these decimal digits, before which zeros or a plus may be. Returns None if
+/// the text is of another form, or the number is too great.
+fn number_of_digits(digits: &[u8]) -> Option<u64>
+    ensures none { IfNone result (IsNoNumber digits.now) }
+    ensures some { IfSome result (λ found. (number : ℕ) → IsShownNumber digits.now number
+        → number ≡ found) }
+{
+    let Ok(text) = str::from_utf8(digits) else {
+        return None;
+    };
+    text.parse::<u64>().ok()
+}
