@@ -1,6 +1,11 @@
 pub mod DescribedImages
+pub mod ComparedTrees
 pub mod EntryLines
 pub mod TreeLines
+pub mod KeptNodes
+pub mod LinesThatStay
+pub mod EntriesApart
+pub mod KeptImageFacts
 pub mod EntryTokens
 pub mod PayloadSizes
 pub mod ShownNodes
