@@ -118,7 +118,7 @@ both_fit image other content other_content is other_is = of_two (meaning_of imag
     (OfFit (tree_of other_content)) (ap meaning_of is) (ap meaning_of other_is) (two_fit (tree_of content) (tree_of other_content))
 
 -- The text of lines is not empty.
-some_text : (line : SignedLine) (later : List SignedLine) → text_of_differences (line ∷ later) ≢ []
+pub some_text : (line : SignedLine) (later : List SignedLine) → text_of_differences (line ∷ later) ≢ []
 some_text line later empty = absurd (omega (
   arith,
   ap length empty,
@@ -127,7 +127,7 @@ some_text line later empty = absurd (omega (
   length-append line.text (10 ∷ []),
 ))
 
-some_or : (lines : List SignedLine) (line : SignedLine) → text_of_differences (lines_or lines line) ≢ []
+pub some_or : (lines : List SignedLine) (line : SignedLine) → text_of_differences (lines_or lines line) ≢ []
 some_or [] line = some_text line []
 some_or (first ∷ later) line = some_text first later
 

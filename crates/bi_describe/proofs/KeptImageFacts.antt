@@ -1,10 +1,8 @@
 use Rattle.std.proofs.Common.{◌≡◌, ◌↔◌, ◌∙◌, ℕ, List, [], Option, map, refl, sym, ap}
 use Rattle.std.specs.Option.{option_map}
 use Rattle.bi_legacy.specs.Meaning.{LegacyImage, image_of}
-use Rattle.bi_describe.specs.declared.describe.kept.KeptImage as made
-use Rattle.bi_describe.specs.declared.describe.kept.KeptImage.TheVariants.{Legacy, Fit}
-use Rattle.bi_describe.specs.declared.describe.kept.legacy.KeptLegacy as made
-use Rattle.bi_describe.specs.declared.describe.kept.tree.KeptFit as made
+use Rattle.bi_describe.specs.declared.describe.kept.legacy.KeptLegacy.{KeptLegacy}
+use Rattle.bi_describe.specs.declared.describe.kept.tree.KeptFit.{KeptFit}
 use Rattle.bi_describe.specs.KeptEntries.{root_entries}
 use Rattle.bi_describe.specs.KeptImages.{IsKept, IsKeptLegacy, IsKeptTree, numbered_part}
 use Rattle.bi_describe.specs.ReducedMeanings.{OfReducedLegacy, OfReducedTree, ReducedLegacy, ReducedMeaning, ReducedTree, fields_alone}
@@ -14,13 +12,13 @@ use Rattle.bi_describe.proofs.EntriesApart.{roots_apart}
 -- What stays of two images is the same if and only if it is for the code.
 
 -- What the code compares of legacy images,
-abbrev pub AreSameLegacy : (one other : made.KeptLegacy) → Type 0
+abbrev pub AreSameLegacy : (one other : KeptLegacy) → Type 0
 AreSameLegacy one other =
     (fields_alone (image_of one.fields []) ≡ fields_alone (image_of other.fields []))
     × (one.time ≡ other.time)
     × (map numbered_part one.parts.items ≡ map numbered_part other.parts.items)
 
-pub legacy_same : (image others : ReducedLegacy) (one other : made.KeptLegacy) → IsKeptLegacy image one → IsKeptLegacy others other →
+pub legacy_same : (image others : ReducedLegacy) (one other : KeptLegacy) → IsKeptLegacy image one → IsKeptLegacy others other →
     AreSameLegacy one other ↔ (image ≡ others)
 legacy_same image others one other is also = (
   (λ same. (λ i. record {
@@ -36,13 +34,13 @@ legacy_same image others one other is also = (
 )
 
 -- and of trees.
-abbrev pub AreSameTrees : (one other : made.KeptFit) → Type 0
+abbrev pub AreSameTrees : (one other : KeptFit) → Type 0
 AreSameTrees one other =
     (one.blob.now.cpu ≡ other.blob.now.cpu)
     × (one.blob.now.reservations ≡ other.blob.now.reservations)
     × (option_map (λ entries. map as_entry entries.items) one.entries ≡ option_map (λ entries. map as_entry entries.items) other.entries)
 
-pub trees_same : (tree others : ReducedTree) (one other : made.KeptFit) → IsKeptTree tree one → IsKeptTree others other →
+pub trees_same : (tree others : ReducedTree) (one other : KeptFit) → IsKeptTree tree one → IsKeptTree others other →
     AreSameTrees one other ↔ (tree ≡ others)
 trees_same tree others one other is also = (
   (λ same. (λ i. record {

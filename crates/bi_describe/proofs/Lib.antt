@@ -6,6 +6,16 @@ pub mod KeptNodes
 pub mod LinesThatStay
 pub mod EntriesApart
 pub mod KeptImageFacts
+pub mod WordTexts
+pub mod MatchingWords
+pub mod SameLists
+pub mod PartLists
+pub mod KeptComparisons
+pub mod FurtherWords
+pub mod DescribedLines
+pub mod NothingLeftOut
+pub mod IgnoredFacts
+pub mod ValueWords
 pub mod EntryTokens
 pub mod PayloadSizes
 pub mod ShownNodes

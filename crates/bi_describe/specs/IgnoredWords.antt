@@ -1,7 +1,7 @@
 use Rattle.std.specs.Prelude.{◌≡◌, ◌≢◌, ◌⊎◌, ⊤, ℕ, ◌^◌, ◌<◌, ◌==◌, List, [], ◌∷◌, ◌++◌, codes}
-use Rattle.std.specs.Prelude.{length, take}
+use Rattle.std.specs.Prelude.{get_or, length, take}
 use Rattle.std.specs.Fmt.{decimal}
-use Rattle.std.specs.List.{AllByRecursion, AllZip, get_or, slice_split}
+use Rattle.std.specs.List.{AllByRecursion, AllZip, slice_split}
 use Rattle.bi_fit.specs.Names.{images_name}
 use Rattle.bi_common.specs.Shown.{path, shown_text}
 use Rattle.bi_values.specs.ValueNames.{IsChildNameOfBytes, IsNodePath, IsPropertyNameOfBytes}

@@ -42,9 +42,9 @@ abbrev pub kept_entries : List Ignored → (names : List (List ℕ)) → (skippe
     → List EntryModel → List EntryModel
 kept_entries words names skipped [] = []
 kept_entries words names skipped (entry ∷ later) =
-    let open : List (List ℕ) = open_after names entry in
-    kept_entry words open skipped entry
-    ++ kept_entries words open (skipped_after words open skipped entry) later
+    let now : List (List ℕ) = open_after names entry in
+    kept_entry words now skipped entry
+    ++ kept_entries words now (skipped_after words now skipped entry) later
 
 -- The entries of a tree, if there is one.
 abbrev pub root_entries : Option (Root ComparedNode) → Option (List EntryModel)

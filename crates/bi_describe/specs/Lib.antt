@@ -13,6 +13,7 @@ pub mod EntryTokens
 pub mod Ignoring
 pub mod IgnoredErrors
 pub mod IgnoredWords
+pub mod IgnoringLaws
 pub mod ImagePayloads
 pub mod JsonLaws
 pub mod KeptEntries
@@ -20,6 +21,7 @@ pub mod KeptLines
 pub mod KnownDescribedFiles
 pub mod KnownDescriptions
 pub mod KnownDifferences
+pub mod KnownIgnored
 pub mod KnownRefusals
 pub mod LineKeeping
 pub mod LineMarks

@@ -97,14 +97,14 @@ pub record HasImages (IsOwn : PropertyMap → Type 0) (nodes : Nodes PropertyMap
   pub apart : AllZip IsApart (each_own images) payloads
 
 -- The first of them has the image nodes as its children, or the image nodes are in the later ones.
-data ImagesIn (IsOwn : PropertyMap → Type 0) (name : List ℕ) (own : PropertyMap) (children later : Nodes PropertyMap)
+pub data ImagesIn (IsOwn : PropertyMap → Type 0) (name : List ℕ) (own : PropertyMap) (children later : Nodes PropertyMap)
     (payloads : List (Option (List ℕ))) : Type 0 where
   InFirst : bytes_eq name images_name ≡ true → AllZip IsApart (each_own children) payloads →
       AllByRecursion (λ name. name ≢ images_name) (names later) → ImagesIn IsOwn name own children later payloads
   InLater : bytes_eq name images_name ≡ false → HasImages IsOwn later payloads → ImagesIn IsOwn name own children later payloads
 
 -- They are in one of the two.
-images_in : (IsOwn : PropertyMap → Type 0) (name : List ℕ) (own : PropertyMap) (children later : Nodes PropertyMap)
+pub images_in : (IsOwn : PropertyMap → Type 0) (name : List ℕ) (own : PropertyMap) (children later : Nodes PropertyMap)
     (payloads : List (Option (List ℕ))) → HasImages IsOwn (node name own children later) payloads →
     ImagesIn IsOwn name own children later payloads
 images_in IsOwn name own children later payloads has = where_first (bytes_eq name images_name) refl

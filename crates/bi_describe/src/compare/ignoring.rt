@@ -46,9 +46,9 @@ pub(super) fn compare_kept(
     requires ascii { IsKeptAscii image.now }
     requires other_ascii { IsKeptAscii other.now }
     ensures { IfOk result (λ comparison. (meaning other_meaning : Meaning)
-        → IsKept (reduced (ignored_words options.words.now) meaning) image.now
-        → IsKept (reduced (ignored_words options.words.now) other_meaning) other.now
-        → IsComparisonWithout (ignoring_model options) meaning other_meaning comparison.same
+        → IsKept (reduced (ignored_words options.entry.words.now) meaning) image.now
+        → IsKept (reduced (ignored_words options.entry.words.now) other_meaning) other.now
+        → IsComparisonWithout (ignoring_model options.entry) meaning other_meaning comparison.same
         (string_bytes comparison.differences)) }
 {
     let same = image.is_same(other);

@@ -206,8 +206,8 @@ fn number_of_digits(digits: &[u8]) -> Option<u64>
     ensures some { IfSome result (λ found. (number : ℕ) → IsShownNumber digits.now number
         → number ≡ found) }
 {
-    let Ok(text) = str::from_utf8(digits) else {
-        return None;
-    };
-    text.parse::<u64>().ok()
+    match str::from_utf8(digits) {
+        Ok(text) => text.parse::<u64>().ok(),
+        Err(_) => None,
+    }
 }

@@ -1,0 +1,25 @@
+//! Small boot images with what stays of them once something is ignored, and words for that. Each
+//! function does nothing: what it ensures is a fact about the definitions.
+
+ghost use Rattle.bi_describe.specs.KnownIgnored.{IgnoredWordsAreKnown, LegacyThatStaysIsKnown};
+ghost use Rattle.bi_describe.specs.KnownIgnored.{SameWithoutIsKnown, TreesThatStayAreKnown};
+
+/// The lines that stay of a small flattened image tree are known texts.
+pub fn trees_that_stay_are_known()
+    ensures { TreesThatStayAreKnown }
+{}
+
+/// The lines that stay of a small legacy image are known texts.
+pub fn legacy_that_stays_is_known()
+    ensures { LegacyThatStaysIsKnown }
+{}
+
+/// It is known of small images whether they are the same without something.
+pub fn same_without_is_known()
+    ensures { SameWithoutIsKnown }
+{}
+
+/// Known values are for known words, and others are for none.
+pub fn ignored_words_are_known()
+    ensures { IgnoredWordsAreKnown }
+{}
