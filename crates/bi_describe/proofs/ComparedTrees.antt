@@ -1,8 +1,9 @@
 use Rattle.std.proofs.Common.{◌≡◌, ℕ, Bool, true, false, cond, List, [], ◌∷◌, Option, bytes_eq, refl, ap₂}
+use Rattle.std.specs.Option.{option_map}
 use Rattle.bi_blob.specs.Tree.{Nodes, none, node, PropertyMap, with_each}
 use Rattle.bi_fit.specs.Names.{images_name}
 use Rattle.bi_describe.specs.ComparedNodes.{ComparedNode, compared_children, compared_images, compared_nodes, described_node, plain_compared}
-use Rattle.bi_describe.specs.Descriptions.{DescribedNode, described_children, described_images, described_nodes, plain_node}
+use Rattle.bi_describe.specs.Descriptions.{DescribedNode, OfImage, described_children, described_images, described_nodes, digest_of_payload, plain_node}
 
 -- The nodes of a tree as they are compared are described as in a description.
 
@@ -20,7 +21,8 @@ images_described : (nodes : Nodes PropertyMap) (payloads : List (Option (List �
 images_described none payloads = refl
 images_described (node name own children later) [] = refl
 images_described (node name own children later) (payload ∷ payloads) =
-    ap₂ (node name _) (plain_described children) (images_described later payloads)
+    ap₂ (node name (record { properties = own; payload = OfImage (option_map digest_of_payload payload) })) (plain_described children)
+    (images_described later payloads)
 
 children_described : (name : List ℕ) (children : Nodes PropertyMap) (payloads : List (Option (List ℕ))) →
     as_described (compared_children name children payloads) ≡ described_children name children payloads

@@ -1,9 +1,10 @@
-use Rattle.std.proofs.Common.{◌≡◌, ℕ, ◌-◌, List, [], ◌∷◌, ◌++◌, take, length, map, refl, sym, ap, ◌∙◌, arith, append_assoc}
+use Rattle.std.proofs.Common.{◌≡◌, ℕ, ◌-◌, List, [], ◌∷◌, ◌++◌, Option, None, Some, take, length, map, refl, sym, ap, ap₂, ◌∙◌, arith, append_assoc}
 use Rattle.std.proofs.Common.{append-nil, length-append}
 use Rattle.std.specs.FinMap.{entries}
 use Rattle.std.proofs.lemmas.Grind.{flat_map-append}
 use Rattle.std.proofs.lemmas.List.{take-append-le}
 use Rattle.std.proofs.Math.Seq.{take-length}
+use Rattle.bi_blob.specs.Blob.{Reservation}
 use Rattle.bi_blob.specs.Tree.{Nodes, none, node, Property, Root}
 use Rattle.bi_fdt.specs.Content.{Blob}
 use Rattle.bi_fit.specs.ImageTree.{ImageTree}
@@ -15,7 +16,8 @@ use Rattle.bi_describe.specs.ComparedNodes.{ComparedNode, ComparedPayload, NoIma
 use Rattle.bi_describe.specs.ComparedNodes.{described_payload}
 use Rattle.bi_describe.specs.Descriptions.{DescribedNode, head_lines, described_nodes, node_line}
 use Rattle.bi_describe.specs.Descriptions.{node_lines, own_lines, plain_node}
-use Rattle.bi_describe.specs.ReducedMeanings.{compared_root}
+use Rattle.bi_describe.specs.KeptEntries.{root_entries}
+use Rattle.bi_describe.specs.ReducedMeanings.{ReducedTree, compared_root, reduced_root_lines, reduced_tree_lines}
 use Rattle.bi_describe.specs.Descriptions.{payload_lines, property_line, tree_lines}
 use Rattle.bi_describe.specs.TreeEntries.{EntryModel, NodeEnds, PropertyEntry, ChildrenBegin, entry_lines, node_entries, own_entries}
 use Rattle.bi_describe.specs.TreeEntries.{payload_entries, property_entries, tree_entries}
@@ -99,3 +101,17 @@ lines_in_parts blob entries =
     flat_map-append line_tokens (head_lines blob.cpu) (reservations ++ root_lines entries)
     ∙ ap (λ (tokens : List LineToken). tokens_of_lines (head_lines blob.cpu) ++ tokens)
     (flat_map-append line_tokens reservations (root_lines entries))
+
+-- What stays of a tree has the lines of what reading would return.
+pub reduced_lines_are : (tree : ReducedTree) (blob : Blob) (entries : List EntryModel) → blob.cpu ≡ tree.cpu →
+    blob.reservations ≡ tree.reservations → Some entries ≡ root_entries tree.root → read_lines blob entries ≡ reduced_tree_lines tree
+reduced_lines_are tree blob entries cpu reservations is =
+    ap₂ (λ (cpu : ℕ) (reservations : List Reservation). head_lines cpu ++ (map reservation_line reservations ++ root_lines entries))
+    cpu reservations
+    ∙ ap (λ (lines : List Line). head_lines tree.cpu ++ (map reservation_line tree.reservations ++ lines)) (by tree.root is)
+  where
+    by : (root : Option (Root ComparedNode)) → Some entries ≡ root_entries root → root_lines entries ≡ reduced_root_lines root
+    by None same = absurd cc
+    by (Some root) same =
+        let entries_are : entries ≡ own_entries root.own ++ node_entries root.children = cc in
+        ap root_lines entries_are ∙ lines_of_root root

@@ -63,7 +63,10 @@ impl<'a, 'b> KeptFit<'a, 'b> {
         put_head(self.blob.boot_cpu(), pen);
         put_reservation_lines(self.blob, pen);
         match &self.entries {
-            Some(entries) => put_entries(alloc, entries, pen),
+            Some(entries) => {
+                put_entries(alloc, entries, pen)?;
+                Ok(())
+            }
             None => Ok(()),
         }
     }
