@@ -13,7 +13,7 @@ use Rattle.bi_fit.proofs.FileFacts.{no_entries}
 use Rattle.bi_values.specs.ValueNames.{IsChildNameOfBytes}
 use Rattle.bi_values.proofs.Steps.{path_begins}
 use Rattle.bi_common.proofs.ReadableWords.Cuts.{begin_apart, first_same}
-use Rattle.bi_describe.specs.ComparedNodes.{ComparedNode, ImageWith, NoImage}
+use Rattle.bi_describe.specs.ComparedNodes.{ComparedNode, ComparedPayload, ImageWith, NoImage}
 use Rattle.bi_describe.specs.IgnoredWords.{AreNoPlainWords, IsBadValue, IsNoPlainWord, IsNoWordWithPath, IsPlain, IsPlainWord, ignored_text, payload_path}
 use Rattle.bi_describe.specs.IgnoredWords.{path_in, place_path}
 use Rattle.bi_describe.specs.Ignoring.{Ignored, IgnoredTime, IgnoredSignatures, IgnoredNode, IgnoredProperty, IgnoredPart, Inside, Itself}
@@ -53,34 +53,30 @@ legacy_that_stays_is_known = record { all = refl; no_time = refl; no_part = refl
 -- ---- the same without something
 
 -- The bytes of the first part.
+abbrev first_of : List (ℕ × List ℕ) → List ℕ
+first_of [] = []
+first_of (part ∷ later) = part.1
+
 abbrev first_part : ReducedMeaning → List ℕ
-first_part (OfReducedLegacy image) = by image.parts
-  where
-    by : List (ℕ × List ℕ) → List ℕ
-    by [] = []
-    by (part ∷ later) = part.1
+first_part (OfReducedLegacy image) = first_of image.parts
 first_part (OfReducedTree tree) = []
 
 -- The payload of the first image, if the tree begins with images.
-abbrev first_payload : ReducedMeaning → Option (List ℕ)
-first_payload (OfReducedLegacy image) = None
-first_payload (OfReducedTree tree) = by tree.root
-  where
-    of_nodes : Nodes ComparedNode → Option (List ℕ)
-    of_nodes none = None
-    of_nodes (node name own children later) = of_payload own.payload
-      where
-        of_payload : _ → Option (List ℕ)
-        of_payload NoImage = None
-        of_payload (ImageWith payload) = payload
+abbrev payload_of_node : Nodes ComparedNode → ComparedPayload
+payload_of_node none = NoImage
+payload_of_node (node name own children later) = own.payload
 
-    of_root : Nodes ComparedNode → Option (List ℕ)
-    of_root none = None
-    of_root (node name own children later) = of_nodes children
+abbrev children_of_first : Nodes ComparedNode → Nodes ComparedNode
+children_of_first none = none
+children_of_first (node name own children later) = children
 
-    by : Option (Root ComparedNode) → Option (List ℕ)
-    by None = None
-    by (Some root) = of_root root.children
+abbrev payload_of_root : Option (Root ComparedNode) → ComparedPayload
+payload_of_root None = NoImage
+payload_of_root (Some root) = payload_of_node (children_of_first root.children)
+
+abbrev first_payload : ReducedMeaning → ComparedPayload
+first_payload (OfReducedLegacy image) = NoImage
+first_payload (OfReducedTree tree) = payload_of_root tree.root
 
 pub same_without_is_known : SameWithoutIsKnown
 same_without_is_known = record {
@@ -88,7 +84,7 @@ same_without_is_known = record {
   no_part = refl;
   other_part = λ same. begin_apart 97 99 [] [] refl (ap first_part same);
   no_image = refl;
-  payload = λ same. let apart : Some (codes "abc") ≡ Some (codes "abd") = ap first_payload same in absurd cc;
+  payload = λ same. let apart : ImageWith (Some (codes "abc")) ≡ ImageWith (Some (codes "abd")) = ap first_payload same in absurd cc;
   kinds = λ same. absurd cc;
 }
 
@@ -121,8 +117,8 @@ module _ (text : List ℕ) (no_slash : (later : List ℕ) → text ≢ 47 ∷ la
 -- A text that is no word without a path, among those of a value.
 bad_by : (value text : List ℕ) → Contains (slice_split (λ byte. byte == 44) value) text → IsNoPlainWord text → IsNoWordWithPath value →
     IsBadValue value
-bad_by value text has none no_path =
-    bad_value value (no_plain_among (slice_split (λ byte. byte == 44) value) text has none) no_path
+bad_by value text has no_plain no_path =
+    bad_value value (no_plain_among (slice_split (λ byte. byte == 44) value) text has no_plain) no_path
 
 no_empty_word : IsNoPlainWord []
 no_empty_word = no_plain_word [] (λ e. absurd cc) (λ e. absurd cc)

@@ -1,4 +1,5 @@
 use Rattle.std.proofs.Common.{◌≡◌, ◌↔◌, ◌⊎◌, ◌∙◌, ◌++◌, Bool, true, false, IsTrue, ℕ, List, [], ◌∷◌, codes, inl, inr, Option, None, Some, refl, sym, ap, subst, true≢false}
+use Rattle.std.proofs.lemmas.Grind.{flat_map-append}
 use Rattle.bi_base.specs.Limits.{Limits}
 use Rattle.bi_fit.specs.ImageTree.{ImageTree}
 use Rattle.bi_legacy.specs.Meaning.{LegacyImage}
@@ -8,9 +9,9 @@ use Rattle.bi_norm.specs.Reading.{IsReadBootImage, meaning_of}
 use Rattle.bi_norm.proofs.Comparisons.{opened_means}
 use Rattle.bi_common.specs.declared.format.Format.{Format}
 use Rattle.bi_common.specs.declared.format.Format.TheVariants.{Lines}
-use Rattle.bi_common.specs.CommonLines.{header_code_lines, header_lines}
-use Rattle.bi_common.specs.LineTokens.{LineToken, tokens_of_lines}
-use Rattle.bi_common.specs.Lines.{Line, Text, Name, Decimal, Hexadecimal}
+use Rattle.bi_common.specs.CommonLines.{header_code_lines}
+use Rattle.bi_common.specs.LineTokens.{LineToken, line_tokens, tokens_of_lines}
+use Rattle.bi_common.specs.Lines.{Line, Text, Name, Hexadecimal}
 use Rattle.bi_describe.specs.declared.compare.CompareError.{CompareError}
 use Rattle.bi_describe.specs.declared.compare.CompareError.TheVariants.{OutOfMemory}
 use Rattle.bi_describe.specs.declared.compare.signed_lines.Sign.TheVariants.{Removed, Added}
@@ -127,12 +128,19 @@ ignoring_error limits one other image other_image error opened other_opened (inr
 -- ---- headers
 
 -- The lines of a header are put in four parts.
+abbrev first_lines : LegacyImage → List Line
+first_lines image = (Text (codes "kind") ∷ Text (codes "legacy") ∷ []) ∷ (Text (codes "name") ∷ Name image.name ∷ []) ∷ []
+
+abbrev number_lines : LegacyImage → List Line
+number_lines image = (Text (codes "load") ∷ Hexadecimal image.load ∷ []) ∷ (Text (codes "entry") ∷ Hexadecimal image.entry ∷ []) ∷ []
+
 pub header_in_parts : (image : LegacyImage) (time : Option ℕ) → tokens_of_lines (reduced_header_lines image time)
-    ≡ tokens_of_lines
-    ((Text (codes "kind") ∷ Text (codes "legacy") ∷ []) ∷ (Text (codes "name") ∷ Name image.name ∷ []) ∷ [])
-    ++ (tokens_of_lines (time_lines time)
-    ++ (tokens_of_lines
-    ((Text (codes "load") ∷ Hexadecimal image.load ∷ []) ∷ (Text (codes "entry") ∷ Hexadecimal image.entry ∷ []) ∷ [])
-    ++ tokens_of_lines (header_code_lines image)))
-header_in_parts image None = refl
-header_in_parts image (Some time) = refl
+    ≡ tokens_of_lines (first_lines image)
+    ++ (tokens_of_lines (time_lines time) ++ (tokens_of_lines (number_lines image) ++ tokens_of_lines (header_code_lines image)))
+header_in_parts image time =
+    let later : List Line = number_lines image ++ header_code_lines image in
+    flat_map-append line_tokens (first_lines image) (time_lines time ++ later)
+    ∙ ap (λ (tokens : List LineToken). tokens_of_lines (first_lines image) ++ tokens)
+    (flat_map-append line_tokens (time_lines time) later
+    ∙ ap (λ (tokens : List LineToken). tokens_of_lines (time_lines time) ++ tokens)
+    (flat_map-append line_tokens (number_lines image) (header_code_lines image)))

@@ -1,6 +1,8 @@
-use Rattle.std.proofs.Common.{◌≡◌, ◌↔◌, ◌∙◌, ℕ, List, [], Option, map, refl, sym, ap}
+use Rattle.std.proofs.Common.{◌≡◌, ◌↔◌, ◌∙◌, Bool, IsTrue, ℕ, List, [], Option, map, refl, sym, ap, subst}
 use Rattle.std.specs.Option.{option_map}
 use Rattle.bi_legacy.specs.Meaning.{LegacyImage, image_of}
+use Rattle.bi_describe.specs.declared.describe.kept.KeptImage.{KeptImage}
+use Rattle.bi_describe.specs.declared.describe.kept.KeptImage.TheVariants.{Legacy, Fit}
 use Rattle.bi_describe.specs.declared.describe.kept.legacy.KeptLegacy.{KeptLegacy}
 use Rattle.bi_describe.specs.declared.describe.kept.tree.KeptFit.{KeptFit}
 use Rattle.bi_describe.specs.KeptEntries.{root_entries}
@@ -67,3 +69,34 @@ legacy_as_meanings one other = (ap OfReducedLegacy, same_of_legacy one other)
 
 pub trees_as_meanings : (one other : ReducedTree) → (one ≡ other) ↔ (OfReducedTree one ≡ OfReducedTree other)
 trees_as_meanings one other = (ap OfReducedTree, same_of_tree one other)
+
+-- The same of images of one kind.
+pub legacy_images_same : (result : Bool) (one other : KeptImage) (a b : KeptLegacy) → one ≡ Legacy a → other ≡ Legacy b →
+    ((image others : ReducedLegacy) → IsKeptLegacy image a → IsKeptLegacy others b → IsTrue result ↔ (image ≡ others)) →
+    (meaning other_meaning : ReducedMeaning) → IsKept meaning one → IsKept other_meaning other →
+    IsTrue result ↔ (meaning ≡ other_meaning)
+legacy_images_same result one other a b is also same meaning other_meaning kept other_kept =
+    by meaning other_meaning (subst (IsKept meaning) is kept) (subst (IsKept other_meaning) also other_kept)
+  where
+    by : (meaning other_meaning : ReducedMeaning) → IsKept meaning (Legacy a) → IsKept other_meaning (Legacy b) →
+        IsTrue result ↔ (meaning ≡ other_meaning)
+    by (OfReducedLegacy image) (OfReducedLegacy others) kept other_kept =
+        let both = same image others kept other_kept in
+        (λ yes. ap OfReducedLegacy (both.0 yes), λ equal. both.1 (same_of_legacy image others equal))
+    by (OfReducedLegacy image) (OfReducedTree others) kept other_kept = absurd other_kept
+    by (OfReducedTree tree) other_meaning kept other_kept = absurd kept
+
+pub fit_images_same : (result : Bool) (one other : KeptImage) (a b : KeptFit) → one ≡ Fit a → other ≡ Fit b →
+    ((tree others : ReducedTree) → IsKeptTree tree a → IsKeptTree others b → IsTrue result ↔ (tree ≡ others)) →
+    (meaning other_meaning : ReducedMeaning) → IsKept meaning one → IsKept other_meaning other →
+    IsTrue result ↔ (meaning ≡ other_meaning)
+fit_images_same result one other a b is also same meaning other_meaning kept other_kept =
+    by meaning other_meaning (subst (IsKept meaning) is kept) (subst (IsKept other_meaning) also other_kept)
+  where
+    by : (meaning other_meaning : ReducedMeaning) → IsKept meaning (Fit a) → IsKept other_meaning (Fit b) →
+        IsTrue result ↔ (meaning ≡ other_meaning)
+    by (OfReducedTree tree) (OfReducedTree others) kept other_kept =
+        let both = same tree others kept other_kept in
+        (λ yes. ap OfReducedTree (both.0 yes), λ equal. both.1 (same_of_tree tree others equal))
+    by (OfReducedTree tree) (OfReducedLegacy others) kept other_kept = absurd other_kept
+    by (OfReducedLegacy image) other_meaning kept other_kept = absurd kept

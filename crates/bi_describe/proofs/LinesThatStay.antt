@@ -32,11 +32,12 @@ module _ (P : Line → Type 0) (words : List Ignored) where
   properties_stay : (names : List (List ℕ)) (p : List ℕ → Bool) (properties : List Property) →
       Each (map (property_line names) properties) → Each (map (property_line names) (where_key (slice_cmp nat_cmp) p properties))
   properties_stay names p [] each = tt
-  properties_stay names p (property ∷ later) each = by (p property.0) refl
+  properties_stay names p (property ∷ later) each = by (p property.0) refl (properties_stay names p later each.1)
     where
-      by : (b : Bool) → p property.0 ≡ b → Each (map (property_line names) (where_key (slice_cmp nat_cmp) p (property ∷ later)))
-      by true is = rw is (each.0, properties_stay names p later each.1)
-      by false is = rw is (properties_stay names p later each.1)
+      by : (b : Bool) → p property.0 ≡ b → Each (map (property_line names) (where_key (slice_cmp nat_cmp) p later)) →
+          Each (map (property_line names) (where_key (slice_cmp nat_cmp) p (property ∷ later)))
+      by true is after = rw is (each.0, after)
+      by false is after = rw is after
 
   own_stays : (names : List (List ℕ)) (own : ComparedNode) → Each (own_lines names (described_node own)) →
       Each (own_lines names (described_node (kept_own words names own)))
@@ -51,7 +52,9 @@ module _ (P : Line → Type 0) (words : List Ignored) where
   nodes_stay : (above : List (List ℕ)) (nodes : Nodes ComparedNode) → Each (node_lines above (as_described nodes)) →
       Each (node_lines above (as_described (kept_nodes words above nodes)))
   nodes_stay above none each = tt
-  nodes_stay above (node name own children later) each = by (is_node_ignored words inner) refl
+  nodes_stay above (node name own children later) each =
+      by (is_node_ignored words inner) refl (nodes_stay inner children (each-front P below after rest))
+      (nodes_stay above later (each-back P below after rest))
     where
       inner : List (List ℕ)
       inner = above ++ name ∷ []
@@ -68,13 +71,13 @@ module _ (P : Line → Type 0) (words : List Ignored) where
       rest : Each (below ++ after)
       rest = each-back P own_ones (below ++ after) each
 
-      by : (b : Bool) → is_node_ignored words inner ≡ b →
+      by : (b : Bool) → is_node_ignored words inner ≡ b → Each (node_lines inner (as_described (kept_nodes words inner children))) →
+          Each (node_lines above (as_described (kept_nodes words above later))) →
           Each (node_lines above (as_described (kept_nodes words above (node name own children later))))
-      by true is = rw is (nodes_stay above later (each-back P below after rest))
-      by false is = rw is (each-append P (own_lines inner (described_node (kept_own words inner own))) _
+      by true is in_children in_later = rw is in_later
+      by false is in_children in_later = rw is (each-append P (own_lines inner (described_node (kept_own words inner own))) _
           (own_stays inner own (each-front P own_ones (below ++ after) each))
-          (each-append P (node_lines inner (as_described (kept_nodes words inner children))) _
-          (nodes_stay inner children (each-front P below after rest)) (nodes_stay above later (each-back P below after rest))))
+          (each-append P (node_lines inner (as_described (kept_nodes words inner children))) _ in_children in_later))
 
   root_stays : (tree : ImageTree) → Each (tree_lines tree) →
       Each (reduced_root_lines (kept_root words (compared_root tree.root tree.payloads)))
@@ -107,12 +110,13 @@ module _ (P : Line → Type 0) (words : List Ignored) where
   parts_stay : (index : ℕ) (parts : List (List ℕ)) → Each (part_lines index (map digest_of_payload parts)) →
       Each (reduced_part_lines (flat_map (kept_part words) (numbered_parts index parts)))
   parts_stay index [] each = tt
-  parts_stay index (part ∷ later) each = by (is_part_ignored words index) refl
+  parts_stay index (part ∷ later) each = by (is_part_ignored words index) refl (parts_stay (index + 1) later each.1)
     where
       by : (b : Bool) → is_part_ignored words index ≡ b →
+          Each (reduced_part_lines (flat_map (kept_part words) (numbered_parts (index + 1) later))) →
           Each (reduced_part_lines (flat_map (kept_part words) (numbered_parts index (part ∷ later))))
-      by true is = rw is (parts_stay (index + 1) later each.1)
-      by false is = rw is (each.0, parts_stay (index + 1) later each.1)
+      by true is after = rw is after
+      by false is after = rw is (each.0, after)
 
   header_stays : (image : LegacyImage) → Each (header_lines image) →
       Each (reduced_header_lines (fields_alone image) (kept_time words image.time))

@@ -3,6 +3,7 @@ use Rattle.std.proofs.Common.{append-nil, subst, true≢false}
 use Rattle.std.specs.FinMap.{get, get-retain_keys}
 use Rattle.std.specs.List.{AllByRecursion, AllZip}
 use Rattle.std.proofs.lemmas.Bool.{cond-true, cond-false}
+use Rattle.bi_base.specs.Limits.{Limits}
 use Rattle.bi_base.proofs.EqualBytes.{same_bytes}
 use Rattle.bi_blob.specs.Tree.{Nodes, none, node, names, PropertyMap, Root, with_each}
 use Rattle.bi_fit.specs.ImageTree.{ArePropertiesByName, ImageTree, IsApart, IsImageTree, children_of, each_own}
@@ -18,7 +19,8 @@ use Rattle.bi_describe.specs.ComparedNodes.{ComparedNode, ComparedPayload, NoIma
 use Rattle.bi_describe.specs.ComparedNodes.{plain_compared}
 use Rattle.bi_describe.specs.Comparing.{comparison, differences_or_reason}
 use Rattle.bi_describe.specs.ComparingWithout.{comparison_without}
-use Rattle.bi_describe.specs.Descriptions.{description_lines, digest_of_payload, head_lines, node_lines, own_lines, part_lines, plain_node}
+use Rattle.bi_describe.specs.Descriptions.{description_lines, digest_of_payload, head_lines, node_lines, own_lines, part_line, part_lines}
+use Rattle.bi_describe.specs.Descriptions.{plain_node}
 use Rattle.bi_describe.specs.IgnoringLaws.{AreComparedWhole, NothingLeftOutCompares}
 use Rattle.bi_describe.specs.ReducedMeanings.{AreSameWithout, OfReducedLegacy, OfReducedTree, ReducedLegacy, ReducedMeaning, ReducedTree}
 use Rattle.bi_describe.specs.ReducedMeanings.{compared_root, kept_nodes, kept_own, kept_part, kept_properties, kept_root, numbered_parts, reduced}
@@ -141,7 +143,7 @@ numbers_off index (part ∷ later) = ap (λ (parts : List (List ℕ)). part ∷ 
 parts_lined : (index : ℕ) (parts : List (List ℕ)) →
     reduced_part_lines (numbered_parts index parts) ≡ part_lines index (map digest_of_payload parts)
 parts_lined index [] = refl
-parts_lined index (part ∷ later) = ap (λ (lines : List Line). _ ∷ lines) (parts_lined (index + 1) later)
+parts_lined index (part ∷ later) = ap (λ (lines : List Line). part_line index (digest_of_payload part) ∷ lines) (parts_lined (index + 1) later)
 
 -- All of a legacy image.
 abbrev whole_legacy : LegacyImage → ReducedLegacy
@@ -225,14 +227,14 @@ same_differences (OfFit one) (OfLegacy other) = refl
 same_differences (OfLegacy one) (OfLegacy other) = ap₂ differences_or_reason (all_lines (OfLegacy one)) (all_lines (OfLegacy other))
 same_differences (OfFit one) (OfFit other) = ap₂ differences_or_reason (all_lines (OfFit one)) (all_lines (OfFit other))
 
-is_whole : {limits : _} (file : List ℕ) (meaning : Meaning) → Means limits file meaning → IsWhole meaning
-is_whole file (OfLegacy image) means = 0
-is_whole file (OfFit tree) means = file_means_image_tree file tree means.is_file
+is_whole : (limits : Limits) (file : List ℕ) (meaning : Meaning) → Means limits file meaning → IsWhole meaning
+is_whole limits file (OfLegacy image) means = 0
+is_whole limits file (OfFit tree) means = file_means_image_tree file tree means.is_file
 
 pub nothing_left_out_compares : NothingLeftOutCompares
 nothing_left_out_compares limits other_limits file other_file one other means other_means = record {
   is_same = (
-    same_whole one other (is_whole file one means) (is_whole other_file other other_means),
+    same_whole one other (is_whole limits file one means) (is_whole other_limits other_file other other_means),
     ap (reduced []),
   );
   differences = same_differences one other;

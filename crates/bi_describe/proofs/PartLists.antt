@@ -1,11 +1,9 @@
-use Rattle.std.proofs.Common.{◌≡◌, ◌<◌, ◌+◌, ℕ, Bool, true, false, List, [], ◌∷◌, ◌++◌, drop, flat_map, get_or, length, map, refl, sym, ap, ◌∙◌}
+use Rattle.std.proofs.Common.{◌≡◌, ◌<◌, ◌+◌, ℕ, List, [], ◌∷◌, ◌++◌, drop, flat_map, get_or, length, map, refl, sym, ap, ◌∙◌}
 use Rattle.std.proofs.Common.{append_assoc, append-nil}
-use Rattle.std.proofs.lemmas.List.{drop_all, drop_more, map-append}
-use Rattle.bi_describe.specs.declared.describe.kept.legacy.KeptPart.{KeptPart}
+use Rattle.std.proofs.lemmas.List.{drop_all, drop_more}
 use Rattle.bi_describe.specs.declared.describe.part.DescribedPart.{DescribedPart}
 use Rattle.bi_describe.specs.Descriptions.{PayloadDigest}
-use Rattle.bi_describe.specs.Ignoring.{Ignored, is_part_ignored}
-use Rattle.bi_describe.specs.KeptImages.{numbered_part}
+use Rattle.bi_describe.specs.Ignoring.{Ignored}
 use Rattle.bi_describe.specs.MadeParts.{bytes_of_parts, digest_of_part}
 use Rattle.bi_describe.specs.ReducedMeanings.{kept_part, numbered_parts}
 
@@ -25,29 +23,16 @@ digests_from parts index part is within = ap (λ (left : List DescribedPart). ma
 abbrev pub kept_from : List Ignored → (index : ℕ) → List DescribedPart → List (ℕ × List ℕ)
 kept_from words index parts = flat_map (kept_part words) (numbered_parts index (bytes_of_parts parts))
 
--- One that is left out is passed,
-pub part_left_out : (words : List Ignored) (parts : List DescribedPart) (index : ℕ) (part : DescribedPart) (all so_far : List (ℕ × List ℕ)) →
-    part ≡ get_or parts index part → index < length parts → is_part_ignored words index ≡ true →
-    so_far ++ kept_from words index (drop index parts) ≡ all → so_far ++ kept_from words (index + 1) (drop (index + 1) parts) ≡ all
-part_left_out words parts index part all so_far is within out left =
-    ap (λ (kept : List (ℕ × List ℕ)). so_far ++ kept)
-    (sym (ap (kept_from words index) (parts_from parts index part is within) ∙ rw out refl))
-    ∙ left
-
--- and one that stays is appended.
-pub part_stays : (words : List Ignored) (parts : List DescribedPart) (index : ℕ) (part : DescribedPart) (kept more : List KeptPart)
-    (one : KeptPart) (all : List (ℕ × List ℕ)) → part ≡ get_or parts index part → index < length parts →
-    is_part_ignored words index ≡ false → more ≡ kept ++ one ∷ [] → numbered_part one ≡ (index, part.bytes.now) →
-    map numbered_part kept ++ kept_from words index (drop index parts) ≡ all →
-    map numbered_part more ++ kept_from words (index + 1) (drop (index + 1) parts) ≡ all
-part_stays words parts index part kept more one all is within stays pushed numbered left =
+-- One more part.
+pub part_next : (words : List Ignored) (parts : List DescribedPart) (index : ℕ) (part : DescribedPart)
+    (so_far more all : List (ℕ × List ℕ)) → part ≡ get_or parts index part → index < length parts →
+    more ≡ so_far ++ kept_part words (index, part.bytes.now) → so_far ++ kept_from words index (drop index parts) ≡ all →
+    more ++ kept_from words (index + 1) (drop (index + 1) parts) ≡ all
+part_next words parts index part so_far more all is within is_more left =
     let later : List (ℕ × List ℕ) = kept_from words (index + 1) (drop (index + 1) parts) in
-    ap (λ (items : List KeptPart). map numbered_part items ++ later) pushed
-    ∙ ap (λ (items : List (ℕ × List ℕ)). items ++ later) (map-append numbered_part kept (one ∷ []))
-    ∙ append_assoc (map numbered_part kept) (numbered_part one ∷ []) later
-    ∙ ap (λ (items : List (ℕ × List ℕ)). map numbered_part kept ++ items)
-    (ap (λ (first : ℕ × List ℕ). first ∷ later) numbered
-    ∙ sym (ap (kept_from words index) (parts_from parts index part is within) ∙ rw stays refl))
+    ap (λ (more : List (ℕ × List ℕ)). more ++ later) is_more
+    ∙ append_assoc so_far (kept_part words (index, part.bytes.now)) later
+    ∙ ap (λ (kept : List (ℕ × List ℕ)). so_far ++ kept) (sym (ap (kept_from words index) (parts_from parts index part is within)))
     ∙ left
 
 -- At the end none is left.

@@ -1,9 +1,12 @@
-use Rattle.std.proofs.Common.{◌≡◌, ◌<◌, ◌+◌, ℕ, List, [], ◌∷◌, ◌++◌, Contains, get_or, length, map, take, inl, inr, refl, sym, ap, subst, ◌∙◌}
+use Rattle.std.proofs.Common.{◌≡◌, ◌<◌, ◌+◌, ℕ, List, [], ◌∷◌, ◌++◌, Contains, get_or, length, map, take, inl, inr, refl, sym, ap, subst, ◌∙◌, arith}
 use Rattle.std.proofs.Common.{append_assoc, append-nil}
 use Rattle.std.specs.Prelude.{◌⊎◌}
+use Rattle.std.specs.Borrow.{Bor}
 use Rattle.std.specs.List.{AllZip}
+use Rattle.std.proofs.lemmas.List.{get_or-map, length-map, take_more}
+use Rattle.bi_common.specs.MadeFields.{bytes_of_names}
 use Rattle.bi_base.proofs.ListMembers.{Contains-cases, Contains-none}
-use Rattle.bi_describe.specs.IgnoredWords.{AreFirstWords, AreNoPlainWords, AreWordsOfValue, AreWordsOfValues, IsBadValue, IsNoPlainWord}
+use Rattle.bi_describe.specs.IgnoredWords.{AreFirstWords, AreNoPlainWords, AreWordsOfValue, AreWordsOfValues, IsBadValue, IsFirstBad, IsNoPlainWord}
 use Rattle.bi_describe.specs.IgnoredWords.{IsNoWordWithPath, IsOneWord, IsPlainWord, IsWordWithPath}
 use Rattle.bi_describe.specs.Ignoring.{Ignored}
 
@@ -27,13 +30,44 @@ pub no_plain_among : (texts : List (List ℕ)) (text : List ℕ) → Contains te
     AllZip IsPlainWord texts words → ⊥
 no_plain_among [] text has none words are = Contains-none text has
 no_plain_among (first ∷ later) text has none [] are = are
-no_plain_among (first ∷ later) text has none (word ∷ words) are = by (Contains-cases first later text has)
+no_plain_among (first ∷ later) text has none (word ∷ words) are =
+    by (Contains-cases first later text has) (λ more. no_plain_among later text more none words are.1)
   where
-    by : (first ≡ text) ⊎ Contains later text → ⊥
-    by (inl is) = none word (subst (λ text. IsPlainWord text word) is are.0)
-    by (inr more) = no_plain_among later text more none words are.1
+    by : (first ≡ text) ⊎ Contains later text → (Contains later text → ⊥) → ⊥
+    by (inl is) after = none word (subst (λ text. IsPlainWord text word) is are.0)
+    by (inr more) after = after more
 
 -- A value that is neither of both.
 pub bad_value : (value : List ℕ) → AreNoPlainWords value → IsNoWordWithPath value → IsBadValue value
 bad_value value no_plain no_path words (inl are) = no_plain words are
 bad_value value no_plain no_path words (inr one) = no_path one.word one.is_word
+
+-- The values of slices, up to one of them.
+values_from : (values : List (Bor (List ℕ))) (index : ℕ) (value : Bor (List ℕ)) → value ≡ get_or values index value → index < length values →
+    take (index + 1) (bytes_of_names values) ≡ take index (bytes_of_names values) ++ value.now ∷ []
+values_from values index value is within =
+    let long = length-map values (λ (value : Bor (List ℕ)). value.now) in
+    take_more (bytes_of_names values) index value.now (omega (arith, within, long))
+    ∙ ap (λ bytes. take index (bytes_of_names values) ++ bytes ∷ [])
+    (get_or-map (λ (value : Bor (List ℕ)). value.now) values index value value.now within ∙ ap (λ (value : Bor (List ℕ)). value.now) (sym is))
+
+pub values_next : (values : List (Bor (List ℕ))) (index : ℕ) (value : Bor (List ℕ)) (words first more : List Ignored) →
+    value ≡ get_or values index value → index < length values → AreWordsOfValues (take index (bytes_of_names values)) words →
+    AreWordsOfValue value.now first → more ≡ words ++ first → AreWordsOfValues (take (index + 1) (bytes_of_names values)) more
+values_next values index value words first more is within so_far are appended =
+    subst (AreWordsOfValues (take (index + 1) (bytes_of_names values))) (sym appended)
+    (subst (λ values. AreWordsOfValues values (words ++ first)) (sym (values_from values index value is within))
+    (values_more (take index (bytes_of_names values)) value.now words first so_far are))
+
+pub first_bad : (values : List (Bor (List ℕ))) (index : ℕ) (value : Bor (List ℕ)) (words : List Ignored) →
+    value ≡ get_or values index value → index < length values → AreWordsOfValues (take index (bytes_of_names values)) words →
+    IsBadValue value.now → IsFirstBad (bytes_of_names values) index
+first_bad values index value words is within so_far bad =
+    let long = length-map values (λ (value : Bor (List ℕ)). value.now) in
+    record {
+      within = omega (arith, within, long);
+      before = words;
+      is_before = so_far;
+      is_bad = subst IsBadValue (ap (λ (value : Bor (List ℕ)). value.now) is
+          ∙ sym (get_or-map (λ (value : Bor (List ℕ)). value.now) values index value [] within)) bad;
+    }

@@ -1,12 +1,12 @@
 use Rattle.std.proofs.Common.{◌≡◌, ◌≢◌, ◌<◌, ◌≤◌, ◌+◌, ◌-◌, ℕ, Bool, true, false, List, [], ◌∷◌, ◌++◌, Option, None, Some, codes, drop, take, flat_map}
 use Rattle.std.proofs.Common.{get_or, length, refl, sym, ap, subst, ◌∙◌, append_assoc, append-nil, arith, true≢false, inl, inr, suc, zero}
-use Rattle.std.proofs.Common.{take-append-drop, length-drop}
+use Rattle.std.proofs.Common.{add-one, take-append-drop, length-drop}
 use Rattle.std.specs.Prelude.{◌==◌, ◌&&◌, ◌||◌}
 use Rattle.std.specs.Fmt.{decimal}
 use Rattle.std.specs.List.{AllByRecursion, position, position_or_len}
-use Rattle.std.proofs.lemmas.Bool.{eqb-false, eqb-true, ne_eqb}
+use Rattle.std.proofs.lemmas.Bool.{and_parts, eqb-false, eqb-true, ne_eqb}
 use Rattle.std.proofs.lemmas.Grind.{common_steps}
-use Rattle.std.proofs.lemmas.List.{take_all}
+use Rattle.std.proofs.lemmas.List.{drop_more, take_all, take_more}
 use Rattle.std.proofs.lemmas.List.Quantifiers.{position-Some}
 use Rattle.std.proofs.lemmas.List.Sums.{fails_before_first}
 use Rattle.std.proofs.Math.Seq.{take-length}
@@ -88,6 +88,61 @@ split_same (byte ∷ one) (next ∷ other) x y none also same =
     let first : byte ≡ next = first_same same in
     let later : one ≡ other = rest.0 in
     (cc, rest.1)
+
+-- One byte has no two.
+pub no_two_at_first : (text : List ℕ) → has_two_slashes (take 1 text) ≡ false
+no_two_at_first [] = refl
+no_two_at_first (byte ∷ later) = refl
+
+-- A text that has none up to a byte has none up to the next one, unless both are slashes.
+two_more : (text : List ℕ) (end : ℕ) → suc end < length text → (get_or text end 0 == 47 && get_or text (suc end) 0 == 47) ≡ false →
+    has_two_slashes (take (suc end) text) ≡ false → has_two_slashes (take (suc (suc end)) text) ≡ false
+two_more [] end within differ none = refl
+two_more (byte ∷ []) end within differ none = absurd (omega (arith, within))
+two_more (byte ∷ next ∷ later) zero within differ none = rw differ refl
+two_more (byte ∷ next ∷ later) (suc end) within differ none =
+    by (byte == 47 && next == 47) none (two_more (next ∷ later) end (omega (arith, within)) differ)
+  where
+    by : (b : Bool) → (b || has_two_slashes (next ∷ take end later)) ≡ false →
+        (has_two_slashes (next ∷ take end later) ≡ false → has_two_slashes (take (suc (suc end)) (next ∷ later)) ≡ false) →
+        (b || has_two_slashes (take (suc (suc end)) (next ∷ later))) ≡ false
+    by true is goes_on = absurd (true≢false is)
+    by false is goes_on = goes_on is
+
+pub no_two_more : (text : List ℕ) (end : ℕ) → end + 1 < length text → (get_or text end 0 == 47 && get_or text (end + 1) 0 == 47) ≡ false →
+    has_two_slashes (take (end + 1) text) ≡ false → has_two_slashes (take (end + 1 + 1) text) ≡ false
+no_two_more text end within differ none =
+    let one : end + 1 ≡ suc end = add-one in
+    let two : end + 1 + 1 ≡ suc (suc end) = omega arith in
+    subst (λ n. has_two_slashes (take n text) ≡ false) (sym two)
+    (two_more text end (omega (arith, within)) (subst (λ n. (get_or text end 0 == 47 && get_or text n 0 == 47) ≡ false) one differ)
+    (subst (λ n. has_two_slashes (take n text) ≡ false) one none))
+
+-- Where both are, the text is split.
+both_slashes : (one other : ℕ) → (one == 47 && other == 47) ≡ true → (one ≡ 47) × (other ≡ 47)
+both_slashes one other is =
+    let both = and_parts (one == 47) (other == 47) is in
+    (eqb-true one 47 both.0, eqb-true other 47 both.1)
+
+pub split_here : (text : List ℕ) (end : ℕ) → end + 1 < length text → (get_or text end 0 == 47 && get_or text (end + 1) 0 == 47) ≡ true →
+    has_two_slashes (take (end + 1) text) ≡ false →
+    IsSplit text (take end text) (take (length text - (end + 1)) (drop (end + 1) text))
+split_here text end within is none =
+    let slashes = both_slashes (get_or text end 0) (get_or text (end + 1) 0) is in
+    let all : take (length text - (end + 1)) (drop (end + 1) text) ≡ drop (end + 1) text =
+    take_all (length text - (end + 1)) (drop (end + 1) text) (omega (arith, length-drop (end + 1) text)) in
+    let first : drop end text ≡ 47 ∷ drop (end + 1) text =
+    drop_more text end 0 (omega (arith, within)) ∙ ap (λ byte. byte ∷ drop (end + 1) text) slashes.0 in
+    let second : drop (end + 1) text ≡ 47 ∷ drop (end + 1 + 1) text =
+    drop_more text (end + 1) 0 within ∙ ap (λ byte. byte ∷ drop (end + 1 + 1) text) slashes.1 in
+    let up_to : take (end + 1) text ≡ take end text ++ 47 ∷ [] =
+    take_more text end 0 (omega (arith, within)) ∙ ap (λ byte. take end text ++ byte ∷ []) slashes.0 in
+    record {
+      rest = drop (end + 1 + 1) text;
+      begins = all ∙ second;
+      is = sym (take-append-drop end text) ∙ ap (λ later. take end text ++ later) (first ∙ ap (λ later. 47 ∷ later) (sym all));
+      first = sym (ap has_two_slashes up_to) ∙ none;
+    }
 
 -- ---- paths
 
@@ -180,7 +235,7 @@ before_space (byte ∷ later) zero others = tt
 before_space (byte ∷ later) (suc end) others =
     (eqb-false byte 32 (others 0 (omega arith)), before_space later end (λ k before. others (suc k) (omega (arith, before))))
 
-at_space : (bytes : List ℕ) (end : ℕ) → end < length bytes → (get_or bytes end 0 == 32) ≡ true → drop end bytes ≡ 32 ∷ drop (end + 1) bytes
+at_space : (bytes : List ℕ) (end : ℕ) → end < length bytes → (get_or bytes end 0 == 32) ≡ true → drop end bytes ≡ 32 ∷ drop (suc end) bytes
 at_space [] end within is = absurd (omega (arith, within))
 at_space (byte ∷ later) zero within is = ap (λ first. first ∷ later) (eqb-true byte 32 is)
 at_space (byte ∷ later) (suc end) within is = at_space later end (omega (arith, within)) is
@@ -188,11 +243,14 @@ at_space (byte ∷ later) (suc end) within is = at_space later end (omega (arith
 pub none_before : (text : List ℕ) (end : ℕ) → position (λ byte. byte == 32) text ≡ Some end → HasNoSpace (take end text)
 none_before text end is = before_space text end (position-Some (λ byte. byte == 32) text end 0 is).2
 
-pub joined_at_space : (text : List ℕ) (end : ℕ) → position (λ byte. byte == 32) text ≡ Some end → end < length text →
-    take end text ++ (32 ∷ drop (end + 1) text) ≡ text
-joined_at_space text end is within =
-    ap (λ later. take end text ++ later) (sym (at_space text end within (position-Some (λ byte. byte == 32) text end 0 is).1))
-    ∙ take-append-drop end text
+pub joined_at_space : (text : List ℕ) (end : ℕ) → position (λ byte. byte == 32) text ≡ Some end →
+    take end text ++ (32 ∷ take (length text - (end + 1)) (drop (end + 1) text)) ≡ text
+joined_at_space text end is =
+    let found = position-Some (λ byte. byte == 32) text end 0 is in
+    let all : take (length text - (end + 1)) (drop (end + 1) text) ≡ drop (end + 1) text =
+    take_all (length text - (end + 1)) (drop (end + 1) text) (omega (arith, length-drop (end + 1) text)) in
+    ap (λ later. take end text ++ (32 ∷ later)) all
+    ∙ rw add-one (ap (λ later. take end text ++ later) (sym (at_space text end found.0 found.1)) ∙ take-append-drop end text)
 
 pub none_at_all : (text : List ℕ) → position (λ byte. byte == 32) text ≡ None → HasNoSpace text
 none_at_all text is =

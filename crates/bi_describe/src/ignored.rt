@@ -102,11 +102,10 @@ impl Ignored {
     {
         let mut all = Vec::new(alloc);
         for index in 0..values.len() {
-            match words_of_value(alloc, values[index]) {
-                Ok(Some(words)) => append_words(&mut all, words)?,
-                Ok(None) => return Err(IgnoredError::BadValue(index)),
-                Err(_) => return Err(IgnoredError::OutOfMemory),
-            }
+            let Some(words) = read_value(alloc, values[index])? else {
+                return Err(IgnoredError::BadValue(index));
+            };
+            append_words(&mut all, words)?;
         }
         Ok(all)
     }
@@ -121,6 +120,19 @@ fn append_words(all: &mut Vec<Ignored>, words: Vec<Ignored>) -> Result<(), Alloc
         all.push(word)?;
     }
     Ok(())
+}
+
+/// Returns what a value leaves out. Returns None if it is of no known form. Fails if memory runs
+/// out.
+fn read_value(alloc: Global, value: &[u8]) -> Result<Option<Vec<Ignored>>, AllocError>
+    ensures some { IfOk result (λ found. IfSome found (λ words.
+        AreWordsOfValue value.now (ignored_words words.items))) }
+    ensures none { IfOk result (λ found. IfNone found (IsBadValue value.now)) }
+{
+    match words_of_value(alloc, value) {
+        Ok(found) => Ok(found),
+        Err(_) => Err(AllocError),
+    }
 }
 
 /// Returns what a value leaves out. Returns None if it is of no known form. Fails if memory runs

@@ -4,7 +4,7 @@ ghost use Rattle.std.specs.Prelude.{◌≡◌, IfOk, List, string_bytes};
 ghost use Rattle.bi_norm.specs.Meaning.{Meaning};
 ghost use Rattle.bi_describe.specs.Comparing.{comparison_text};
 ghost use Rattle.bi_describe.specs.ComparingWithout.{IsComparisonWithout, comparison_without};
-ghost use Rattle.bi_describe.specs.ComparingWithout.{lines_without};
+ghost use Rattle.bi_describe.specs.ComparingWithout.{lines_without, text_without};
 ghost use Rattle.bi_describe.specs.Ignoring.{Ignored as Word};
 ghost use Rattle.bi_describe.specs.KeptImages.{IsKept, IsKeptAscii};
 ghost use Rattle.bi_describe.specs.KeptLines.{KeepsLines};
@@ -52,12 +52,33 @@ pub(super) fn compare_kept(
         (string_bytes comparison.differences)) }
 {
     let same = image.is_same(other);
-    let differences = if options.quiet {
-        String::new(alloc)
-    } else {
-        text_of_kept(alloc, image, other, same, options.format)?
-    };
+    let differences = written_differences(alloc, image, other, same, options)?;
     Ok(Comparison { same, differences })
+}
+
+/// Returns the text that is written of what differs between what stays of two images. Requires: the
+/// lines of both are ASCII.
+///
+/// Fails only if memory runs out.
+fn written_differences(
+    alloc: Global,
+    image: &KeptImage,
+    other: &KeptImage,
+    same: bool,
+    options: IgnoringOptions,
+) -> Result<String, AllocError>
+    requires ascii { IsKeptAscii image.now }
+    requires other_ascii { IsKeptAscii other.now }
+    ensures { IfOk result (λ text. (words : List Word) (meaning other_meaning : Meaning)
+        → IsKept (reduced words meaning) image.now
+        → IsKept (reduced words other_meaning) other.now
+        → string_bytes text ≡ text_without (ignoring_model options.entry) same
+        (lines_without words meaning other_meaning same)) }
+{
+    if options.quiet {
+        return Ok(String::new(alloc));
+    }
+    text_of_kept(alloc, image, other, same, options.format)
 }
 
 /// Returns the text of what differs between what stays of two images, in a form. Requires: the

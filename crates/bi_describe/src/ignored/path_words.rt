@@ -1,7 +1,8 @@
 //! Words with a path, for what is ignored.
 
-ghost use Rattle.std.specs.Prelude.{◌≡◌, ◌≢◌, ◌==◌, ◌++◌, ◌∷◌, IfOk, IfErr, IfSome, IfNone};
+ghost use Rattle.std.specs.Prelude.{◌≡◌, ◌≢◌, ◌==◌, ◌&&◌, ◌++◌, ◌∷◌, IfOk, IfErr, IfSome, IfNone};
 ghost use Rattle.std.specs.Prelude.{ℕ, None, false};
+ghost use Rattle.std.specs.Fmt.{decimal};
 ghost use Rattle.std.specs.List.{AllByRecursion, position};
 ghost use Rattle.bi_base.specs.declared.fault.Error.TheVariants.{OutOfMemory};
 ghost use Rattle.bi_describe.specs.IgnoredWords.{IsNoWordWithPath, IsWordWithPath};
@@ -11,9 +12,9 @@ ghost use Rattle.bi_describe.specs.WordParts.{IsShownNumber, IsShownPart, IsShow
 ghost use Rattle.bi_describe.specs.WordParts.{IsShownPlace, IsSplit, has_two_slashes};
 
 use super::{Ignored, NodePlace, PayloadPlace, TreePlace};
-use bi_base::{Error, MemoryPen};
-use bi_common::fields::put_decimal;
+use bi_base::Error;
 use bi_values::paths::{child_name_shown_as, path_shown_as, property_name_shown_as};
+use itoa::Buffer;
 use std::alloc::Global;
 
 /// Returns what a word with a path leaves out. Returns None if the text is no such word. Fails if
@@ -39,7 +40,7 @@ fn node_word(alloc: Global, text: &[u8]) -> Result<Option<Ignored>, Error>
     ensures none { IfOk result (λ found. IfNone found (IsNoWordWithPath text.now)) }
     ensures failed { IfErr result (λ error. error ≡ OutOfMemory) }
 {
-    if let Some(index) = part_shown_as(alloc, text)? {
+    if let Some(index) = part_shown_as(text) {
         return Ok(Some(Ignored::Part(index)));
     }
     match node_shown_as(alloc, text)? {
@@ -138,7 +139,7 @@ fn payload_shown_as(alloc: Global, text: &[u8]) -> Result<Option<PayloadPlace>, 
     ensures none { IfOk result (λ found. IfNone found (IsNoPayload text.now)) }
     ensures failed { IfErr result (λ error. error ≡ OutOfMemory) }
 {
-    if let Some(index) = part_shown_as(alloc, text)? {
+    if let Some(index) = part_shown_as(text) {
         return Ok(Some(PayloadPlace::Part(index)));
     }
     let Some(name) = text.strip_prefix(b"/images/".as_slice()) else {
@@ -158,7 +159,7 @@ fn split_at_two_slashes(text: &[u8]) -> Option<(&[u8], &[u8])>
 {
     let mut end = 0;
     while end + 1 < text.len() {
-        if text[end] == b'/' && text[end + 1] == b'/' {
+        if are_slashes(text[end], text[end + 1]) {
             return Some((&text[..end], &text[end + 1..]));
         }
         end += 1;
@@ -166,48 +167,57 @@ fn split_at_two_slashes(text: &[u8]) -> Option<(&[u8], &[u8])>
     None
 }
 
+/// Returns whether both bytes are slashes.
+fn are_slashes(one: u8, other: u8) -> bool
+    ensures { result ≡ (one == 47 && other == 47) }
+{
+    one == b'/' && other == b'/'
+}
+
 /// Returns the index of the part with this path: `part-` and the index in decimal digits. Returns
-/// None if the text is the path of no part. Fails if memory runs out.
-fn part_shown_as(alloc: Global, text: &[u8]) -> Result<Option<u64>, Error>
-    ensures some { IfOk result (λ found. IfSome found (IsShownPart text.now)) }
-    ensures none { IfOk result (λ found. IfNone found (IsNoPart text.now)) }
-    ensures failed { IfErr result (λ error. error ≡ OutOfMemory) }
+/// None if the text is the path of no part.
+fn part_shown_as(text: &[u8]) -> Option<u64>
+    ensures some { IfSome result (IsShownPart text.now) }
+    ensures none { IfNone result (IsNoPart text.now) }
 {
     match text.strip_prefix(b"part-".as_slice()) {
-        Some(digits) => number_shown_as(alloc, digits),
-        None => Ok(None),
+        Some(digits) => number_shown_as(digits),
+        None => None,
     }
 }
 
 /// Returns the number below 2^64 that is printed as these decimal digits. Returns None if none is.
-/// Fails if memory runs out.
-fn number_shown_as(alloc: Global, digits: &[u8]) -> Result<Option<u64>, Error>
-    ensures some { IfOk result (λ found. IfSome found (IsShownNumber digits.now)) }
-    ensures none { IfOk result (λ found. IfNone found (IsNoNumber digits.now)) }
-    ensures failed { IfErr result (λ error. error ≡ OutOfMemory) }
+fn number_shown_as(digits: &[u8]) -> Option<u64>
+    ensures some { IfSome result (IsShownNumber digits.now) }
+    ensures none { IfNone result (IsNoNumber digits.now) }
 {
-    let Some(number) = number_of_digits(digits) else {
-        return Ok(None);
-    };
-    let mut pen = MemoryPen::new(alloc);
-    put_decimal(number, &mut pen);
-    let shown = pen.into_vec()?;
-    Ok(if shown.as_slice() == digits {
+    match str::from_utf8(digits) {
+        Ok(digits) => number_of_text(digits),
+        Err(_) => None,
+    }
+}
+
+/// Returns the number below 2^64 that is printed as this text. Returns None if none is: for example
+/// for `01` and `+1`.
+fn number_of_text(text: &str) -> Option<u64>
+    ensures some { IfSome result (IsShownNumber text.now) }
+    ensures none { IfNone result (IsNoNumber text.now) }
+{
+    match text.parse::<u64>() {
+        Ok(number) => number_if_shown(number, text),
+        Err(_) => None,
+    }
+}
+
+/// Returns the number, if it is printed as this text.
+fn number_if_shown(number: u64, text: &str) -> Option<u64>
+    ensures some { IfSome result (IsShownNumber text.now) }
+    ensures same { IfSome result (λ found. found ≡ number) }
+    ensures none { IfNone result (decimal number ≢ text.now) }
+{
+    if Buffer::new().format(number) == text {
         Some(number)
     } else {
         None
-    })
-}
-
-/// Returns the number of these decimal digits, before which zeros or a plus may be. Returns None if
-/// the text is of another form, or the number is too great.
-fn number_of_digits(digits: &[u8]) -> Option<u64>
-    ensures none { IfNone result (IsNoNumber digits.now) }
-    ensures some { IfSome result (λ found. (number : ℕ) → IsShownNumber digits.now number
-        → number ≡ found) }
-{
-    match str::from_utf8(digits) {
-        Ok(text) => text.parse::<u64>().ok(),
-        Err(_) => None,
     }
 }

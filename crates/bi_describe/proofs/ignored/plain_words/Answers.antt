@@ -17,13 +17,13 @@ pub loop-text-preserved : goal.loop-text-preserved
 loop-text-preserved c =
     let texts : List (List ℕ) = map (λ it. it.now) c.loop-text.yielded in
     let text = c.in-Some.text.now in
-    let word : Ignored = ignored_word c.in-Some-2.word in
+    let word : Ignored = ignored_word c.in-Some-plain_word.word in
     subst (λ (all : List (List ℕ)). AllZip IsPlainWord all (ignored_words c.push.new.self.items))
     (sym (map-append (λ it. it.now) c.loop-text.yielded (c.in-Some.text ∷ [])))
     (subst (AllZip IsPlainWord (texts ++ text ∷ []))
-    (sym (ap ignored_words c.in_ok-push.ensures.items ∙ map-append ignored_word c.loop-text.words.items (c.in-Some-2.word ∷ [])))
+    (sym (ap ignored_words c.in_ok-push.ensures.items ∙ map-append ignored_word c.loop-text.words.items (c.in-Some-plain_word.word ∷ [])))
     (AllZip-append IsPlainWord texts (ignored_words c.loop-text.words.items) (text ∷ []) (word ∷ []) c.loop-text.invariant
-    (c.in-Some-2.ensures.some, tt)))
+    (c.in-Some-plain_word.ensures.some, tt)))
 
 pub returns-in_default-clause-none : goal.returns-in_default-clause-none
 returns-in_default-clause-none c =

@@ -1,14 +1,15 @@
 //! The entries of a tree that stay.
 
-ghost use Rattle.std.specs.Prelude.{◌≡◌, ◌↔◌, ◌<◌, ◌+◌, ◌^◌, IfOk, IsTrue, [], map};
+ghost use Rattle.std.specs.Prelude.{◌≡◌, ◌↔◌, ◌<◌, ◌≤◌, ◌+◌, ◌++◌, ◌^◌, IfOk, IsTrue, OnOk, []};
+ghost use Rattle.std.specs.Prelude.{length, map};
 ghost use Rattle.bi_common.specs.MadeFields.{bytes_of_names};
 ghost use Rattle.bi_describe.specs.ImagePayloads.{bytes_of_payload};
 ghost use Rattle.bi_describe.specs.KeptEntries.{is_entry_ignored as is_ignored_entry};
 ghost use Rattle.bi_describe.specs.KeptEntries.{is_entry_kept as is_kept_entry};
-ghost use Rattle.bi_describe.specs.KeptEntries.{kept_entries as kept_entries_of};
+ghost use Rattle.bi_describe.specs.KeptEntries.{kept_entries as kept_entries_of, kept_entry};
 ghost use Rattle.bi_describe.specs.KeptEntries.{skipped_after as skipped_after_of};
 ghost use Rattle.bi_describe.specs.MadeWords.{ignored_words};
-ghost use Rattle.bi_describe.specs.TreeEntries.{as_entry};
+ghost use Rattle.bi_describe.specs.TreeEntries.{as_entry, most_open as most_open_of};
 
 use crate::describe::entries::Entry;
 use crate::describe::image_payload::ImagePayload;
@@ -29,16 +30,55 @@ pub(super) fn kept_entries<'a>(
 {
     let mut names = vec![in alloc; b"".as_slice(); most_open(entries)]?;
     let mut kept = Vec::new(alloc);
+    keep_entries(&mut kept, entries, words, &mut names)?;
+    Ok(kept)
+}
+
+/// Appends the entries of a tree that stay. Requires: `names` has room for the names of all nodes
+/// that are open at once.
+///
+/// Fails only if memory runs out.
+fn keep_entries<'a>(
+    kept: &mut Vec<Entry<'a>>,
+    entries: &[Entry<'a>],
+    words: &[Ignored],
+    names: &mut [&'a [u8]],
+) -> Result<(), AllocError>
+    requires { most_open_of 0 (map as_entry entries.now) ≤ length names.old }
+    ensures { OnOk result (map as_entry kept.new.items ≡ map as_entry kept.old.items
+        ++ kept_entries_of (ignored_words words.now) [] 0 (map as_entry entries.now)) }
+{
     let mut open = 0;
     let mut skipped = 0;
     for entry in entries {
-        open = open_after(*entry, &mut names, open);
-        if is_entry_kept(words, &names[..open], skipped, *entry) {
-            kept.push(*entry)?;
-        }
-        skipped = skipped_after(words, &names[..open], skipped, *entry);
+        open = open_after(*entry, names, open);
+        let now = &names[..open];
+        push_if_kept(kept, *entry, words, now, skipped)?;
+        skipped = skipped_after(words, now, skipped, *entry);
     }
-    Ok(kept)
+    Ok(())
+}
+
+/// Appends an entry, if it stays. These nodes are open after it, and so many are open before it
+/// from the one on that is left out.
+///
+/// Fails only if memory runs out.
+fn push_if_kept<'a>(
+    kept: &mut Vec<Entry<'a>>,
+    entry: Entry<'a>,
+    words: &[Ignored],
+    names: &[&[u8]],
+    skipped: usize,
+) -> Result<(), AllocError>
+    ensures { OnOk result (map as_entry kept.new.items ≡ map as_entry kept.old.items
+        ++ kept_entry (ignored_words words.now) (bytes_of_names names.now) skipped
+        (as_entry entry.entry)) }
+{
+    if is_entry_kept(words, names, skipped, entry) {
+        kept.push(entry)?;
+        return Ok(());
+    }
+    Ok(())
 }
 
 /// Returns whether an entry stays. These nodes are open after it, and so many are open before it

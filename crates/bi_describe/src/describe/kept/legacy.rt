@@ -1,6 +1,6 @@
 //! What stays of a legacy image.
 
-ghost use Rattle.std.specs.Prelude.{◌≡◌, ◌↔◌, [], IfOk, IsTrue, flat_map, map};
+ghost use Rattle.std.specs.Prelude.{◌≡◌, ◌↔◌, ◌++◌, [], IfOk, IsTrue, OnOk, flat_map, map};
 ghost use Rattle.std.specs.Option.{option_map};
 ghost use Rattle.bi_legacy.specs.Meaning.{image_of};
 ghost use Rattle.bi_common.specs.CommonLines.{header_code_lines, named_field};
@@ -105,14 +105,28 @@ fn kept_parts<'a>(
 {
     let mut kept = Vec::new(alloc);
     for index in 0..parts.len() {
-        if !is_part_ignored(words, index) {
-            kept.push(KeptPart {
-                index,
-                part: parts[index],
-            })?;
-        }
+        push_if_kept(&mut kept, index, parts[index], words)?;
     }
     Ok(kept)
+}
+
+/// Appends a part with its index, if it stays.
+///
+/// Fails only if memory runs out.
+fn push_if_kept<'a>(
+    kept: &mut Vec<KeptPart<'a>>,
+    index: usize,
+    part: DescribedPart<'a>,
+    words: &[Ignored],
+) -> Result<(), AllocError>
+    ensures { OnOk result (map numbered_part kept.new.items ≡ map numbered_part kept.old.items
+        ++ kept_part (ignored_words words.now) (index, part.entry.bytes.now)) }
+{
+    if is_part_ignored(words, index) {
+        return Ok(());
+    }
+    kept.push(KeptPart { index, part })?;
+    Ok(())
 }
 
 /// Puts the lines of the kind and of the fields, with the time if it stays.

@@ -1,10 +1,13 @@
 //! What stays of a flattened image tree.
 
-ghost use Rattle.std.specs.Prelude.{◌≡◌, ◌↔◌, IfOk, IsTrue, OnOk, map};
+ghost use Rattle.std.specs.Prelude.{◌≡◌, ◌↔◌, IfOk, IsTrue, None, OnOk, Some, [], map};
+ghost use Rattle.std.specs.Prelude.{if◌then◌else◌};
 ghost use Rattle.std.specs.Option.{option_map};
 ghost use Rattle.bi_fit.specs.ImageTree.{ImageTree};
 ghost use Rattle.bi_common.specs.LineTokens.{tokens_of_lines};
 ghost use Rattle.bi_describe.specs.DescribedImages.{HoldsTree};
+ghost use Rattle.bi_describe.specs.Ignoring.{is_node_ignored as is_node_out};
+ghost use Rattle.bi_describe.specs.KeptEntries.{kept_entries as kept_of};
 ghost use Rattle.bi_describe.specs.MadeWords.{ignored_words};
 ghost use Rattle.bi_describe.specs.ReadDescription.{root_lines};
 ghost use Rattle.bi_describe.specs.KeptImages.{IsKeptTree};
@@ -42,11 +45,7 @@ impl<'a, 'b> KeptFit<'a, 'b> {
         ensures { IfOk result (λ made. (tree : ImageTree) → HoldsTree tree fit.now
             → IsKeptTree (reduced_tree (ignored_words words.now) tree) made) }
     {
-        let entries = if is_node_ignored(words, &[]) {
-            None
-        } else {
-            Some(kept_entries(alloc, &fit.entries, words)?)
-        };
+        let entries = kept_root(alloc, &fit.entries, words)?;
         Ok(KeptFit {
             blob: fit.blob,
             entries,
@@ -80,6 +79,24 @@ impl<'a, 'b> KeptFit<'a, 'b> {
             && have_same_reservations(self.blob, other.blob)
             && have_same_trees(&self.entries, &other.entries)
     }
+}
+
+/// Returns the entries of a tree that stay, unless its root is left out.
+///
+/// Fails only if memory runs out.
+fn kept_root<'a>(
+    alloc: Global,
+    entries: &[Entry<'a>],
+    words: &[Ignored],
+) -> Result<Option<Vec<Entry<'a>>>, AllocError>
+    ensures { IfOk result (λ kept. option_map (λ entries. map as_entry entries.items) kept
+        ≡ (if is_node_out (ignored_words words.now) [] then None
+        else Some (kept_of (ignored_words words.now) [] 0 (map as_entry entries.now)))) }
+{
+    if is_node_ignored(words, &[]) {
+        return Ok(None);
+    }
+    Ok(Some(kept_entries(alloc, entries, words)?))
 }
 
 /// Puts the lines of a tree with these entries, the root first.

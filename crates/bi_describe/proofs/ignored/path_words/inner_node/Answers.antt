@@ -12,4 +12,4 @@ returns-in_default-clause-none c =
 pub returns-in-None-clause-none : goal.returns-in-None-clause-none
 returns-in-None-clause-none c =
     no_inner_path c.args.payload.now c.args.path.now c.requires
-    (subst (λ found. IfNone found (IsNoPath c.args.path.now)) c.in-None.is c.in_ok-path_shown_as.ensures.none)
+    (subst (λ found. IfNone found (IsNoPath c.args.path.now)) c.in-None.is c.in_ok-names.ensures.none)

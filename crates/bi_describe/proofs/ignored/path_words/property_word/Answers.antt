@@ -12,4 +12,4 @@ returns-in_default-clause-none c =
 pub returns-in-None-clause-none : goal.returns-in-None-clause-none
 returns-in-None-clause-none c =
     no_property_name c.args.path.now c.args.name.now c.requires
-    (subst (λ found. IfNone found (IsNoPropertyName c.args.name.now)) c.in-None.is c.in_ok-property_name_shown_as.ensures.none)
+    (subst (λ found. IfNone found (IsNoPropertyName c.args.name.now)) c.in-None.is c.in_ok-name.ensures.none)

@@ -1,5 +1,4 @@
 use Rattle.std.proofs.Common.{arith, ap, sym, ◌∙◌, true≢false}
-use Rattle.std.proofs.lemmas.Bool.{not-true}
 use Rattle.bi_describe.specs.TreeEntries.{as_entry}
 use Rattle.bi_describe.proofs.SameLists.{same_at}
 use Rattle.bi_describe.proofs.describe.kept.entries.are_same_entries.Goals as goal
@@ -11,5 +10,5 @@ returns-then-not-is_same_entry c = (
   let equal = ap as_entry c.index-one-index.is
   ∙ same_at as_entry c.args.one.now c.args.other.now c.loop-index.index c.index-one-index.result c.index-other-index.result (omega arith)
   (omega arith) same ∙ sym (ap as_entry c.index-other-index.is) in
-  absurd (true≢false (sym (c.is_same_entry.ensures.1 equal) ∙ not-true c.is_same_entry.result c.if-not-is_same_entry.true))),
+  absurd (true≢false (sym (c.is_same_entry.ensures.1 equal) ∙ c.if-not-is_same_entry.true))),
 )

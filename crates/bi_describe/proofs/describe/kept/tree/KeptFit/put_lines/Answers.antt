@@ -7,8 +7,8 @@ use Rattle.bi_describe.specs.TreeEntries.{as_entry}
 use Rattle.bi_describe.proofs.TreeLines.{lines_in_parts, reduced_lines_are}
 use Rattle.bi_describe.proofs.describe.kept.tree.KeptFit.put_lines.Goals as goal
 
-pub returns-in-Some : goal.returns-in-Some
-returns-in-Some g c = λ tree is.
+pub returns-in_ok-put_entries-in-Some : goal.returns-in_ok-put_entries-in-Some
+returns-in_ok-put_entries-in-Some g c = λ tree is.
     let puts = g.L.LinePen.puts in
     let then = g.met.L.LinePen.puts_in_turn in
     let fit = c.args.self.now in
