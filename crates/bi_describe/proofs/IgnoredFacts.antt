@@ -1,4 +1,4 @@
-use Rattle.std.proofs.Common.{◌≡◌, ◌≢◌, ℕ, Bool, true, not, List, [], ◌∷◌, ◌++◌, Contains, Option, None, Some, T, codes, inl, inr, lit≤, lit<, map, refl, sym, ap, subst, ◌∙◌, nat_cmp, true≢false}
+use Rattle.std.proofs.Common.{◌≡◌, ◌≢◌, ℕ, Bool, true, false, List, [], ◌∷◌, ◌++◌, Contains, Option, None, Some, T, codes, inl, inr, lit≤, lit<, map, refl, sym, ap, subst, ◌∙◌, nat_cmp, true≢false}
 use Rattle.std.specs.Cmp.Lexicographic.{slice_cmp}
 use Rattle.std.specs.Fmt.{digits}
 use Rattle.std.specs.FinMap.{entries, from_sorted, is_sorted, entries-from_sorted}
@@ -12,7 +12,7 @@ use Rattle.bi_fit.specs.Names.{images_name}
 use Rattle.bi_fit.proofs.FileFacts.{no_entries}
 use Rattle.bi_values.specs.ValueNames.{IsChildNameOfBytes}
 use Rattle.bi_values.proofs.Steps.{path_begins}
-use Rattle.bi_common.proofs.ReadableWords.Cuts.{begin_apart, first_same}
+use Rattle.bi_common.proofs.ReadableWords.Cuts.{begin_apart, later_same}
 use Rattle.bi_describe.specs.ComparedNodes.{ComparedNode, ComparedPayload, ImageWith, NoImage}
 use Rattle.bi_describe.specs.IgnoredWords.{AreNoPlainWords, IsBadValue, IsNoPlainWord, IsNoWordWithPath, IsPlain, IsPlainWord, ignored_text, payload_path}
 use Rattle.bi_describe.specs.IgnoredWords.{path_in, place_path}
@@ -78,14 +78,22 @@ abbrev first_payload : ReducedMeaning → ComparedPayload
 first_payload (OfReducedLegacy image) = NoImage
 first_payload (OfReducedTree tree) = payload_of_root tree.root
 
+same_bytes : (one other : List ℕ) → ImageWith (Some one) ≡ ImageWith (Some other) → one ≡ other
+same_bytes one other same = cc
+
+-- The kind.
+abbrev is_of_legacy : ReducedMeaning → Bool
+is_of_legacy (OfReducedLegacy image) = true
+is_of_legacy (OfReducedTree tree) = false
+
 pub same_without_is_known : SameWithoutIsKnown
 same_without_is_known = record {
   no_time = refl;
   no_part = refl;
   other_part = λ same. begin_apart 97 99 [] [] refl (ap first_part same);
   no_image = refl;
-  payload = λ same. let apart : ImageWith (Some (codes "abc")) ≡ ImageWith (Some (codes "abd")) = ap first_payload same in absurd cc;
-  kinds = λ same. absurd cc;
+  payload = λ same. begin_apart 99 100 [] [] refl (later_same (later_same (same_bytes (codes "abc") (codes "abd") (ap first_payload same))));
+  kinds = λ same. true≢false (ap is_of_legacy same);
 }
 
 -- ---- words

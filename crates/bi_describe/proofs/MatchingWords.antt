@@ -1,7 +1,6 @@
-use Rattle.std.proofs.Common.{◌≡◌, ◌<◌, ◌+◌, ℕ, Bool, true, false, List, [], ◌∷◌, drop, get_or, length, map, refl, sym, ap, ◌∙◌, add-one, true≢false}
+use Rattle.std.proofs.Common.{◌≡◌, ◌<◌, ◌+◌, ℕ, Bool, true, List, ◌∷◌, drop, get_or, length, sym, ap, ◌∙◌, add-one}
 use Rattle.std.specs.Prelude.{◌||◌}
 use Rattle.std.specs.List.{list_any}
-use Rattle.std.proofs.lemmas.List.{drop_all}
 use Rattle.std.proofs.Math.Seq.{drop-cons}
 use Rattle.bi_describe.specs.declared.ignored.Ignored.{Ignored as MadeWord}
 use Rattle.bi_describe.specs.Ignoring.{Ignored}
@@ -21,24 +20,10 @@ any_from : (leaves_out : Ignored → Bool) (words : List MadeWord) (index : ℕ)
     ≡ (leaves_out (ignored_word word) || list_any leaves_out (ignored_words (drop (index + 1) words)))
 any_from leaves_out words index word is within = ap (list_any leaves_out) (words_from words index word is within)
 
--- One that does ends the search,
+-- One that does ends the search.
 pub any_found : (leaves_out : Ignored → Bool) (words : List MadeWord) (index : ℕ) (word : MadeWord) (all : Bool) →
     word ≡ get_or words index word → index < length words → leaves_out (ignored_word word) ≡ true →
     list_any leaves_out (ignored_words (drop index words)) ≡ all → true ≡ all
 any_found leaves_out words index word all is within does left =
     sym (ap (λ b. b || list_any leaves_out (ignored_words (drop (index + 1) words))) does)
     ∙ sym (any_from leaves_out words index word is within) ∙ left
-
--- and one that does not is passed.
-pub any_passed : (leaves_out : Ignored → Bool) (words : List MadeWord) (index : ℕ) (word : MadeWord) (all : Bool) →
-    word ≡ get_or words index word → index < length words → leaves_out (ignored_word word) ≡ false →
-    list_any leaves_out (ignored_words (drop index words)) ≡ all → list_any leaves_out (ignored_words (drop (index + 1) words)) ≡ all
-any_passed leaves_out words index word all is within does_not left =
-    sym (ap (λ b. b || list_any leaves_out (ignored_words (drop (index + 1) words))) does_not)
-    ∙ sym (any_from leaves_out words index word is within) ∙ left
-
--- At the end there is none.
-pub any_none : (leaves_out : Ignored → Bool) (words : List MadeWord) (index : ℕ) (all : Bool) → (index < length words → ⊥) →
-    list_any leaves_out (ignored_words (drop index words)) ≡ all → false ≡ all
-any_none leaves_out words index all past left =
-    sym (ap (λ left. list_any leaves_out (ignored_words left)) (drop_all index words past)) ∙ left

@@ -1,4 +1,4 @@
-use Rattle.std.proofs.Common.{◌≡◌, ◌<◌, ◌+◌, ℕ, List, [], ◌∷◌, ◌++◌, drop, flat_map, get_or, length, map, refl, sym, ap, ◌∙◌}
+use Rattle.std.proofs.Common.{◌≡◌, ◌<◌, ◌≤◌, ◌+◌, ℕ, List, [], ◌∷◌, ◌++◌, drop, flat_map, get_or, length, map, refl, sym, ap, ◌∙◌}
 use Rattle.std.proofs.Common.{append_assoc, append-nil}
 use Rattle.std.proofs.lemmas.List.{drop_all, drop_more}
 use Rattle.bi_describe.specs.declared.describe.part.DescribedPart.{DescribedPart}
@@ -37,7 +37,7 @@ part_next words parts index part so_far more all is within is_more left =
 
 -- At the end none is left.
 pub parts_end : (words : List Ignored) (parts : List DescribedPart) (index : ℕ) (all so_far : List (ℕ × List ℕ)) →
-    (index < length parts → ⊥) → so_far ++ kept_from words index (drop index parts) ≡ all → so_far ≡ all
+    length parts ≤ index → so_far ++ kept_from words index (drop index parts) ≡ all → so_far ≡ all
 parts_end words parts index all so_far past left =
     sym (append-nil so_far)
     ∙ ap (λ (kept : List DescribedPart). so_far ++ kept_from words index kept) (sym (drop_all index parts past))

@@ -112,7 +112,7 @@ two_more (byte ∷ next ∷ later) (suc end) within differ none =
 pub no_two_more : (text : List ℕ) (end : ℕ) → end + 1 < length text → (get_or text end 0 == 47 && get_or text (end + 1) 0 == 47) ≡ false →
     has_two_slashes (take (end + 1) text) ≡ false → has_two_slashes (take (end + 1 + 1) text) ≡ false
 no_two_more text end within differ none =
-    let one : end + 1 ≡ suc end = add-one in
+    let one : end + 1 ≡ suc end = add-one end in
     let two : end + 1 + 1 ≡ suc (suc end) = omega arith in
     subst (λ n. has_two_slashes (take n text) ≡ false) (sym two)
     (two_more text end (omega (arith, within)) (subst (λ n. (get_or text end 0 == 47 && get_or text n 0 == 47) ≡ false) one differ)

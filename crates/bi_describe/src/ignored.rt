@@ -116,6 +116,7 @@ fn append_words(all: &mut Vec<Ignored>, words: Vec<Ignored>) -> Result<(), Alloc
     ensures { OnOk result (ignored_words all.new.items
         ≡ ignored_words all.old.items ++ ignored_words words.items) }
 {
+    all.reserve(words.as_slice().len())?;
     for word in words {
         all.push(word)?;
     }

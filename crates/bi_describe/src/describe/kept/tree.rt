@@ -75,9 +75,7 @@ impl<'a, 'b> KeptFit<'a, 'b> {
         ensures { (tree others : ReducedTree) → IsKeptTree tree self.now
             → IsKeptTree others other.now → IsTrue result ↔ (tree ≡ others) }
     {
-        self.blob.boot_cpu() == other.blob.boot_cpu()
-            && have_same_reservations(self.blob, other.blob)
-            && have_same_trees(&self.entries, &other.entries)
+        have_same_heads(self.blob, other.blob) && have_same_trees(&self.entries, &other.entries)
     }
 }
 
@@ -113,6 +111,17 @@ fn put_entries<L: LinePen>(
     let mut names = vec![in alloc; b"".as_slice(); most_open(entries)]?;
     put_tree(entries, &mut names, pen);
     Ok(())
+}
+
+/// Returns whether two blobs have the same boot processor and the same memory reservations.
+fn have_same_heads(one: &Blob, other: &Blob) -> bool
+    ensures { IsTrue result ↔ ((one.now.cpu ≡ other.now.cpu)
+        × (one.now.reservations ≡ other.now.reservations)) }
+{
+    if one.boot_cpu() != other.boot_cpu() {
+        return false;
+    }
+    have_same_reservations(one, other)
 }
 
 /// Returns whether two blobs have the same memory reservations in the same order.

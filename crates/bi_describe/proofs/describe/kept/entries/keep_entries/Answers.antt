@@ -39,7 +39,11 @@ loop-entry-preserved c =
     let all = map as_entry c.args.kept.now.items ++ kept_entries words [] 0 (map as_entry entries) in
     record {
       room = rw (c.open_after-open.ensures.counted, c.open_after-open.ensures.room) (omega (arith, room));
-      small = omega (arith, c.skipped_after-skipped.ensures, skipped_few words (open_after names entry) c.loop-entry.skipped entry);
+      small = omega (
+        arith,
+        c.skipped_after-skipped.ensures,
+        skipped_few words (bytes_of_names (take c.open_after-open.result c.open_after-open.new.names)) c.loop-entry.skipped entry,
+      );
       left = entry_next words names _ c.loop-entry.skipped c.skipped_after-skipped.result entry later
           (map as_entry c.loop-entry.kept.items) (map as_entry c.push_if_kept.new.kept.items) all
           c.open_after-open.ensures.names c.in_ok-push_if_kept.ensures c.skipped_after-skipped.ensures

@@ -21,4 +21,4 @@ returns-in_ok-put_entries-in-Some g c = λ tree is.
     (head_lines cpu)) c.put_head.new.pen) c.boot_cpu.ensures c.put_head.ensures)
     (then _ _ _ _ _ c.put_reservation_lines.ensures
     (subst (λ entries. puts c.put_reservation_lines.new.pen (tokens_of_lines (root_lines (map as_entry entries))) c.put_entries.new.pen)
-    c.deref.ensures.value c.in_ok-put_entries.ensures)))
+    c.deref.ensures.value c.in_ok-put_entries-in-Some.ensures)))
