@@ -29,10 +29,10 @@ use Rattle.bi_describe.proofs.DifferenceFacts.{comparison_as, image_lines, tree_
 -- Whole descriptions and comparisons of small files.
 
 -- What the two files mean.
-abbrev smallest_tree : ImageTree
+abbrev pub smallest_tree : ImageTree
 smallest_tree = plain_tree [] []
 
-abbrev bare_tree : ImageTree
+abbrev pub bare_tree : ImageTree
 bare_tree = plain_tree (codes "a" ∷ []) (None ∷ [])
 
 -- Their lines.
@@ -54,7 +54,7 @@ can_be : (tree : ImageTree) (lines : List Line) → description_lines (OfFit tre
 can_be tree lines are short few = search rules
 
 -- How many images a meaning has.
-abbrev images_in : Meaning → ℕ
+abbrev pub images_in : Meaning → ℕ
 images_in (OfLegacy image) = 0
 images_in (OfFit tree) = length tree.payloads
 
@@ -71,10 +71,10 @@ one_value : (format other_format : Format) (limits : Limits) (file other_file : 
 one_value format other_format limits file other_file value other text other_text is also = search (rules, equal_values)
 
 module _ (one_legacy : OneLegacyMeaning) where
-  only_smallest : MeansOnly widest smallest_text (OfFit smallest_tree)
+  pub only_smallest : MeansOnly widest smallest_text (OfFit smallest_tree)
   only_smallest = search (rules, smallest_means, one_file_meaning)
 
-  only_bare : MeansOnly widest bare_file (OfFit bare_tree)
+  pub only_bare : MeansOnly widest bare_file (OfFit bare_tree)
   only_bare = search (rules, bare_means, one_file_meaning)
 
   are_same : AreCompared widest smallest_text smallest_text true
@@ -89,20 +89,20 @@ module _ (one_legacy : OneLegacyMeaning) where
     is_same = (λ no. absurd (true≢false (sym no)), λ same. absurd (omega (arith, ap images_in same)));
   }
 
-  abbrev new_lines : List SignedLine
+  abbrev pub new_lines : List SignedLine
   new_lines =
       record { sign = sign.Added; text = codes "node /images/a" }
       ∷ record { sign = sign.Added; text = codes "payload /images/a none" } ∷ []
 
-  both_differ : new_lines ≡ comparison (OfFit smallest_tree) (OfFit bare_tree)
+  pub both_differ : new_lines ≡ comparison (OfFit smallest_tree) (OfFit bare_tree)
   unfolding digits
   both_differ = sym (comparison_as smallest_tree bare_tree smallest_are bare_are ∙ refl)
 
-  small : CanBeDescribed Lines widest (OfFit smallest_tree)
+  pub small : CanBeDescribed Lines widest (OfFit smallest_tree)
   unfolding digits
   small = can_be smallest_tree smallest_lines smallest_are (lit≤ tt) (λ over. omega (arith, over))
 
-  bare : CanBeDescribed Lines widest (OfFit bare_tree)
+  pub bare : CanBeDescribed Lines widest (OfFit bare_tree)
   unfolding digits
   bare = can_be bare_tree bare_lines bare_are (lit≤ tt) (λ over. omega (arith, over))
 

@@ -25,9 +25,9 @@ digests_of_bytes : (parts : List DescribedPart) → map digest_of_part parts ≡
 digests_of_bytes [] = refl
 digests_of_bytes (part ∷ later) = ap (λ digests. digest_of_part part ∷ digests) (digests_of_bytes later)
 
-pub digests_are : (parts : List DescribedPart) (image : LegacyImage) → bytes_of_parts parts ≡ image.parts →
+pub digests_of_parts_are : (parts : List DescribedPart) (image : LegacyImage) → bytes_of_parts parts ≡ image.parts →
     map digest_of_part parts ≡ map digest_of_payload image.parts
-digests_are parts image is = digests_of_bytes parts ∙ ap (map digest_of_payload) is
+digests_of_parts_are parts image is = digests_of_bytes parts ∙ ap (map digest_of_payload) is
 
 -- The objects of parts are those of their digests.
 objects_of_parts : (parts : List (List ℕ)) →

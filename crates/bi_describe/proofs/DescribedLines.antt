@@ -4,7 +4,7 @@ use Rattle.bi_base.proofs.ListMembers.{Contains-first, Contains-others, each-con
 use Rattle.bi_common.specs.Lines.{Line}
 use Rattle.bi_describe.specs.Descriptions.{description_lines}
 use Rattle.bi_describe.specs.IgnoringLaws.{LinesThatStayAreDescribed}
-use Rattle.bi_describe.specs.ReducedMeanings.{reduced, reduced_lines}
+use Rattle.bi_describe.specs.ReducedMeanings.{meaning_without, reduced_lines}
 use Rattle.bi_describe.proofs.LinesThatStay.{lines_stay}
 
 -- A line that stays is one of the description.
@@ -20,5 +20,5 @@ own_elements (first ∷ later) = (
 pub lines_that_stay_are_described : LinesThatStayAreDescribed
 lines_that_stay_are_described words meaning line has =
     let lines : List Line = description_lines meaning in
-    each-contains (Contains lines) (reduced_lines (reduced words meaning)) line
+    each-contains (Contains lines) (reduced_lines (meaning_without words meaning)) line
     (lines_stay (Contains lines) words meaning (own_elements lines)) has

@@ -1,6 +1,7 @@
 use Rattle.std.proofs.Common.{◌≡◌, ◌↔◌, ℕ, List, [], ◌∷◌, ◌++◌, Option, None, Some, map, refl, sym, ap, ap₂, ◌∙◌}
 use Rattle.std.specs.FinMap.{entries, same_entries_map}
 use Rattle.bi_blob.specs.Tree.{Nodes, none, node, Property, Root}
+use Rattle.bi_fit.proofs.Meanings.{same_in_some}
 use Rattle.bi_common.proofs.ReadableWords.Cuts.{first_same, later_same}
 use Rattle.bi_describe.specs.ComparedNodes.{ComparedNode, ComparedPayload, NoImage, ImageWith}
 use Rattle.bi_describe.specs.KeptEntries.{root_entries}
@@ -67,9 +68,6 @@ nodes_apart (node name own children later) (node other_name other_own other_chil
         node a c e g ≡ node b d f h
     whole p q r s = cc
 
-same_some : (one other : List EntryModel) → Some one ≡ Some other → one ≡ other
-same_some one other same = cc
-
 -- Roots with the same entries are the same.
 pub roots_apart : (one other : Option (Root ComparedNode)) → root_entries one ≡ root_entries other → one ≡ other
 roots_apart None None same = refl
@@ -77,6 +75,6 @@ roots_apart None (Some root) same = absurd cc
 roots_apart (Some root) None same = absurd cc
 roots_apart (Some root) (Some other) same =
     let rest = own_apart root.own other.own (node_entries root.children) (node_entries other.children)
-    (same_some (own_entries root.own ++ node_entries root.children) (own_entries other.own ++ node_entries other.children) same) in
+    (same_in_some (own_entries root.own ++ node_entries root.children) (own_entries other.own ++ node_entries other.children) same) in
     let nodes = nodes_apart root.children other.children [] [] (ap (λ entries. entries ++ (NodeEnds ∷ [])) rest.1) in
     (λ i. Some (record { own = rest.0 i; children = nodes.0 i }))

@@ -11,7 +11,7 @@ use Rattle.bi_describe.specs.IgnoringLaws.{MoreWordsKeepTheSame}
 use Rattle.bi_describe.specs.Ignoring.{Ignored, is_node_ignored, is_part_ignored, is_property_ignored, is_time_ignored, names_node}
 use Rattle.bi_describe.specs.Ignoring.{names_part, names_property, names_time}
 use Rattle.bi_describe.specs.ReducedMeanings.{OfReducedLegacy, OfReducedTree, ReducedMeaning, compared_root, fields_alone, kept_nodes}
-use Rattle.bi_describe.specs.ReducedMeanings.{kept_own, kept_part, kept_properties, kept_root, kept_time, numbered_parts, reduced}
+use Rattle.bi_describe.specs.ReducedMeanings.{kept_own, kept_part, kept_properties, kept_root, kept_time, numbered_parts, meaning_without}
 use Rattle.bi_describe.proofs.KeptProperties.{same_kept}
 
 -- What stays without what more words leave out is what stays of what stays without fewer.
@@ -148,7 +148,7 @@ reduced_again words (OfReducedLegacy image) =
 reduced_again words (OfReducedTree tree) =
     OfReducedTree (record { cpu = tree.cpu; reservations = tree.reservations; root = kept_again words tree.root })
 
-meaning_kept : (words more : List Ignored) (meaning : Meaning) → reduced_again more (reduced words meaning) ≡ reduced (words ++ more) meaning
+meaning_kept : (words more : List Ignored) (meaning : Meaning) → reduced_again more (meaning_without words meaning) ≡ meaning_without (words ++ more) meaning
 meaning_kept words more (OfLegacy image) = (λ i. OfReducedLegacy (record {
   fields = fields_alone image;
   time = time_kept words more image.time i;

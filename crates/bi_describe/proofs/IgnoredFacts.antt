@@ -1,7 +1,5 @@
-use Rattle.std.proofs.Common.{◌≡◌, ◌≢◌, ℕ, Bool, true, false, List, [], ◌∷◌, ◌++◌, Contains, Option, None, Some, T, codes, inl, inr, lit≤, lit<, map, refl, sym, ap, subst, ◌∙◌, nat_cmp, true≢false}
-use Rattle.std.specs.Cmp.Lexicographic.{slice_cmp}
+use Rattle.std.proofs.Common.{◌≡◌, ◌≢◌, ℕ, Bool, true, false, List, [], ◌∷◌, ◌++◌, Contains, Option, None, Some, codes, inl, inr, lit≤, lit<, map, refl, sym, ap, subst, ◌∙◌, true≢false}
 use Rattle.std.specs.Fmt.{digits}
-use Rattle.std.specs.FinMap.{entries, from_sorted, is_sorted, entries-from_sorted}
 use Rattle.std.specs.List.{AllByRecursion, AllZip, slice_split}
 use Rattle.std.specs.Prelude.{◌==◌}
 use Rattle.bi_base.specs.Cells.{cell, cell8}
@@ -19,31 +17,27 @@ use Rattle.bi_describe.specs.IgnoredWords.{path_in, place_path}
 use Rattle.bi_describe.specs.Ignoring.{Ignored, IgnoredTime, IgnoredSignatures, IgnoredNode, IgnoredProperty, IgnoredPart, Inside, Itself}
 use Rattle.bi_describe.specs.Ignoring.{OfImageNamed, OfPart, NodePlace, PayloadPlace, TreePlace}
 use Rattle.bi_describe.specs.KnownIgnored.{IgnoredWordsAreKnown, LegacyThatStaysIsKnown, SameWithoutIsKnown, TreesThatStayAreKnown}
-use Rattle.bi_describe.specs.KnownIgnored.{only_load, only_time}
+use Rattle.bi_describe.specs.KnownIgnored.{only_load, timestamp_alone}
 use Rattle.bi_describe.specs.ReducedMeanings.{OfReducedLegacy, OfReducedTree, ReducedMeaning}
 use Rattle.bi_describe.specs.WordParts.{IsNoPayload, IsNoPlace}
+use Rattle.bi_describe.proofs.DescriptionFacts.{sorted_entries}
 use Rattle.bi_describe.proofs.KeptProperties.{entries_kept}
 use Rattle.bi_describe.proofs.ValueWords.{bad_value, no_plain_among}
 use Rattle.bi_describe.proofs.WordTexts.{no_inner_payload, no_node_word}
 
 -- What stays of small images is known, and so are the words for what is left out.
 
--- Properties in byte order stay in their order.
-sorted_entries : (properties : List Property) → T (is_sorted (slice_cmp nat_cmp) properties) →
-    entries (from_sorted {R = slice_cmp nat_cmp} properties) ≡ properties
-sorted_entries properties sorted = entries-from_sorted (slice_cmp nat_cmp) properties sorted
-
 pub trees_that_stay_are_known : TreesThatStayAreKnown
 unfolding digits cell cell8
 trees_that_stay_are_known = record {
-  all = rw (entries_kept, entries_kept, entries_kept, sorted_entries only_time tt, sorted_entries only_load tt, no_entries) refl;
-  no_image = rw (entries_kept, entries_kept, sorted_entries only_time tt, no_entries) refl;
-  no_images = rw (entries_kept, entries_kept, sorted_entries only_time tt, no_entries) refl;
+  all = rw (entries_kept, entries_kept, entries_kept, sorted_entries timestamp_alone tt, sorted_entries only_load tt, no_entries) refl;
+  no_image = rw (entries_kept, entries_kept, sorted_entries timestamp_alone tt, no_entries) refl;
+  no_images = rw (entries_kept, entries_kept, sorted_entries timestamp_alone tt, no_entries) refl;
   no_root = refl;
-  no_property = rw (entries_kept, entries_kept, entries_kept, sorted_entries only_time tt, sorted_entries only_load tt, no_entries) refl;
-  no_time = rw (entries_kept, entries_kept, entries_kept, sorted_entries only_time tt, sorted_entries only_load tt, no_entries) refl;
-  no_signatures = rw (entries_kept, entries_kept, entries_kept, sorted_entries only_time tt, sorted_entries only_load tt, no_entries) refl;
-  nothing = rw (entries_kept, entries_kept, entries_kept, sorted_entries only_time tt, sorted_entries only_load tt, no_entries) refl;
+  no_property = rw (entries_kept, entries_kept, entries_kept, sorted_entries timestamp_alone tt, sorted_entries only_load tt, no_entries) refl;
+  no_time = rw (entries_kept, entries_kept, entries_kept, sorted_entries timestamp_alone tt, sorted_entries only_load tt, no_entries) refl;
+  no_signatures = rw (entries_kept, entries_kept, entries_kept, sorted_entries timestamp_alone tt, sorted_entries only_load tt, no_entries) refl;
+  nothing = rw (entries_kept, entries_kept, entries_kept, sorted_entries timestamp_alone tt, sorted_entries only_load tt, no_entries) refl;
 }
 
 pub legacy_that_stays_is_known : LegacyThatStaysIsKnown

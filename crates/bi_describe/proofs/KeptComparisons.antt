@@ -20,13 +20,13 @@ use Rattle.bi_describe.specs.declared.describe.kept.KeptImage.TheVariants.{Legac
 use Rattle.bi_describe.specs.declared.describe.kept.legacy.KeptLegacy.{KeptLegacy}
 use Rattle.bi_describe.specs.declared.describe.kept.tree.KeptFit.{KeptFit}
 use Rattle.bi_describe.specs.Comparing.{IsDescribingError, IsReadingError, comparison_text, differences_or_reason, lines_to_compare, reason}
-use Rattle.bi_describe.specs.ComparingWithout.{AreComparedWithout, AreMeanings, IgnoringModel, IsComparisonWithout, IsIgnoringError}
+use Rattle.bi_describe.specs.ComparingWithout.{AreComparedWithout, AreMeanings, IgnoringOptionsModel, IsComparisonWithout, IsIgnoringError}
 use Rattle.bi_describe.specs.ComparingWithout.{comparison_without, lines_without, text_without}
 use Rattle.bi_describe.specs.Describing.{CanBeDescribed}
 use Rattle.bi_describe.specs.Differences.{SignedLine, differences, text_of_differences}
 use Rattle.bi_describe.specs.Ignoring.{Ignored}
 use Rattle.bi_describe.specs.KeptImages.{IsKept}
-use Rattle.bi_describe.specs.ReducedMeanings.{AreSameWithout, reduced, reduced_header_lines, reduced_lines, time_lines}
+use Rattle.bi_describe.specs.ReducedMeanings.{AreSameWithout, meaning_without, reduced_header_lines, reduced_lines, time_lines}
 use Rattle.bi_common.specs.Lines.{text_of_lines}
 use Rattle.bi_describe.proofs.ComparedImages.{memory_error, some_or, some_text}
 
@@ -34,31 +34,31 @@ use Rattle.bi_describe.proofs.ComparedImages.{memory_error, some_or, some_text}
 
 -- What differs between images of one kind.
 abbrev stay_apart : List Ignored → (one other : Meaning) → List SignedLine
-stay_apart words one other = differences_or_reason (reduced_lines (reduced words one)) (reduced_lines (reduced words other))
+stay_apart words one other = differences_or_reason (reduced_lines (meaning_without words one)) (reduced_lines (meaning_without words other))
 
-legacy_apart : (words : List Ignored) (one other : Meaning) (a b : KeptLegacy) → IsKept (reduced words one) (Legacy a) →
-    IsKept (reduced words other) (Legacy b) → stay_apart words one other ≡ comparison_without words one other
+legacy_apart : (words : List Ignored) (one other : Meaning) (a b : KeptLegacy) → IsKept (meaning_without words one) (Legacy a) →
+    IsKept (meaning_without words other) (Legacy b) → stay_apart words one other ≡ comparison_without words one other
 legacy_apart words (OfLegacy one) (OfLegacy other) a b is also = refl
 legacy_apart words (OfLegacy one) (OfFit other) a b is also = absurd also
 legacy_apart words (OfFit one) other a b is also = absurd is
 
-fits_apart : (words : List Ignored) (one other : Meaning) (a b : KeptFit) → IsKept (reduced words one) (Fit a) →
-    IsKept (reduced words other) (Fit b) → stay_apart words one other ≡ comparison_without words one other
+fits_apart : (words : List Ignored) (one other : Meaning) (a b : KeptFit) → IsKept (meaning_without words one) (Fit a) →
+    IsKept (meaning_without words other) (Fit b) → stay_apart words one other ≡ comparison_without words one other
 fits_apart words (OfFit one) (OfFit other) a b is also = refl
 fits_apart words (OfFit one) (OfLegacy other) a b is also = absurd also
 fits_apart words (OfLegacy one) other a b is also = absurd is
 
 pub two_legacy_stay : (words : List Ignored) (one other : Meaning) (image others : KeptImage) (a b : KeptLegacy) → image ≡ Legacy a →
-    others ≡ Legacy b → IsKept (reduced words one) image → IsKept (reduced words other) others →
+    others ≡ Legacy b → IsKept (meaning_without words one) image → IsKept (meaning_without words other) others →
     stay_apart words one other ≡ comparison_without words one other
 two_legacy_stay words one other image others a b is also kept other_kept =
-    legacy_apart words one other a b (subst (IsKept (reduced words one)) is kept) (subst (IsKept (reduced words other)) also other_kept)
+    legacy_apart words one other a b (subst (IsKept (meaning_without words one)) is kept) (subst (IsKept (meaning_without words other)) also other_kept)
 
 pub two_fits_stay : (words : List Ignored) (one other : Meaning) (image others : KeptImage) (a b : KeptFit) → image ≡ Fit a →
-    others ≡ Fit b → IsKept (reduced words one) image → IsKept (reduced words other) others →
+    others ≡ Fit b → IsKept (meaning_without words one) image → IsKept (meaning_without words other) others →
     stay_apart words one other ≡ comparison_without words one other
 two_fits_stay words one other image others a b is also kept other_kept =
-    fits_apart words one other a b (subst (IsKept (reduced words one)) is kept) (subst (IsKept (reduced words other)) also other_kept)
+    fits_apart words one other a b (subst (IsKept (meaning_without words one)) is kept) (subst (IsKept (meaning_without words other)) also other_kept)
 
 -- What differs is not nothing.
 some_without : (words : List Ignored) (one other : Meaning) → text_of_differences (comparison_without words one other) ≡ [] → ⊥
@@ -67,13 +67,13 @@ some_without words (OfLegacy one) (OfFit other) =
 some_without words (OfFit one) (OfLegacy other) =
     some_text (record { sign = Removed; text = codes "kind fit" }) (record { sign = Added; text = codes "kind legacy" } ∷ [])
 some_without words (OfLegacy one) (OfLegacy other) =
-    some_or (differences (lines_to_compare (reduced_lines (reduced words (OfLegacy one)))) (lines_to_compare
-    (reduced_lines (reduced words (OfLegacy other)))))
-    (reason (text_of_lines (reduced_lines (reduced words (OfLegacy one)))) (text_of_lines (reduced_lines (reduced words (OfLegacy other)))))
+    some_or (differences (lines_to_compare (reduced_lines (meaning_without words (OfLegacy one)))) (lines_to_compare
+    (reduced_lines (meaning_without words (OfLegacy other)))))
+    (reason (text_of_lines (reduced_lines (meaning_without words (OfLegacy one)))) (text_of_lines (reduced_lines (meaning_without words (OfLegacy other)))))
 some_without words (OfFit one) (OfFit other) =
-    some_or (differences (lines_to_compare (reduced_lines (reduced words (OfFit one)))) (lines_to_compare
-    (reduced_lines (reduced words (OfFit other)))))
-    (reason (text_of_lines (reduced_lines (reduced words (OfFit one)))) (text_of_lines (reduced_lines (reduced words (OfFit other)))))
+    some_or (differences (lines_to_compare (reduced_lines (meaning_without words (OfFit one)))) (lines_to_compare
+    (reduced_lines (meaning_without words (OfFit other)))))
+    (reason (text_of_lines (reduced_lines (meaning_without words (OfFit one)))) (text_of_lines (reduced_lines (meaning_without words (OfFit other)))))
 
 -- There are differences if and only if meanings are not the same.
 none_if_same : (words : List Ignored) (one other : Meaning) (same : Bool) →
@@ -83,7 +83,7 @@ none_if_same words one other false =
     (λ empty. absurd (some_without words one other empty), λ is. absurd (true≢false (sym is)))
 
 -- The result of comparing what stays.
-pub compared_without : (options : IgnoringModel) (one other : Meaning) (same : Bool) (text : List ℕ) →
+pub compared_without : (options : IgnoringOptionsModel) (one other : Meaning) (same : Bool) (text : List ℕ) →
     IsTrue same ↔ AreSameWithout options.words one other →
     text ≡ text_without options same (lines_without options.words one other same) → IsComparisonWithout options one other same text
 compared_without options one other same text is is_text = record {
@@ -104,7 +104,7 @@ meanings_of limits one other image other_image opened other_opened = record {
   other_means = opened_means limits other other_image other_opened;
 }
 
-pub files_without : (options : IgnoringModel) (limits : Limits) (one other : List ℕ) (image other_image : BootImage) (same : Bool)
+pub files_without : (options : IgnoringOptionsModel) (limits : Limits) (one other : List ℕ) (image other_image : BootImage) (same : Bool)
     (text : List ℕ) → IsReadBootImage limits one image → IsReadBootImage limits other other_image →
     CanBeDescribed Lines limits (meaning_of image) → CanBeDescribed Lines limits (meaning_of other_image) →
     IsComparisonWithout options (meaning_of image) (meaning_of other_image) same text → AreComparedWithout options limits one other same text

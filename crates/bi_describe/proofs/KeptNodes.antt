@@ -14,7 +14,7 @@ use Rattle.bi_describe.specs.ReducedMeanings.{kept_nodes, kept_own, kept_propert
 use Rattle.bi_describe.specs.TreeEntries.{EntryModel, NodeBegins, NodeEnds, PayloadEntry, PropertiesBegin, PropertyEntry}
 use Rattle.bi_describe.specs.TreeEntries.{ChildrenBegin, node_entries, open_after, own_entries, payload_entries, property_entries}
 use Rattle.bi_describe.proofs.KeptProperties.{entries_kept}
-use Rattle.bi_describe.proofs.TreeLines.{closed}
+use Rattle.bi_describe.proofs.TreeLines.{names_above}
 
 -- The entries that stay are those of the nodes that stay.
 
@@ -58,7 +58,7 @@ end_skipped : (words : List Ignored) (names : List (List ℕ)) (name : List ℕ)
 end_skipped words names name skipped rest =
     let left : skipped + 1 - 1 ≡ skipped = omega arith in
     rw (one_more skipped)
-    (ap₂ (λ (names : List (List ℕ)) (skipped : ℕ). kept_entries words names skipped rest) (closed names name) left)
+    (ap₂ (λ (names : List (List ℕ)) (skipped : ℕ). kept_entries words names skipped rest) (names_above names name) left)
 
 -- and nodes.
 nodes_skipped : (words : List Ignored) (names : List (List ℕ)) (skipped : ℕ) → (skipped == 0) ≡ false → (nodes : Nodes ComparedNode)
@@ -150,7 +150,7 @@ nodes_stay words above (node name own children later) rest =
         ∙ ap (λ others. own_entries (kept_own words inner own) ++ others)
         (in_children
         ∙ ap (λ others. node_entries kept ++ (NodeEnds ∷ others))
-        (ap (λ names. kept_entries words names 0 (node_entries later ++ rest)) (closed above name) ∙ in_later))
+        (ap (λ names. kept_entries words names 0 (node_entries later ++ rest)) (names_above above name) ∙ in_later))
         ∙ sym (in_turn (kept_own words inner own) kept (kept_nodes words above later) (kept_entries words above 0 rest))
 
     by : (b : Bool) → is_node_ignored words (above ++ name ∷ []) ≡ b →

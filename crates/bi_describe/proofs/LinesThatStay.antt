@@ -16,7 +16,7 @@ use Rattle.bi_describe.specs.Descriptions.{description_lines, digest_of_payload,
 use Rattle.bi_describe.specs.Descriptions.{part_lines, payload_lines, plain_node, property_line, tree_lines}
 use Rattle.bi_describe.specs.Ignoring.{Ignored, is_node_ignored, is_part_ignored, is_property_ignored, is_time_ignored}
 use Rattle.bi_describe.specs.ReducedMeanings.{compared_root, fields_alone, kept_nodes, kept_own, kept_part, kept_root, kept_time}
-use Rattle.bi_describe.specs.ReducedMeanings.{numbered_parts, reduced, reduced_header_lines, reduced_legacy, reduced_legacy_lines}
+use Rattle.bi_describe.specs.ReducedMeanings.{numbered_parts, meaning_without, reduced_header_lines, reduced_legacy, reduced_legacy_lines}
 use Rattle.bi_describe.specs.ReducedMeanings.{reduced_lines, reduced_part_lines, reduced_root_lines, reduced_tree, reduced_tree_lines}
 use Rattle.bi_describe.proofs.ComparedTrees.{as_described, nodes_described}
 use Rattle.bi_describe.proofs.KeptProperties.{entries_kept}
@@ -44,10 +44,12 @@ module _ (P : Line → Type 0) (words : List Ignored) where
   own_stays names own each =
       let payload : List Line = payload_lines names (described_payload own.payload) in
       let properties : List Line = map (property_line names) (entries own.properties) in
-      let p : List ℕ → Bool = λ name. not (is_property_ignored words names name) in
-      (each.0, each-append P payload _ (each-front P payload properties each.1)
-      (subst (λ (kept : List Property). Each (map (property_line names) kept)) (sym (entries_kept own.properties p))
-      (properties_stay names p (entries own.properties) (each-back P payload properties each.1))))
+      let p : List ℕ → Bool = λ name. not (is_property_ignored words names name) in (
+        each.0,
+        each-append P payload _ (each-front P payload properties each.1)
+            (subst (λ (kept : List Property). Each (map (property_line names) kept)) (sym (entries_kept own.properties p))
+            (properties_stay names p (entries own.properties) (each-back P payload properties each.1))),
+      )
 
   nodes_stay : (above : List (List ℕ)) (nodes : Nodes ComparedNode) → Each (node_lines above (as_described nodes)) →
       Each (node_lines above (as_described (kept_nodes words above nodes)))
@@ -101,9 +103,14 @@ module _ (P : Line → Type 0) (words : List Ignored) where
 
   tree_stays : (tree : ImageTree) → Each (fit_lines tree) → Each (reduced_tree_lines (reduced_tree words tree))
   tree_stays tree each =
-      let reservations : List Line = map reservation_line tree.reservations in
-      (each.0, (each.1.0, each-append P reservations _ (each-front P reservations (tree_lines tree) each.1.1)
-      (root_stays tree (each-back P reservations (tree_lines tree) each.1.1))))
+      let reservations : List Line = map reservation_line tree.reservations in (
+        each.0,
+        (
+          each.1.0,
+          each-append P reservations _ (each-front P reservations (tree_lines tree) each.1.1)
+              (root_stays tree (each-back P reservations (tree_lines tree) each.1.1)),
+        ),
+      )
 
   -- ---- legacy images
 
@@ -133,6 +140,6 @@ module _ (P : Line → Type 0) (words : List Ignored) where
       each-append P (reduced_header_lines (fields_alone image) (kept_time words image.time)) _
       (header_stays image (each-front P header parts each)) (parts_stay 0 image.parts (each-back P header parts each))
 
-  pub lines_stay : (meaning : Meaning) → Each (description_lines meaning) → Each (reduced_lines (reduced words meaning))
+  pub lines_stay : (meaning : Meaning) → Each (description_lines meaning) → Each (reduced_lines (meaning_without words meaning))
   lines_stay (OfLegacy image) each = legacy_stays image each
   lines_stay (OfFit tree) each = tree_stays tree each

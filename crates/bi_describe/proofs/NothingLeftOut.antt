@@ -23,12 +23,13 @@ use Rattle.bi_describe.specs.Descriptions.{description_lines, digest_of_payload,
 use Rattle.bi_describe.specs.Descriptions.{plain_node}
 use Rattle.bi_describe.specs.IgnoringLaws.{AreComparedWhole, NothingLeftOutCompares}
 use Rattle.bi_describe.specs.ReducedMeanings.{AreSameWithout, OfReducedLegacy, OfReducedTree, ReducedLegacy, ReducedMeaning, ReducedTree}
-use Rattle.bi_describe.specs.ReducedMeanings.{compared_root, kept_nodes, kept_own, kept_part, kept_properties, kept_root, numbered_parts, reduced}
+use Rattle.bi_describe.specs.ReducedMeanings.{compared_root, kept_nodes, kept_own, kept_part, kept_properties, kept_root, numbered_parts, meaning_without}
 use Rattle.bi_describe.specs.ReducedMeanings.{reduced_lines, reduced_part_lines, reduced_root_lines, reduced_tree_lines}
 use Rattle.bi_describe.proofs.ComparedTrees.{as_described, nodes_described}
 use Rattle.bi_describe.proofs.KeptImageFacts.{legacy_as_meanings, trees_as_meanings}
 use Rattle.bi_describe.proofs.KeptProperties.{same_kept}
-use Rattle.bi_describe.proofs.ReadableDescriptions.DescribedNodes.{HasImages, ImagesIn, InFirst, InLater, images_in, same_described}
+use Rattle.bi_describe.proofs.ReadableDescriptions.SameTrees.{images_of}
+use Rattle.bi_describe.proofs.ReadableDescriptions.DescribedNodes.{HasImages, ImagesIn, InFirst, InLater, images_among, same_described}
 
 -- Without words all of a meaning stays.
 
@@ -93,7 +94,7 @@ node_payloads : (nodes : Nodes PropertyMap) (payloads : List (Option (List ℕ))
     payloads_of (compared_nodes nodes payloads) ≡ payloads
 node_payloads none payloads has = let nothing : None ≡ Some has.images = has.has_images in absurd cc
 node_payloads (node name own children later) payloads has =
-    by (images_in ArePropertiesByName name own children later payloads has) (node_payloads later payloads)
+    by (images_among ArePropertiesByName name own children later payloads has) (node_payloads later payloads)
   where
     by : ImagesIn ArePropertiesByName name own children later payloads →
         (HasImages ArePropertiesByName later payloads → payloads_of (compared_nodes later payloads) ≡ payloads) →
@@ -103,12 +104,6 @@ node_payloads (node name own children later) payloads has =
         (others_plain later payloads no_more) ∙ append-nil payloads)
     by (InLater is more) rest =
         rw is (ap₂ (λ (below after : List (Option (List ℕ))). below ++ after) (plain_payloads children) (rest more))
-
-images_of : (tree : ImageTree) → IsImageTree tree → HasImages ArePropertiesByName tree.root.children tree.payloads
-images_of tree is = record { are_nodes = is.is_tree.children; images = is.images; has_images = is.has_images; apart = is.apart }
-
-same_some : (one other : Root ComparedNode) → Some one ≡ Some other → one ≡ other
-same_some one other same = cc
 
 -- Trees are read back from what is compared of them.
 same_trees : (one other : ImageTree) → IsImageTree one → IsImageTree other → one.cpu ≡ other.cpu → one.reservations ≡ other.reservations →
@@ -153,16 +148,13 @@ whole_legacy image = record {
   parts = numbered_parts 0 image.parts;
 }
 
-legacy_stays : (image : LegacyImage) → reduced [] (OfLegacy image) ≡ OfReducedLegacy (whole_legacy image)
+legacy_stays : (image : LegacyImage) → meaning_without [] (OfLegacy image) ≡ OfReducedLegacy (whole_legacy image)
 legacy_stays image =
     ap (λ parts. OfReducedLegacy (record (whole_legacy image) { parts = parts })) (parts_stay (numbered_parts 0 image.parts))
 
-same_time : (one other : ℕ) → Some one ≡ Some other → one ≡ other
-same_time one other same = cc
-
 same_legacy : (one other : LegacyImage) → whole_legacy one ≡ whole_legacy other → one ≡ other
 same_legacy one other same =
-    let time = same_time one.time other.time (ap (λ (image : ReducedLegacy). image.time) same) in
+    let time = same_in_some one.time other.time (ap (λ (image : ReducedLegacy). image.time) same) in
     let parts : one.parts ≡ other.parts = sym (numbers_off 0 one.parts)
     ∙ ap (λ (image : ReducedLegacy). map (λ (part : ℕ × List ℕ). part.1) image.parts) same ∙ numbers_off 0 other.parts in
     (λ i. record {
@@ -184,12 +176,12 @@ abbrev whole_tree : ImageTree → ReducedTree
 whole_tree tree =
     record { cpu = tree.cpu; reservations = tree.reservations; root = Some (compared_root tree.root tree.payloads) }
 
-tree_stays : (tree : ImageTree) → reduced [] (OfFit tree) ≡ OfReducedTree (whole_tree tree)
+tree_stays : (tree : ImageTree) → meaning_without [] (OfFit tree) ≡ OfReducedTree (whole_tree tree)
 tree_stays tree =
     ap (λ root. OfReducedTree (record (whole_tree tree) { root = root })) (root_stays (compared_root tree.root tree.payloads))
 
 -- The lines are those of the description.
-pub all_lines : (meaning : Meaning) → reduced_lines (reduced [] meaning) ≡ description_lines meaning
+pub all_lines : (meaning : Meaning) → reduced_lines (meaning_without [] meaning) ≡ description_lines meaning
 all_lines (OfLegacy image) =
     ap reduced_lines (legacy_stays image) ∙ ap (λ (lines : List Line). header_lines image ++ lines) (parts_lined 0 image.parts)
 all_lines (OfFit tree) =
@@ -202,7 +194,7 @@ abbrev IsWhole : Meaning → Type 0
 IsWhole (OfLegacy image) = ℕ
 IsWhole (OfFit tree) = IsImageTree tree
 
-whole_apart : (one : LegacyImage) (other : ImageTree) → reduced [] (OfLegacy one) ≡ reduced [] (OfFit other) → ⊥
+whole_apart : (one : LegacyImage) (other : ImageTree) → meaning_without [] (OfLegacy one) ≡ meaning_without [] (OfFit other) → ⊥
 whole_apart one other same =
     let apart : OfReducedLegacy (whole_legacy one) ≡ OfReducedTree (whole_tree other) = sym (legacy_stays one) ∙ same ∙ tree_stays other in
     absurd cc
@@ -217,7 +209,7 @@ same_whole (OfFit one) (OfFit other) is also same =
     let trees = (trees_as_meanings (whole_tree one) (whole_tree other)).1 (sym (tree_stays one) ∙ same ∙ tree_stays other) in
     ap OfFit (same_trees one other is also (ap (λ (tree : ReducedTree). tree.cpu) trees)
     (ap (λ (tree : ReducedTree). tree.reservations) trees)
-    (same_some (compared_root one.root one.payloads) (compared_root other.root other.payloads)
+    (same_in_some (compared_root one.root one.payloads) (compared_root other.root other.payloads)
     (ap (λ (tree : ReducedTree). tree.root) trees)))
 
 -- What differs is what differs between the descriptions.
@@ -235,7 +227,7 @@ pub nothing_left_out_compares : NothingLeftOutCompares
 nothing_left_out_compares limits other_limits file other_file one other means other_means = record {
   is_same = (
     same_whole one other (is_whole limits file one means) (is_whole other_limits other_file other other_means),
-    ap (reduced []),
+    ap (meaning_without []),
   );
   differences = same_differences one other;
 }

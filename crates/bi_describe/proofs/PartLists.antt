@@ -15,9 +15,9 @@ parts_from : (parts : List DescribedPart) (index : ℕ) (part : DescribedPart) �
 parts_from parts index part is within =
     drop_more parts index part within ∙ ap (λ item. item ∷ drop (index + 1) parts) (sym is)
 
-pub digests_from : (parts : List DescribedPart) (index : ℕ) (part : DescribedPart) → part ≡ get_or parts index part →
+pub part_digests_from : (parts : List DescribedPart) (index : ℕ) (part : DescribedPart) → part ≡ get_or parts index part →
     index < length parts → map digest_of_part (drop index parts) ≡ digest_of_part part ∷ map digest_of_part (drop (index + 1) parts)
-digests_from parts index part is within = ap (λ (left : List DescribedPart). map digest_of_part left) (parts_from parts index part is within)
+part_digests_from parts index part is within = ap (λ (left : List DescribedPart). map digest_of_part left) (parts_from parts index part is within)
 
 -- The parts that stay of those from one on.
 abbrev pub kept_from : List Ignored → (index : ℕ) → List DescribedPart → List (ℕ × List ℕ)
@@ -36,9 +36,9 @@ part_next words parts index part so_far more all is within is_more left =
     ∙ left
 
 -- At the end none is left.
-pub parts_end : (words : List Ignored) (parts : List DescribedPart) (index : ℕ) (all so_far : List (ℕ × List ℕ)) →
+pub no_parts_left : (words : List Ignored) (parts : List DescribedPart) (index : ℕ) (all so_far : List (ℕ × List ℕ)) →
     length parts ≤ index → so_far ++ kept_from words index (drop index parts) ≡ all → so_far ≡ all
-parts_end words parts index all so_far past left =
+no_parts_left words parts index all so_far past left =
     sym (append-nil so_far)
     ∙ ap (λ (kept : List DescribedPart). so_far ++ kept_from words index kept) (sym (drop_all index parts past))
     ∙ left

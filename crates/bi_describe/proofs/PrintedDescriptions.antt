@@ -30,7 +30,7 @@ use Rattle.bi_describe.specs.Descriptions.{PayloadDigest, NodePayload, NotAnImag
 use Rattle.bi_describe.specs.Descriptions.{described_nodes, digest_of_payload, digest_words, fit_lines, legacy_lines, node_lines, own_lines}
 use Rattle.bi_describe.specs.Descriptions.{part_lines, payload_lines, plain_node, property_line}
 use Rattle.bi_describe.specs.Ignoring.{Ignored}
-use Rattle.bi_describe.specs.ReducedMeanings.{reduced, reduced_lines}
+use Rattle.bi_describe.specs.ReducedMeanings.{meaning_without, reduced_lines}
 use Rattle.bi_describe.proofs.LinesThatStay.{lines_stay}
 use Rattle.bi_describe.proofs.ShownNodes.{AreShown, IsShownPayload, all_shown, root_shown}
 
@@ -116,14 +116,14 @@ written_utf8 text begin end items ascii begins ends put =
 
 -- So are the lines of what stays of either, whatever is left out.
 pub legacy_stays_ascii : (words : List Ignored) (image : LegacyImage) → AreBytes image.name →
-    IsAscii (text_of_lines (reduced_lines (reduced words (OfLegacy image))))
+    IsAscii (text_of_lines (reduced_lines (meaning_without words (OfLegacy image))))
 legacy_stays_ascii words image bytes =
-    line_texts_are_ascii (reduced_lines (reduced words (OfLegacy image)))
+    line_texts_are_ascii (reduced_lines (meaning_without words (OfLegacy image)))
     (lines_stay CanPrintLine words (OfLegacy image) (legacy_can image bytes))
 
 pub fit_stays_ascii : (words : List Ignored) (content : FitModel) → IsHeld content →
-    IsAscii (text_of_lines (reduced_lines (reduced words (OfFit (tree_of content)))))
+    IsAscii (text_of_lines (reduced_lines (meaning_without words (OfFit (tree_of content)))))
 fit_stays_ascii words content held =
-    line_texts_are_ascii (reduced_lines (reduced words (OfFit (tree_of content))))
+    line_texts_are_ascii (reduced_lines (meaning_without words (OfFit (tree_of content))))
     (lines_stay CanPrintLine words (OfFit (tree_of content))
     (fit_can content.blob.file (tree_of content) (held_means content held)))

@@ -46,8 +46,8 @@ own_before names own later = by own.payload
         ap (λ (lines : List Line). payload_lines names (described_payload (ImageWith payload)) ++ lines) (properties_before names (entries own.properties) later)
 
 -- After the end of a node, the nodes above it are open.
-pub closed : (above : List (List ℕ)) (name : List ℕ) → take (length (above ++ name ∷ []) - 1) (above ++ name ∷ []) ≡ above
-closed above name =
+pub names_above : (above : List (List ℕ)) (name : List ℕ) → take (length (above ++ name ∷ []) - 1) (above ++ name ∷ []) ≡ above
+names_above above name =
     let counted : length (above ++ name ∷ []) - 1 ≡ length above = omega (arith, length-append above (name ∷ [])) in
     ap (λ n. take n (above ++ name ∷ [])) counted
     ∙ take-append-le (length above) above (name ∷ []) (omega arith)
@@ -70,7 +70,7 @@ lines_of_nodes above (node name own children later) rest =
     ∙ own_before inner own (node_entries children ++ after_end)
     ∙ ap (λ (lines : List Line). own_ones ++ lines)
     (lines_of_nodes inner children after_end
-    ∙ ap (λ (lines : List Line). below ++ lines) (ap (λ names. entry_lines names (node_entries later ++ rest)) (closed above name)
+    ∙ ap (λ (lines : List Line). below ++ lines) (ap (λ names. entry_lines names (node_entries later ++ rest)) (names_above above name)
     ∙ lines_of_nodes above later rest))
     ∙ sym (append_assoc own_ones (below ++ after) left ∙ ap (λ (lines : List Line). own_ones ++ lines) (append_assoc below after left)))
 

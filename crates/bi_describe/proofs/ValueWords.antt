@@ -25,6 +25,14 @@ values_more (first ∷ later) value words more all are = record {
   are = ap (λ words. words ++ more) all.are ∙ append_assoc all.first all.others more;
 }
 
+-- One more word without a path.
+pub one_more_plain : (texts : List (List ℕ)) (words : List Ignored) (text : List ℕ) (word : Ignored) → AllZip IsPlainWord texts words →
+    IsPlainWord text word → AllZip IsPlainWord (texts ++ text ∷ []) (words ++ word ∷ [])
+one_more_plain [] [] text word are is = (is, tt)
+one_more_plain [] (other ∷ words) text word are is = absurd are
+one_more_plain (first ∷ texts) [] text word are is = absurd are
+one_more_plain (first ∷ texts) (other ∷ words) text word are is = (are.0, one_more_plain texts words text word are.1 is)
+
 -- A text that is no word without a path, among others.
 pub no_plain_among : (texts : List (List ℕ)) (text : List ℕ) → Contains texts text → IsNoPlainWord text → (words : List Ignored) →
     AllZip IsPlainWord texts words → ⊥
@@ -43,31 +51,31 @@ bad_value value no_plain no_path words (inl are) = no_plain words are
 bad_value value no_plain no_path words (inr one) = no_path one.word one.is_word
 
 -- The values of slices, up to one of them.
-values_from : (values : List (Bor (List ℕ))) (index : ℕ) (other : Bor (List ℕ)) → index < length values →
-    take (index + 1) (bytes_of_names values) ≡ take index (bytes_of_names values) ++ (get_or values index other).now ∷ []
-values_from values index other within =
+values_from : (values : List (Bor (List ℕ))) (index : ℕ) (value : Bor (List ℕ)) → value ≡ get_or values index value → index < length values →
+    take (index + 1) (bytes_of_names values) ≡ take index (bytes_of_names values) ++ value.now ∷ []
+values_from values index value is within =
     let long = length-map values (λ (value : Bor (List ℕ)). value.now) in
-    take_more (bytes_of_names values) index other.now (omega (arith, within, long))
+    take_more (bytes_of_names values) index value.now (omega (arith, within, long))
     ∙ ap (λ bytes. take index (bytes_of_names values) ++ bytes ∷ [])
-    (get_or-map (λ (value : Bor (List ℕ)). value.now) values index other other.now within)
+    (get_or-map (λ (value : Bor (List ℕ)). value.now) values index value value.now within ∙ ap (λ (value : Bor (List ℕ)). value.now) (sym is))
 
-pub values_next : (values : List (Bor (List ℕ))) (index : ℕ) (other : Bor (List ℕ)) (words first more : List Ignored) →
-    index < length values → AreWordsOfValues (take index (bytes_of_names values)) words →
-    AreWordsOfValue (get_or values index other).now first → more ≡ words ++ first →
-    AreWordsOfValues (take (index + 1) (bytes_of_names values)) more
-values_next values index other words first more within so_far are appended =
+pub values_next : (values : List (Bor (List ℕ))) (index : ℕ) (value : Bor (List ℕ)) (words first more : List Ignored) →
+    value ≡ get_or values index value → index < length values → AreWordsOfValues (take index (bytes_of_names values)) words →
+    AreWordsOfValue value.now first → more ≡ words ++ first → AreWordsOfValues (take (index + 1) (bytes_of_names values)) more
+values_next values index value words first more is within so_far are appended =
     subst (AreWordsOfValues (take (index + 1) (bytes_of_names values))) (sym appended)
-    (subst (λ values. AreWordsOfValues values (words ++ first)) (sym (values_from values index other within))
-    (values_more (take index (bytes_of_names values)) (get_or values index other).now words first so_far are))
+    (subst (λ values. AreWordsOfValues values (words ++ first)) (sym (values_from values index value is within))
+    (values_more (take index (bytes_of_names values)) value.now words first so_far are))
 
-pub first_bad : (values : List (Bor (List ℕ))) (index : ℕ) (other : Bor (List ℕ)) (words : List Ignored) → index < length values →
-    AreWordsOfValues (take index (bytes_of_names values)) words → IsBadValue (get_or values index other).now →
-    IsFirstBad (bytes_of_names values) index
-first_bad values index other words within so_far bad =
+pub first_bad_value : (values : List (Bor (List ℕ))) (index : ℕ) (value : Bor (List ℕ)) (words : List Ignored) →
+    value ≡ get_or values index value → index < length values → AreWordsOfValues (take index (bytes_of_names values)) words →
+    IsBadValue value.now → IsFirstBad (bytes_of_names values) index
+first_bad_value values index value words is within so_far bad =
     let long = length-map values (λ (value : Bor (List ℕ)). value.now) in
     record {
       within = omega (arith, within, long);
       before = words;
       is_before = so_far;
-      is_bad = subst IsBadValue (sym (get_or-map (λ (value : Bor (List ℕ)). value.now) values index other [] within)) bad;
+      is_bad = subst IsBadValue (ap (λ (value : Bor (List ℕ)). value.now) is
+          ∙ sym (get_or-map (λ (value : Bor (List ℕ)). value.now) values index value [] within)) bad;
     }

@@ -212,14 +212,14 @@ no_inner_path payload path_text split none place is same =
 -- ---- payloads
 
 -- The path of the payload of an image.
-pub image_path : (name text : List ℕ) → shown_text name ≡ text → payload_path (OfImageNamed name) ≡ codes "/images/" ++ text
-image_path name text is = ap (λ shown. codes "/images/" ++ shown) (append-nil (shown_text name) ∙ is)
+pub path_of_payload : (name text : List ℕ) → shown_text name ≡ text → payload_path (OfImageNamed name) ≡ codes "/images/" ++ text
+path_of_payload name text is = ap (λ shown. codes "/images/" ++ shown) (append-nil (shown_text name) ∙ is)
 
 -- A text of another beginning is that of no image, and of no part.
 pub no_payload : (text : List ℕ) → IsNoPart text → ((name : List ℕ) → IsChildNameOfBytes name → codes "/images/" ++ shown_text name ≢ text) →
     IsNoPayload text
 no_payload text no_part no_image (OfPart index) small same = no_part index small same
-no_payload text no_part no_image (OfImageNamed name) is same = no_image name is (sym (image_path name (shown_text name) refl) ∙ same)
+no_payload text no_part no_image (OfImageNamed name) is same = no_image name is (sym (path_of_payload name (shown_text name) refl) ∙ same)
 
 -- ---- blanks
 
@@ -240,8 +240,8 @@ at_space [] end within is = absurd (omega (arith, within))
 at_space (byte ∷ later) zero within is = ap (λ first. first ∷ later) (eqb-true byte 32 is)
 at_space (byte ∷ later) (suc end) within is = at_space later end (omega (arith, within)) is
 
-pub none_before : (text : List ℕ) (end : ℕ) → position (λ byte. byte == 32) text ≡ Some end → HasNoSpace (take end text)
-none_before text end is = before_space text end (position-Some (λ byte. byte == 32) text end 0 is).2
+pub no_space_before : (text : List ℕ) (end : ℕ) → position (λ byte. byte == 32) text ≡ Some end → HasNoSpace (take end text)
+no_space_before text end is = before_space text end (position-Some (λ byte. byte == 32) text end 0 is).2
 
 pub joined_at_space : (text : List ℕ) (end : ℕ) → position (λ byte. byte == 32) text ≡ Some end →
     take end text ++ (32 ∷ take (length text - (end + 1)) (drop (end + 1) text)) ≡ text
@@ -280,9 +280,11 @@ plain_no_space (byte ∷ later) none = (ne_eqb byte 32 none.0, plain_no_space la
 
 steps_no_space : (names : List (List ℕ)) → HasNoEnd is_space (steps_text names)
 steps_no_space [] = tt
-steps_no_space (name ∷ later) =
-    (refl, goes_on-append is_space (shown_text name) (steps_text later) (no_blank_no_space (shown_text name) (shown_no_blank name))
-    (steps_no_space later))
+steps_no_space (name ∷ later) = (
+  refl,
+  goes_on-append is_space (shown_text name) (steps_text later) (no_blank_no_space (shown_text name) (shown_no_blank name))
+      (steps_no_space later),
+)
 
 path_no_space : (names : List (List ℕ)) → HasNoEnd is_space (path names)
 path_no_space [] = (refl, tt)

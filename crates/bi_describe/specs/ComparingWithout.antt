@@ -10,12 +10,12 @@ use Rattle.bi_describe.specs.Comparing.{differences_or_reason, kinds_differ}
 use Rattle.bi_describe.specs.Describing.{CanBeDescribed}
 use Rattle.bi_describe.specs.Differences.{SignedLine, text_of_differences}
 use Rattle.bi_describe.specs.Ignoring.{Ignored}
-use Rattle.bi_describe.specs.ReducedMeanings.{AreSameWithout, reduced, reduced_lines}
+use Rattle.bi_describe.specs.ReducedMeanings.{AreSameWithout, meaning_without, reduced_lines}
 
 -- Comparing what two boot images mean once something is left out of both (profile of this project).
 
 -- What is left out, whether no differences are written, and their form.
-pub record IgnoringModel : Type 0 where
+pub record IgnoringOptionsModel : Type 0 where
   pub words : List Ignored
   pub quiet : Bool
   pub format : Format
@@ -28,7 +28,7 @@ comparison_without words (OfLegacy one) (OfFit other) =
 comparison_without words (OfFit one) (OfLegacy other) =
     kinds_differ (codes "kind fit") (codes "kind legacy")
 comparison_without words one other =
-    differences_or_reason (reduced_lines (reduced words one)) (reduced_lines (reduced words other))
+    differences_or_reason (reduced_lines (meaning_without words one)) (reduced_lines (meaning_without words other))
 
 -- The lines that differ: none if the meanings are the same.
 abbrev pub lines_without : List Ignored → (one other : Meaning) → (same : Bool)
@@ -36,13 +36,13 @@ abbrev pub lines_without : List Ignored → (one other : Meaning) → (same : Bo
 lines_without words one other same = if same then [] else comparison_without words one other
 
 -- The text that is written: none if it is not wanted.
-abbrev pub text_without : IgnoringModel → (same : Bool) → List SignedLine → List ℕ
+abbrev pub text_without : IgnoringOptionsModel → (same : Bool) → List SignedLine → List ℕ
 text_without options same lines =
     if options.quiet then [] else comparison_text options.format same lines
 
 -- `same` is whether two meanings are the same without what is left out, and the text is what
 -- differs. There are differences if and only if they are not the same.
-pub record IsComparisonWithout (options : IgnoringModel) (one other : Meaning) (same : Bool)
+pub record IsComparisonWithout (options : IgnoringOptionsModel) (one other : Meaning) (same : Bool)
     (text : List ℕ) : Type 0
   where
     pub is_same : IsTrue same ↔ AreSameWithout options.words one other
@@ -60,7 +60,7 @@ pub record AreMeanings (limits : Limits) (one other : List ℕ) : Type 0 where
 
 -- The text is what differs between two files without what is left out, and `same` is whether they
 -- mean the same without it. Both can be described, even if nothing differs or nothing is written.
-pub record AreComparedWithout (options : IgnoringModel) (limits : Limits) (one other : List ℕ)
+pub record AreComparedWithout (options : IgnoringOptionsModel) (limits : Limits) (one other : List ℕ)
     (same : Bool) (text : List ℕ) : Type 0
   where
     pub are : AreMeanings limits one other

@@ -45,13 +45,13 @@ abbrev pub is_place_of : NodePlace → (names : List (List ℕ)) → Bool
 is_place_of place names = is_place_of_in place.tree place.names names
 
 -- The child of the root with this name has images or configurations.
-abbrev pub has_signatures : (name : List ℕ) → Bool
-has_signatures name = bytes_eq name images_name || bytes_eq name configurations_name
+abbrev pub may_have_signatures : (name : List ℕ) → Bool
+may_have_signatures name = bytes_eq name images_name || bytes_eq name configurations_name
 
 -- The node with these names is a child of an image or of a configuration, and its name begins with
 -- `signature`.
 abbrev pub is_signature : (names : List (List ℕ)) → Bool
-is_signature (top ∷ parent ∷ name ∷ []) = has_signatures top && is_signature_name name
+is_signature (top ∷ parent ∷ name ∷ []) = may_have_signatures top && is_signature_name name
 is_signature names = false
 
 -- The word leaves out the node with these names, and not only because it leaves out one above it.

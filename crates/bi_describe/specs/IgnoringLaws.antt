@@ -6,7 +6,7 @@ use Rattle.bi_describe.specs.Comparing.{comparison}
 use Rattle.bi_describe.specs.ComparingWithout.{comparison_without}
 use Rattle.bi_describe.specs.Descriptions.{description_lines}
 use Rattle.bi_describe.specs.Ignoring.{Ignored}
-use Rattle.bi_describe.specs.ReducedMeanings.{AreSameWithout, reduced, reduced_lines}
+use Rattle.bi_describe.specs.ReducedMeanings.{AreSameWithout, meaning_without, reduced_lines}
 
 -- Laws of comparing without what is left out (profile of this project). Each is the contract of a
 -- function in `laws`.
@@ -22,7 +22,7 @@ MoreWordsKeepTheSame =
 abbrev pub LinesThatStayAreDescribed : Type 0
 LinesThatStayAreDescribed =
     (words : List Ignored) (meaning : Meaning) (line : Line)
-    → Contains (reduced_lines (reduced words meaning)) line
+    → Contains (reduced_lines (meaning_without words meaning)) line
     → Contains (description_lines meaning) line
 
 -- Without words two meanings are compared as they are.

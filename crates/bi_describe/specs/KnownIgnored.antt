@@ -11,15 +11,15 @@ use Rattle.bi_describe.specs.Ignoring.{Ignored, IgnoredTime, IgnoredSignatures, 
 use Rattle.bi_describe.specs.Ignoring.{IgnoredProperty, IgnoredPart, NodePlace, Itself, Inside}
 use Rattle.bi_describe.specs.Ignoring.{OfImageNamed, OfPart}
 use Rattle.bi_describe.specs.KnownDescriptions.{sha256_digits}
-use Rattle.bi_describe.specs.ReducedMeanings.{AreSameWithout, reduced, reduced_lines}
+use Rattle.bi_describe.specs.ReducedMeanings.{AreSameWithout, meaning_without, reduced_lines}
 
 -- What stays of small boot images once something is left out, and the words for it. A reader can
 -- judge the definitions by them.
 
 -- ---- what stays
 
-abbrev pub only_time : List Property
-only_time = (codes "timestamp", 0 ∷ 0 ∷ 0 ∷ 1 ∷ []) ∷ []
+abbrev pub timestamp_alone : List Property
+timestamp_alone = (codes "timestamp", 0 ∷ 0 ∷ 0 ∷ 1 ∷ []) ∷ []
 
 abbrev pub only_load : List Property
 only_load = (codes "load", 0 ∷ 0 ∷ 0 ∷ 2 ∷ []) ∷ []
@@ -32,7 +32,7 @@ tree_with_payload payload = record {
   cpu = 0;
   reservations = [];
   root = record {
-    own = from_sorted only_time;
+    own = from_sorted timestamp_alone;
     children = node images_name empty
         (node (codes "a") (from_sorted only_load) (node (codes "signature") empty none none)
         (node (codes "ab") empty none none))
@@ -43,15 +43,15 @@ tree_with_payload payload = record {
   payloads = Some payload ∷ None ∷ [];
 }
 
-abbrev pub known_tree : ImageTree
-known_tree = tree_with_payload (codes "abc")
+abbrev pub signed_images_tree : ImageTree
+signed_images_tree = tree_with_payload (codes "abc")
 
 -- The texts of the lines that stay.
 abbrev pub texts_that_stay : List Ignored → Meaning → List (List ℕ)
-texts_that_stay words meaning = map line_bytes (reduced_lines (reduced words meaning))
+texts_that_stay words meaning = map line_bytes (reduced_lines (meaning_without words meaning))
 
 abbrev pub tree_texts : List Ignored → List (List ℕ)
-tree_texts words = texts_that_stay words (OfFit known_tree)
+tree_texts words = texts_that_stay words (OfFit signed_images_tree)
 
 -- The node of the image itself with these names, and a node inside the payload of the image `a`.
 abbrev pub own_node : List (List ℕ) → NodePlace
@@ -158,13 +158,13 @@ pub record SameWithoutIsKnown : Type 0 where
   pub other_part : AreSameWithout (IgnoredPart 1 ∷ []) (OfLegacy (known_legacy 7 (codes "a")))
       (OfLegacy (known_legacy 7 (codes "c"))) → ⊥
   -- A payload is left out with its image. One that stays is compared by its bytes.
-  pub no_image : AreSameWithout (IgnoredNode image_a ∷ []) (OfFit known_tree)
+  pub no_image : AreSameWithout (IgnoredNode image_a ∷ []) (OfFit signed_images_tree)
       (OfFit (tree_with_payload (codes "abd")))
-  pub payload : AreSameWithout (IgnoredTime ∷ IgnoredSignatures ∷ []) (OfFit known_tree)
+  pub payload : AreSameWithout (IgnoredTime ∷ IgnoredSignatures ∷ []) (OfFit signed_images_tree)
       (OfFit (tree_with_payload (codes "abd"))) → ⊥
   -- Images of different kinds never are the same.
   pub kinds : AreSameWithout (IgnoredNode (own_node []) ∷ IgnoredTime ∷ [])
-      (OfLegacy (known_legacy 7 (codes "a"))) (OfFit known_tree) → ⊥
+      (OfLegacy (known_legacy 7 (codes "a"))) (OfFit signed_images_tree) → ⊥
 
 -- ---- words
 

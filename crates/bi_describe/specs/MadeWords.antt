@@ -14,13 +14,13 @@ use Rattle.bi_describe.specs.Ignoring.{OfImageNamed, OfPart, TreePlace, Itself, 
 
 -- What is left out, as the code has it.
 
-abbrev pub payload_place : MadePayload → PayloadPlace
-payload_place (payload.Image name) = OfImageNamed name.items
-payload_place (payload.Part index) = OfPart index
+abbrev pub place_of_payload : MadePayload → PayloadPlace
+place_of_payload (payload.Image name) = OfImageNamed name.items
+place_of_payload (payload.Part index) = OfPart index
 
 abbrev pub tree_place : MadeTree → TreePlace
 tree_place tree.Itself = Itself
-tree_place (tree.Inside payload) = Inside (payload_place payload)
+tree_place (tree.Inside payload) = Inside (place_of_payload payload)
 
 abbrev pub node_place : MadePlace → NodePlace
 node_place place =

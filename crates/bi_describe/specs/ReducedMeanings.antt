@@ -122,14 +122,14 @@ reduced_tree words tree = record {
 }
 
 -- What stays of a meaning.
-abbrev pub reduced : List Ignored → Meaning → ReducedMeaning
-reduced words (OfLegacy image) = OfReducedLegacy (reduced_legacy words image)
-reduced words (OfFit tree) = OfReducedTree (reduced_tree words tree)
+abbrev pub meaning_without : List Ignored → Meaning → ReducedMeaning
+meaning_without words (OfLegacy image) = OfReducedLegacy (reduced_legacy words image)
+meaning_without words (OfFit tree) = OfReducedTree (reduced_tree words tree)
 
 -- Two meanings are the same once what the words leave out is taken out of both. Meanings of
 -- different kinds never are.
 abbrev pub AreSameWithout : List Ignored → (one other : Meaning) → Type 0
-AreSameWithout words one other = reduced words one ≡ reduced words other
+AreSameWithout words one other = meaning_without words one ≡ meaning_without words other
 
 -- ---- lines
 

@@ -33,8 +33,8 @@ use crate::describe::{DescribedImage, describe_image, description_is_ascii};
 use bi_base::{Error, Fault, Limits};
 use bi_common::format::Format;
 use bi_norm::BootImage;
-use ignoring::compare_kept;
 pub use ignoring::IgnoringOptions;
+use ignoring::compare_kept;
 use json::comparison_json;
 use kept_lines::KeptLines;
 use reasons::{differences_or_reason, kinds_differ};
@@ -158,13 +158,7 @@ pub fn compare_ignoring(
 {
     let image = read_one(alloc, one, limits)?;
     let other_image = read_other(alloc, other, limits)?;
-    Ok(compare_without(
-        alloc,
-        &image,
-        &other_image,
-        limits,
-        options,
-    )?)
+    Ok(compare_without(alloc, &image, &other_image, limits, options)?)
 }
 
 /// Compares what stays of two images. Requires: the images were read.

@@ -13,9 +13,7 @@ ghost use Rattle.bi_describe.specs.IgnoredErrors.{IsParseError};
 ghost use Rattle.bi_describe.specs.MadeWords.{ignored_word, ignored_words};
 
 use bi_base::Error;
-pub(crate) use matching::{
-    is_node_ignored, is_part_ignored, is_property_ignored, is_time_ignored,
-};
+pub(crate) use matching::{is_node_ignored, is_part_ignored, is_property_ignored, is_time_ignored};
 use path_words::path_word;
 use std::alloc::{AllocError, Global};
 
@@ -101,11 +99,13 @@ impl Ignored {
         ensures failed { IfErr result (IsParseError (bytes_of_names values.now)) }
     {
         let mut all = Vec::new(alloc);
-        for index in 0..values.len() {
-            let Some(words) = read_value(alloc, values[index])? else {
+        let mut index = 0;
+        for value in values {
+            let Some(words) = read_value(alloc, value)? else {
                 return Err(IgnoredError::BadValue(index));
             };
             append_words(&mut all, words)?;
+            index += 1;
         }
         Ok(all)
     }

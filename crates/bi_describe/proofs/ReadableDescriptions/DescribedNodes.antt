@@ -104,10 +104,10 @@ pub data ImagesIn (IsOwn : PropertyMap → Type 0) (name : List ℕ) (own : Prop
   InLater : bytes_eq name images_name ≡ false → HasImages IsOwn later payloads → ImagesIn IsOwn name own children later payloads
 
 -- They are in one of the two.
-pub images_in : (IsOwn : PropertyMap → Type 0) (name : List ℕ) (own : PropertyMap) (children later : Nodes PropertyMap)
+pub images_among : (IsOwn : PropertyMap → Type 0) (name : List ℕ) (own : PropertyMap) (children later : Nodes PropertyMap)
     (payloads : List (Option (List ℕ))) → HasImages IsOwn (node name own children later) payloads →
     ImagesIn IsOwn name own children later payloads
-images_in IsOwn name own children later payloads has = where_first (bytes_eq name images_name) refl
+images_among IsOwn name own children later payloads has = where_first (bytes_eq name images_name) refl
   where
     where_first : (b : Bool) → bytes_eq name images_name ≡ b → ImagesIn IsOwn name own children later payloads
     where_first true is =
@@ -126,8 +126,8 @@ same_described IsOwn none other payloads others has have same = let nothing : No
 same_described IsOwn (node name own children later) none payloads others has have same =
     let nothing : None ≡ Some have.images = have.has_images in absurd cc
 same_described IsOwn (node name own children later) (node other_name other_own other_children other_later) payloads others has have same =
-    where_images (images_in IsOwn name own children later payloads has)
-    (images_in IsOwn other_name other_own other_children other_later others have)
+    where_images (images_among IsOwn name own children later payloads has)
+    (images_among IsOwn other_name other_own other_children other_later others have)
     (λ first second. same_described IsOwn later other_later payloads others first second parts.rest)
   where
     parts : SameParts name other_name (plain_node own) (plain_node other_own) (described_children name children payloads)

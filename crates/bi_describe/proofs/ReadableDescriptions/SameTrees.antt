@@ -10,7 +10,7 @@ use Rattle.bi_describe.proofs.ReadableDescriptions.ItemTrees.{SameParts}
 -- Flattened image trees whose descriptions have the same parts are similar.
 
 -- What a file means has image nodes with its payloads.
-images_of : (tree : ImageTree) → IsImageTree tree → HasImages ArePropertiesByName tree.root.children tree.payloads
+pub images_of : (tree : ImageTree) → IsImageTree tree → HasImages ArePropertiesByName tree.root.children tree.payloads
 images_of tree is = record { are_nodes = is.is_tree.children; images = is.images; has_images = is.has_images; apart = is.apart }
 
 pub similar_parts : (file other_file : List ℕ) (one other : ImageTree) → IsFitFile file one → IsFitFile other_file other →

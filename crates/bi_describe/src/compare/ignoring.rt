@@ -11,7 +11,7 @@ ghost use Rattle.bi_describe.specs.KeptLines.{KeepsLines};
 ghost use Rattle.bi_describe.specs.MadeLines.{made_lines};
 ghost use Rattle.bi_describe.specs.MadeOptions.{ignoring_model};
 ghost use Rattle.bi_describe.specs.MadeWords.{ignored_words};
-ghost use Rattle.bi_describe.specs.ReducedMeanings.{reduced, reduced_lines};
+ghost use Rattle.bi_describe.specs.ReducedMeanings.{meaning_without, reduced_lines};
 
 use super::kept_lines::KeptLines;
 use super::reasons::{differences_or_reason, kinds_differ};
@@ -46,8 +46,8 @@ pub(super) fn compare_kept(
     requires ascii { IsKeptAscii image.now }
     requires other_ascii { IsKeptAscii other.now }
     ensures { IfOk result (λ comparison. (meaning other_meaning : Meaning)
-        → IsKept (reduced (ignored_words options.entry.words.now) meaning) image.now
-        → IsKept (reduced (ignored_words options.entry.words.now) other_meaning) other.now
+        → IsKept (meaning_without (ignored_words options.entry.words.now) meaning) image.now
+        → IsKept (meaning_without (ignored_words options.entry.words.now) other_meaning) other.now
         → IsComparisonWithout (ignoring_model options.entry) meaning other_meaning comparison.same
         (string_bytes comparison.differences)) }
 {
@@ -70,8 +70,8 @@ fn written_differences(
     requires ascii { IsKeptAscii image.now }
     requires other_ascii { IsKeptAscii other.now }
     ensures { IfOk result (λ text. (words : List Word) (meaning other_meaning : Meaning)
-        → IsKept (reduced words meaning) image.now
-        → IsKept (reduced words other_meaning) other.now
+        → IsKept (meaning_without words meaning) image.now
+        → IsKept (meaning_without words other_meaning) other.now
         → string_bytes text ≡ text_without (ignoring_model options.entry) same
         (lines_without words meaning other_meaning same)) }
 {
@@ -95,8 +95,8 @@ fn text_of_kept(
     requires ascii { IsKeptAscii image.now }
     requires other_ascii { IsKeptAscii other.now }
     ensures { IfOk result (λ text. (words : List Word) (meaning other_meaning : Meaning)
-        → IsKept (reduced words meaning) image.now
-        → IsKept (reduced words other_meaning) other.now
+        → IsKept (meaning_without words meaning) image.now
+        → IsKept (meaning_without words other_meaning) other.now
         → string_bytes text
         ≡ comparison_text format same (lines_without words meaning other_meaning same)) }
 {
@@ -120,10 +120,10 @@ fn lines_of_kept<'a>(
     other_kept: &'a KeptLines,
 ) -> Result<Vec<SignedLine<'a>>, AllocError>
     ensures { IfOk result (λ lines. (words : List Word) (meaning other_meaning : Meaning)
-        → IsKept (reduced words meaning) image.now
-        → IsKept (reduced words other_meaning) other.now
-        → KeepsLines (reduced_lines (reduced words meaning)) kept.entry.now
-        → KeepsLines (reduced_lines (reduced words other_meaning)) other_kept.entry.now
+        → IsKept (meaning_without words meaning) image.now
+        → IsKept (meaning_without words other_meaning) other.now
+        → KeepsLines (reduced_lines (meaning_without words meaning)) kept.entry.now
+        → KeepsLines (reduced_lines (meaning_without words other_meaning)) other_kept.entry.now
         → made_lines lines.items ≡ comparison_without words meaning other_meaning) }
 {
     match (image, other) {

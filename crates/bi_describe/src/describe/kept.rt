@@ -10,7 +10,7 @@ ghost use Rattle.bi_describe.specs.DescribedImages.{HoldsMeaning};
 ghost use Rattle.bi_describe.specs.Ignoring.{Ignored as Word};
 ghost use Rattle.bi_describe.specs.MadeWords.{ignored_words};
 ghost use Rattle.bi_describe.specs.KeptImages.{IsKept};
-ghost use Rattle.bi_describe.specs.ReducedMeanings.{ReducedMeaning, reduced, reduced_lines};
+ghost use Rattle.bi_describe.specs.ReducedMeanings.{ReducedMeaning, meaning_without, reduced_lines};
 
 mod entries;
 mod legacy;
@@ -44,7 +44,7 @@ impl<'a, 'b> KeptImage<'a, 'b> {
         words: &[Ignored],
     ) -> Result<KeptImage<'a, 'b>, AllocError>
         ensures { IfOk result (λ image. (meaning : Meaning) → HoldsMeaning meaning described.now
-            → IsKept (reduced (ignored_words words.now) meaning) image) }
+            → IsKept (meaning_without (ignored_words words.now) meaning) image) }
     {
         Ok(match described {
             DescribedImage::Legacy(image) => {
@@ -89,7 +89,7 @@ impl<'a, 'b> KeptImage<'a, 'b> {
 pub(crate) fn kept_is_ascii(image: &BootImage)
     requires held { IsHeldImage image.now }
     ensures { (words : List Word)
-        → IsAscii (text_of_lines (reduced_lines (reduced words (meaning_of image.now)))) }
+        → IsAscii (text_of_lines (reduced_lines (meaning_without words (meaning_of image.now)))) }
 {
     if let BootImage::Legacy(image) = image {
         are_bytes(image.fields().name);

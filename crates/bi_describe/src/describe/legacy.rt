@@ -69,10 +69,7 @@ impl<'a> DescribedLegacy<'a> {
 }
 
 /// Returns each part with its digest.
-fn parts_of<'a>(
-    alloc: Global,
-    image: &Legacy<'a>,
-) -> Result<Vec<DescribedPart<'a>>, AllocError>
+fn parts_of<'a>(alloc: Global, image: &Legacy<'a>) -> Result<Vec<DescribedPart<'a>>, AllocError>
     ensures { IfOk result (λ parts. bytes_of_parts parts.items ≡ image.now.image.parts) }
 {
     let mut parts = Vec::new(alloc);

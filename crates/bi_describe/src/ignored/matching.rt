@@ -4,7 +4,7 @@ ghost use Rattle.std.specs.Prelude.{◌≡◌};
 ghost use Rattle.bi_common.specs.MadeFields.{bytes_of_names};
 ghost use Rattle.bi_values.specs.ValueNames.{names_of_path};
 ghost use Rattle.bi_describe.specs.Ignoring.{are_names_equal as are_equal};
-ghost use Rattle.bi_describe.specs.Ignoring.{has_signatures as has_signatures_of};
+ghost use Rattle.bi_describe.specs.Ignoring.{may_have_signatures};
 ghost use Rattle.bi_describe.specs.Ignoring.{is_node_ignored as is_node_out};
 ghost use Rattle.bi_describe.specs.Ignoring.{is_part_ignored as is_part_out};
 ghost use Rattle.bi_describe.specs.Ignoring.{is_place_of as is_place};
@@ -155,7 +155,7 @@ fn is_signature(names: &[&[u8]]) -> bool
 
 /// Returns whether the child of the root with this name has images or configurations.
 fn has_signatures(name: &[u8]) -> bool
-    ensures { result ≡ has_signatures_of name.now }
+    ensures { result ≡ may_have_signatures name.now }
 {
     name == b"images".as_slice() || name == b"configurations".as_slice()
 }

@@ -5,11 +5,10 @@ use Rattle.std.proofs.lemmas.List.{map-append}
 use Rattle.std.proofs.lemmas.Iterator.{YieldsList}
 use Rattle.std.proofs.lemmas.Iterator.Consumers.{YieldsList-end, YieldsList-turn}
 use Rattle.std.proofs.lemmas.Iterator.Splits.{YieldsList-from_slice_split}
-use Rattle.bi_fdt.proofs.NumberedNames.{AllZip-append}
 use Rattle.bi_describe.specs.IgnoredWords.{IsPlainWord}
 use Rattle.bi_describe.specs.Ignoring.{Ignored}
 use Rattle.bi_describe.specs.MadeWords.{ignored_word, ignored_words}
-use Rattle.bi_describe.proofs.ValueWords.{no_plain_among}
+use Rattle.bi_describe.proofs.ValueWords.{no_plain_among, one_more_plain}
 use Rattle.bi_describe.proofs.ignored.plain_words.Given as given
 use Rattle.bi_describe.proofs.ignored.plain_words.Goals as goal
 
@@ -22,8 +21,7 @@ loop-text-preserved c =
     (sym (map-append (λ it. it.now) c.loop-text.yielded (c.in-Some.text ∷ [])))
     (subst (AllZip IsPlainWord (texts ++ text ∷ []))
     (sym (ap ignored_words c.in_ok-push.ensures.items ∙ map-append ignored_word c.loop-text.words.items (c.in-Some-plain_word.word ∷ [])))
-    (AllZip-append IsPlainWord texts (ignored_words c.loop-text.words.items) (text ∷ []) (word ∷ []) c.loop-text.invariant
-    (c.in-Some-plain_word.ensures.some, tt)))
+    (one_more_plain texts (ignored_words c.loop-text.words.items) text word c.loop-text.invariant c.in-Some-plain_word.ensures.some))
 
 pub returns-in_default-clause-none : goal.returns-in_default-clause-none
 returns-in_default-clause-none c =

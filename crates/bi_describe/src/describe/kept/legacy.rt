@@ -1,11 +1,11 @@
 //! What stays of a legacy image.
 
-ghost use Rattle.std.specs.Prelude.{◌≡◌, ◌↔◌, ◌++◌, [], IfOk, IsTrue, OnOk, flat_map, map};
+ghost use Rattle.std.specs.Prelude.{◌≡◌, ◌↔◌, ◌++◌, ◌∷◌, [], IfOk, IsTrue, OnOk, flat_map, map};
 ghost use Rattle.std.specs.Option.{option_map};
 ghost use Rattle.bi_legacy.specs.Meaning.{image_of};
 ghost use Rattle.bi_common.specs.CommonLines.{header_code_lines, named_field};
-ghost use Rattle.bi_common.specs.LineTokens.{tokens_of_lines};
-ghost use Rattle.bi_common.specs.MadeFields.{field_of};
+ghost use Rattle.bi_common.specs.Lines.{Text};
+ghost use Rattle.bi_common.specs.LineTokens.{line_tokens, tokens_of_lines};
 ghost use Rattle.bi_describe.specs.MadeParts.{bytes_of_parts};
 ghost use Rattle.bi_describe.specs.MadeWords.{ignored_words};
 ghost use Rattle.bi_describe.specs.KeptImages.{IsKeptLegacy, numbered_part};
@@ -169,28 +169,26 @@ fn put_codes<L: LinePen>(fields: Fields, pen: &mut L)
     ensures { L.puts pen.old (tokens_of_lines (header_code_lines (image_of fields.entry [])))
         pen.new }
 {
-    let os = code_word(os_name(fields.os), fields.os);
-    let arch = code_word(arch_name(fields.arch), fields.arch);
-    let image_type = code_word(type_name(fields.image_type), fields.image_type);
-    let compression = code_word(compression_name(fields.compression), fields.compression);
-    put_lines(
-        &[
-            [Field::Text(b"os"), os],
-            [Field::Text(b"arch"), arch],
-            [Field::Text(b"type"), image_type],
-            [Field::Text(b"compression"), compression],
-        ],
+    put_code(b"os", os_name(fields.os), fields.os, pen);
+    put_code(b"arch", arch_name(fields.arch), fields.arch, pen);
+    put_code(
+        b"type",
+        type_name(fields.image_type),
+        fields.image_type,
         pen,
     );
+    let compression = compression_name(fields.compression);
+    put_code(b"compression", compression, fields.compression, pen);
 }
 
-/// Returns the word for a code: its name, or its number if it has none.
-fn code_word(name: Option<&'static str>, code: u8) -> Field<'static, 'static>
-    ensures { field_of result ≡ named_field (option_map (λ name. name.now) name.entry) code }
+/// Puts the line of a code: its key, and its name or, if it has none, its number.
+fn put_code<L: LinePen>(key: &[u8], name: Option<&'static str>, code: u8, pen: &mut L)
+    ensures { L.puts pen.old (line_tokens (Text key.now
+        ∷ named_field (option_map (λ name. name.now) name.entry) code ∷ [])) pen.new }
 {
     match name {
-        Some(name) => Field::Text(name.as_bytes()),
-        None => Field::Decimal(u64::from(code)),
+        Some(name) => put_line(&[Field::Text(key), Field::Text(name.as_bytes())], pen),
+        None => put_line(&[Field::Text(key), Field::Decimal(u64::from(code))], pen),
     }
 }
 

@@ -100,11 +100,7 @@ fn kept_root<'a>(
 /// Puts the lines of a tree with these entries, the root first.
 ///
 /// Fails only if memory runs out.
-fn put_entries<L: LinePen>(
-    alloc: Global,
-    entries: &[Entry],
-    pen: &mut L,
-) -> Result<(), AllocError>
+fn put_entries<L: LinePen>(alloc: Global, entries: &[Entry], pen: &mut L) -> Result<(), AllocError>
     ensures { OnOk result (L.puts pen.old
         (tokens_of_lines (root_lines (map as_entry entries.now))) pen.new) }
 {

@@ -1,11 +1,11 @@
 use Rattle.std.proofs.Common.{◌∙◌, IfNone, IfOk, IfSome, sym, subst}
 use Rattle.bi_describe.specs.IgnoredWords.{IsNoWordWithPath, IsWordWithPath}
 use Rattle.bi_describe.specs.MadeWords.{ignored_word}
-use Rattle.bi_describe.proofs.WordTexts.{joined_at_space, none_before}
+use Rattle.bi_describe.proofs.WordTexts.{joined_at_space, no_space_before}
 use Rattle.bi_describe.proofs.ignored.path_words.path_word.Goals as goal
 
 pub property_word-requires : goal.property_word-requires
-property_word-requires c = none_before c.args.text.now c.in-Some.space (sym c.position_of_space.ensures ∙ c.in-Some.is)
+property_word-requires c = no_space_before c.args.text.now c.in-Some.space (sym c.position_of_space.ensures ∙ c.in-Some.is)
 
 pub returns-in-Some-clause-some : goal.returns-in-Some-clause-some
 returns-in-Some-clause-some c =

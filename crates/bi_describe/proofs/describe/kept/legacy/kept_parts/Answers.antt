@@ -1,7 +1,7 @@
 use Rattle.std.proofs.Common.{map}
 use Rattle.bi_describe.specs.KeptImages.{numbered_part}
 use Rattle.bi_describe.specs.MadeWords.{ignored_words}
-use Rattle.bi_describe.proofs.PartLists.{part_next, parts_end}
+use Rattle.bi_describe.proofs.PartLists.{part_next, no_parts_left}
 use Rattle.bi_describe.proofs.describe.kept.legacy.kept_parts.Goals as goal
 
 pub loop-index-preserved : goal.loop-index-preserved
@@ -12,5 +12,5 @@ loop-index-preserved c =
 
 pub returns : goal.returns
 returns c =
-    parts_end (ignored_words c.args.words.now) c.args.parts.now c.loop-index.index _ (map numbered_part c.loop-index.kept.items)
+    no_parts_left (ignored_words c.args.words.now) c.args.parts.now c.loop-index.index _ (map numbered_part c.loop-index.kept.items)
     c.loop-index-test.false c.loop-index.invariant

@@ -15,6 +15,6 @@ loop-index-preserved c =
 pub returns : goal.returns
 returns c = (
   (λ is. sym (take_all c.loop-index.index c.args.one.now.reservations (omega arith)) ∙ c.loop-index.invariant
-  ∙ take_all c.loop-index.index c.args.other.now.reservations (omega arith)),
+      ∙ take_all c.loop-index.index c.args.other.now.reservations (omega arith)),
   (λ same. refl),
 )
