@@ -15,6 +15,7 @@ pub mod FurtherWords
 pub mod DescribedLines
 pub mod NothingLeftOut
 pub mod IgnoredFacts
+pub mod ComparedWithoutFacts
 pub mod ValueWords
 pub mod EntryTokens
 pub mod PayloadSizes

@@ -18,6 +18,7 @@ pub mod ImagePayloads
 pub mod JsonLaws
 pub mod KeptEntries
 pub mod KeptLines
+pub mod KnownComparedWithout
 pub mod KnownDescribedFiles
 pub mod KnownDescriptions
 pub mod KnownDifferences
