@@ -2,7 +2,7 @@ use Rattle.std.proofs.Common.{◌≡◌, ℕ, Bool, true, false, cond, List, [],
 use Rattle.std.specs.Option.{option_map}
 use Rattle.bi_blob.specs.Tree.{Nodes, none, node, PropertyMap, with_each}
 use Rattle.bi_fit.specs.Names.{images_name}
-use Rattle.bi_describe.specs.ComparedNodes.{ComparedNode, compared_children, compared_images, compared_nodes, described_node, plain_compared}
+use Rattle.bi_describe.specs.ComparedNodes.{ComparedNode, compared_children, compared_images, nodes_to_compare, described_node, plain_compared}
 use Rattle.bi_describe.specs.Descriptions.{DescribedNode, OfImage, described_children, described_images, described_nodes, digest_of_payload, plain_node}
 
 -- The nodes of a tree as they are compared are described as in a description.
@@ -34,7 +34,7 @@ children_described name children payloads = by (bytes_eq name images_name)
     by false = plain_described children
 
 pub nodes_described : (nodes : Nodes PropertyMap) (payloads : List (Option (List ℕ))) →
-    as_described (compared_nodes nodes payloads) ≡ described_nodes nodes payloads
+    as_described (nodes_to_compare nodes payloads) ≡ described_nodes nodes payloads
 nodes_described none payloads = refl
 nodes_described (node name own children later) payloads =
     ap₂ (node name (plain_node own)) (children_described name children payloads) (nodes_described later payloads)

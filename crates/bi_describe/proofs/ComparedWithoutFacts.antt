@@ -14,7 +14,7 @@ use Rattle.bi_describe.specs.ReducedMeanings.{AreSameWithout}
 use Rattle.bi_describe.specs.Ignoring.{IgnoredPart, IgnoredTime}
 use Rattle.bi_describe.specs.KnownComparedWithout.{ComparedWithoutIsKnown, IgnoredValuesAreKnown, IgnoringErrorsAreKnown}
 use Rattle.bi_describe.specs.KnownRefusals.{longer_meaning}
-use Rattle.bi_describe.proofs.DescribedFileFacts.{bare, bare_tree, both_differ, images_in, new_lines, only_bare, only_smallest, small, smallest_tree}
+use Rattle.bi_describe.proofs.DescribedFileFacts.{bare, tree_of_bare_file, both_differ, image_count, new_lines, only_bare, only_smallest, small, tree_of_smallest_text}
 use Rattle.bi_describe.proofs.IgnoredFacts.{ignored_words_are_known}
 use Rattle.bi_describe.proofs.NothingLeftOut.{nothing_left_out_compares}
 use Rattle.bi_describe.proofs.RefusalFacts.{description_bounds_are_known, kernel_means_within, reading_errors_are_known}
@@ -27,20 +27,20 @@ use Rattle.bi_fit.specs.KnownFiles.{bare_file}
 module _ (one_legacy : OneLegacyMeaning) where
   abbrev both_mean : AreMeanings widest smallest_text bare_file
   both_mean = record {
-    meaning = OfFit smallest_tree;
-    other_meaning = OfFit bare_tree;
+    meaning = OfFit tree_of_smallest_text;
+    other_meaning = OfFit tree_of_bare_file;
     means = only_smallest one_legacy;
     other_means = only_bare one_legacy;
   }
 
-  whole : AreComparedWhole (OfFit smallest_tree) (OfFit bare_tree)
-  whole = nothing_left_out_compares widest widest smallest_text bare_file (OfFit smallest_tree) (OfFit bare_tree) smallest_means bare_means
+  whole : AreComparedWhole (OfFit tree_of_smallest_text) (OfFit tree_of_bare_file)
+  whole = nothing_left_out_compares widest widest smallest_text bare_file (OfFit tree_of_smallest_text) (OfFit tree_of_bare_file) smallest_means bare_means
 
-  differ : IsTrue false ↔ AreSameWithout [] (OfFit smallest_tree) (OfFit bare_tree)
-  differ = (λ no. absurd (true≢false (sym no)), λ same. absurd (omega (arith, ap images_in (whole.is_same.0 same))))
+  differ : IsTrue false ↔ AreSameWithout [] (OfFit tree_of_smallest_text) (OfFit tree_of_bare_file)
+  differ = (λ no. absurd (true≢false (sym no)), λ same. absurd (omega (arith, ap image_count (whole.is_same.0 same))))
 
   -- The lines that differ.
-  are_new : new_lines one_legacy ≡ comparison_without [] (OfFit smallest_tree) (OfFit bare_tree)
+  are_new : new_lines one_legacy ≡ comparison_without [] (OfFit tree_of_smallest_text) (OfFit tree_of_bare_file)
   are_new = both_differ one_legacy ∙ sym whole.differences
 
   some_lines : (text_of_differences (new_lines one_legacy) ≡ []) ↔ IsTrue false

@@ -13,7 +13,7 @@ use Rattle.bi_fit.specs.Names.{images_name}
 use Rattle.bi_describe.specs.declared.describe.entries.Entry.{Entry}
 use Rattle.bi_describe.specs.declared.describe.entries.Entry.TheVariants as made
 use Rattle.bi_describe.specs.ComparedNodes.{ComparedNode, plain_compared, compared_children, compared_images}
-use Rattle.bi_describe.specs.ComparedNodes.{compared_nodes}
+use Rattle.bi_describe.specs.ComparedNodes.{nodes_to_compare}
 use Rattle.bi_describe.specs.TreeEntries.{EntryModel, NodeEnds, as_entry, node_entries}
 use Rattle.bi_describe.specs.MadeEntries.{plain_entries, begin_entries, image_entries}
 use Rattle.bi_describe.specs.MadeEntries.{images_entries, root_children_entries}
@@ -81,7 +81,7 @@ root-images s payloads is new =
     let own : ComparedNode = plain_compared (properties_by_name s.own) in
     let images : Nodes PropertyMap = without_payloads (nodes_by_name s.children) in
     let nodes : Nodes PropertyMap = nodes_by_name s.later in
-    let later : Nodes ComparedNode = compared_nodes nodes payloads in
+    let later : Nodes ComparedNode = nodes_to_compare nodes payloads in
     let here : List EntryModel = begin_entries s.name (properties_by_name s.own) ++ (images_entries s.children payloads ++ NodeEnds ∷ []) in
     let first = entries-first s.name own (compared_images images payloads) later in
     let named : node_entries (node s.name own (compared_children s.name images payloads) later) ≡ here ++ node_entries later =
@@ -92,7 +92,7 @@ root-images s payloads is new =
     let is_images = (bytes_eq-Decides s.name images_name).0 is in
     let none_left : IsNew images_name (names nodes) =
     subst (IsNew images_name) (sym same_names) (subst (λ name. IsNew name (names s.later)) is_images new) in
-    whole ∙ ap (λ nodes. here ++ node_entries (compared_nodes nodes payloads))
+    whole ∙ ap (λ nodes. here ++ node_entries (nodes_to_compare nodes payloads))
     (sym (others_kept images_name without_payloads nodes none_left))
 
 -- any other,
@@ -103,7 +103,7 @@ root-other s payloads is =
     let own : ComparedNode = plain_compared (properties_by_name s.own) in
     let children : Nodes PropertyMap = nodes_by_name s.children in
     let nodes : Nodes PropertyMap = with_children_of images_name without_payloads (nodes_by_name s.later) in
-    let later : Nodes ComparedNode = compared_nodes nodes payloads in
+    let later : Nodes ComparedNode = nodes_to_compare nodes payloads in
     let first = entries-first s.name own (with_each plain_compared children) later in
     let named : node_entries (node s.name own (compared_children s.name children payloads) later)
     ≡ plain_entries (alone s) ++ root_children_entries s.later payloads = rw is first in

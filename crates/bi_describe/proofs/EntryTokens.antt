@@ -10,7 +10,7 @@ use Rattle.bi_common.specs.Json.{Json, Member, json_array}
 use Rattle.bi_common.specs.JsonTokens.{JsonToken, BeginObject, EndObject, MemberName, json_tokens, member_tokens, one, value_tokens}
 use Rattle.bi_describe.specs.ReadDescription.{processor_members, read_tokens}
 use Rattle.bi_describe.specs.DescriptionJson.{fit_object, node_members, node_objects, payload_members, property_object}
-use Rattle.bi_describe.specs.ComparedNodes.{ComparedNode, ComparedPayload, NoImage, ImageWith, compared_nodes, described_node}
+use Rattle.bi_describe.specs.ComparedNodes.{ComparedNode, ComparedPayload, NoImage, ImageWith, nodes_to_compare, described_node}
 use Rattle.bi_describe.specs.ComparedNodes.{described_payload, plain_compared}
 use Rattle.bi_describe.specs.Descriptions.{described_nodes, plain_node}
 use Rattle.bi_describe.specs.EntryTokens.{entry_tokens}
@@ -78,7 +78,7 @@ root_tokens : (tree : ImageTree) → tokens_of (tree_entries tree) ++ entry_toke
     ≡ member_tokens (node_members (plain_node tree.root.own) (node_objects (described_nodes tree.root.children tree.payloads)))
     ++ one EndObject
 root_tokens tree =
-    let nodes : Nodes ComparedNode = compared_nodes tree.root.children tree.payloads in
+    let nodes : Nodes ComparedNode = nodes_to_compare tree.root.children tree.payloads in
     let own : List EntryModel = property_entries tree.root.own in
     ap (λ (tokens : List JsonToken). tokens ++ entry_tokens NodeEnds)
     (flat_map-append entry_tokens own (node_entries nodes)

@@ -148,7 +148,8 @@ reduced_again words (OfReducedLegacy image) =
 reduced_again words (OfReducedTree tree) =
     OfReducedTree (record { cpu = tree.cpu; reservations = tree.reservations; root = kept_again words tree.root })
 
-meaning_kept : (words more : List Ignored) (meaning : Meaning) → reduced_again more (meaning_without words meaning) ≡ meaning_without (words ++ more) meaning
+meaning_kept : (words more : List Ignored) (meaning : Meaning) →
+    reduced_again more (meaning_without words meaning) ≡ meaning_without (words ++ more) meaning
 meaning_kept words more (OfLegacy image) = (λ i. OfReducedLegacy (record {
   fields = fields_alone image;
   time = time_kept words more image.time i;

@@ -12,7 +12,7 @@ use Rattle.bi_values.specs.ValueNames.{IsChildNameOfBytes}
 use Rattle.bi_values.proofs.Steps.{path_begins}
 use Rattle.bi_common.proofs.ReadableWords.Cuts.{begin_apart, later_same}
 use Rattle.bi_describe.specs.ComparedNodes.{ComparedNode, ComparedPayload, ImageWith, NoImage}
-use Rattle.bi_describe.specs.IgnoredWords.{AreNoPlainWords, IsBadValue, IsNoPlainWord, IsNoWordWithPath, IsPlain, IsPlainWord, ignored_text, payload_path}
+use Rattle.bi_describe.specs.IgnoredWords.{AreNoPlainWords, IsBadIgnoredValue, IsNoPlainWord, IsNoWordWithPath, IsPlain, IsPlainWord, ignored_text, payload_path}
 use Rattle.bi_describe.specs.IgnoredWords.{path_in, place_path}
 use Rattle.bi_describe.specs.Ignoring.{Ignored, IgnoredTime, IgnoredSignatures, IgnoredNode, IgnoredProperty, IgnoredPart, Inside, Itself}
 use Rattle.bi_describe.specs.Ignoring.{OfImageNamed, OfPart, NodePlace, PayloadPlace, TreePlace}
@@ -22,7 +22,7 @@ use Rattle.bi_describe.specs.ReducedMeanings.{OfReducedLegacy, OfReducedTree, Re
 use Rattle.bi_describe.specs.WordParts.{IsNoPayload, IsNoPlace}
 use Rattle.bi_describe.proofs.DescriptionFacts.{sorted_entries}
 use Rattle.bi_describe.proofs.KeptProperties.{entries_kept}
-use Rattle.bi_describe.proofs.ValueWords.{bad_value, no_plain_among}
+use Rattle.bi_describe.proofs.ValueWords.{bad_ignored_value, no_plain_among}
 use Rattle.bi_describe.proofs.WordTexts.{no_inner_payload, no_node_word}
 
 -- What stays of small images is known, and so are the words for what is left out.
@@ -118,9 +118,9 @@ module _ (text : List ℕ) (no_slash : (later : List ℕ) → text ≢ 47 ∷ la
 
 -- A text that is no word without a path, among those of a value.
 bad_by : (value text : List ℕ) → Contains (slice_split (λ byte. byte == 44) value) text → IsNoPlainWord text → IsNoWordWithPath value →
-    IsBadValue value
+    IsBadIgnoredValue value
 bad_by value text has no_plain no_path =
-    bad_value value (no_plain_among (slice_split (λ byte. byte == 44) value) text has no_plain) no_path
+    bad_ignored_value value (no_plain_among (slice_split (λ byte. byte == 44) value) text has no_plain) no_path
 
 no_empty_word : IsNoPlainWord []
 no_empty_word = no_plain_word [] (λ e. absurd cc) (λ e. absurd cc)

@@ -25,7 +25,7 @@ use Rattle.bi_describe.specs.ComparingWithout.{comparison_without, lines_without
 use Rattle.bi_describe.specs.Describing.{CanBeDescribed}
 use Rattle.bi_describe.specs.Differences.{SignedLine, differences, text_of_differences}
 use Rattle.bi_describe.specs.Ignoring.{Ignored}
-use Rattle.bi_describe.specs.KeptImages.{IsKept}
+use Rattle.bi_describe.specs.KeptImages.{IsKeptImage}
 use Rattle.bi_describe.specs.ReducedMeanings.{AreSameWithout, meaning_without, reduced_header_lines, reduced_lines, time_lines}
 use Rattle.bi_common.specs.Lines.{text_of_lines}
 use Rattle.bi_describe.proofs.ComparedImages.{memory_error, some_or, some_text}
@@ -36,29 +36,29 @@ use Rattle.bi_describe.proofs.ComparedImages.{memory_error, some_or, some_text}
 abbrev stay_apart : List Ignored → (one other : Meaning) → List SignedLine
 stay_apart words one other = differences_or_reason (reduced_lines (meaning_without words one)) (reduced_lines (meaning_without words other))
 
-legacy_apart : (words : List Ignored) (one other : Meaning) (a b : KeptLegacy) → IsKept (meaning_without words one) (Legacy a) →
-    IsKept (meaning_without words other) (Legacy b) → stay_apart words one other ≡ comparison_without words one other
+legacy_apart : (words : List Ignored) (one other : Meaning) (a b : KeptLegacy) → IsKeptImage (meaning_without words one) (Legacy a) →
+    IsKeptImage (meaning_without words other) (Legacy b) → stay_apart words one other ≡ comparison_without words one other
 legacy_apart words (OfLegacy one) (OfLegacy other) a b is also = refl
 legacy_apart words (OfLegacy one) (OfFit other) a b is also = absurd also
 legacy_apart words (OfFit one) other a b is also = absurd is
 
-fits_apart : (words : List Ignored) (one other : Meaning) (a b : KeptFit) → IsKept (meaning_without words one) (Fit a) →
-    IsKept (meaning_without words other) (Fit b) → stay_apart words one other ≡ comparison_without words one other
+fits_apart : (words : List Ignored) (one other : Meaning) (a b : KeptFit) → IsKeptImage (meaning_without words one) (Fit a) →
+    IsKeptImage (meaning_without words other) (Fit b) → stay_apart words one other ≡ comparison_without words one other
 fits_apart words (OfFit one) (OfFit other) a b is also = refl
 fits_apart words (OfFit one) (OfLegacy other) a b is also = absurd also
 fits_apart words (OfLegacy one) other a b is also = absurd is
 
 pub two_legacy_stay : (words : List Ignored) (one other : Meaning) (image others : KeptImage) (a b : KeptLegacy) → image ≡ Legacy a →
-    others ≡ Legacy b → IsKept (meaning_without words one) image → IsKept (meaning_without words other) others →
+    others ≡ Legacy b → IsKeptImage (meaning_without words one) image → IsKeptImage (meaning_without words other) others →
     stay_apart words one other ≡ comparison_without words one other
 two_legacy_stay words one other image others a b is also kept other_kept =
-    legacy_apart words one other a b (subst (IsKept (meaning_without words one)) is kept) (subst (IsKept (meaning_without words other)) also other_kept)
+    legacy_apart words one other a b (subst (IsKeptImage (meaning_without words one)) is kept) (subst (IsKeptImage (meaning_without words other)) also other_kept)
 
 pub two_fits_stay : (words : List Ignored) (one other : Meaning) (image others : KeptImage) (a b : KeptFit) → image ≡ Fit a →
-    others ≡ Fit b → IsKept (meaning_without words one) image → IsKept (meaning_without words other) others →
+    others ≡ Fit b → IsKeptImage (meaning_without words one) image → IsKeptImage (meaning_without words other) others →
     stay_apart words one other ≡ comparison_without words one other
 two_fits_stay words one other image others a b is also kept other_kept =
-    fits_apart words one other a b (subst (IsKept (meaning_without words one)) is kept) (subst (IsKept (meaning_without words other)) also other_kept)
+    fits_apart words one other a b (subst (IsKeptImage (meaning_without words one)) is kept) (subst (IsKeptImage (meaning_without words other)) also other_kept)
 
 -- What differs is not nothing.
 some_without : (words : List Ignored) (one other : Meaning) → text_of_differences (comparison_without words one other) ≡ [] → ⊥
@@ -104,8 +104,8 @@ meanings_of limits one other image other_image opened other_opened = record {
   other_means = opened_means limits other other_image other_opened;
 }
 
-pub files_without : (options : IgnoringOptionsModel) (limits : Limits) (one other : List ℕ) (image other_image : BootImage) (same : Bool)
-    (text : List ℕ) → IsReadBootImage limits one image → IsReadBootImage limits other other_image →
+pub files_without : (options : IgnoringOptionsModel) (limits : Limits) (one other : List ℕ) (image other_image : BootImage)
+    (same : Bool) (text : List ℕ) → IsReadBootImage limits one image → IsReadBootImage limits other other_image →
     CanBeDescribed Lines limits (meaning_of image) → CanBeDescribed Lines limits (meaning_of other_image) →
     IsComparisonWithout options (meaning_of image) (meaning_of other_image) same text → AreComparedWithout options limits one other same text
 files_without options limits one other image other_image same text opened other_opened described other_described differs = record {

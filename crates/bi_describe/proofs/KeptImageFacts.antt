@@ -6,7 +6,7 @@ use Rattle.bi_describe.specs.declared.describe.kept.KeptImage.TheVariants.{Legac
 use Rattle.bi_describe.specs.declared.describe.kept.legacy.KeptLegacy.{KeptLegacy}
 use Rattle.bi_describe.specs.declared.describe.kept.tree.KeptFit.{KeptFit}
 use Rattle.bi_describe.specs.KeptEntries.{root_entries}
-use Rattle.bi_describe.specs.KeptImages.{IsKept, IsKeptLegacy, IsKeptTree, numbered_part}
+use Rattle.bi_describe.specs.KeptImages.{IsKeptImage, IsKeptLegacy, IsKeptTree, numbered_part}
 use Rattle.bi_describe.specs.ReducedMeanings.{OfReducedLegacy, OfReducedTree, ReducedLegacy, ReducedMeaning, ReducedTree, fields_alone}
 use Rattle.bi_describe.specs.TreeEntries.{as_entry}
 use Rattle.bi_describe.proofs.EntriesApart.{roots_apart}
@@ -73,12 +73,12 @@ trees_as_meanings one other = (ap OfReducedTree, same_of_tree one other)
 -- The same of images of one kind.
 pub legacy_images_same : (result : Bool) (one other : KeptImage) (a b : KeptLegacy) → one ≡ Legacy a → other ≡ Legacy b →
     ((image others : ReducedLegacy) → IsKeptLegacy image a → IsKeptLegacy others b → IsTrue result ↔ (image ≡ others)) →
-    (meaning other_meaning : ReducedMeaning) → IsKept meaning one → IsKept other_meaning other →
+    (meaning other_meaning : ReducedMeaning) → IsKeptImage meaning one → IsKeptImage other_meaning other →
     IsTrue result ↔ (meaning ≡ other_meaning)
 legacy_images_same result one other a b is also same meaning other_meaning kept other_kept =
-    by meaning other_meaning (subst (IsKept meaning) is kept) (subst (IsKept other_meaning) also other_kept)
+    by meaning other_meaning (subst (IsKeptImage meaning) is kept) (subst (IsKeptImage other_meaning) also other_kept)
   where
-    by : (meaning other_meaning : ReducedMeaning) → IsKept meaning (Legacy a) → IsKept other_meaning (Legacy b) →
+    by : (meaning other_meaning : ReducedMeaning) → IsKeptImage meaning (Legacy a) → IsKeptImage other_meaning (Legacy b) →
         IsTrue result ↔ (meaning ≡ other_meaning)
     by (OfReducedLegacy image) (OfReducedLegacy others) kept other_kept =
         let both = same image others kept other_kept in
@@ -88,12 +88,12 @@ legacy_images_same result one other a b is also same meaning other_meaning kept 
 
 pub fit_images_same : (result : Bool) (one other : KeptImage) (a b : KeptFit) → one ≡ Fit a → other ≡ Fit b →
     ((tree others : ReducedTree) → IsKeptTree tree a → IsKeptTree others b → IsTrue result ↔ (tree ≡ others)) →
-    (meaning other_meaning : ReducedMeaning) → IsKept meaning one → IsKept other_meaning other →
+    (meaning other_meaning : ReducedMeaning) → IsKeptImage meaning one → IsKeptImage other_meaning other →
     IsTrue result ↔ (meaning ≡ other_meaning)
 fit_images_same result one other a b is also same meaning other_meaning kept other_kept =
-    by meaning other_meaning (subst (IsKept meaning) is kept) (subst (IsKept other_meaning) also other_kept)
+    by meaning other_meaning (subst (IsKeptImage meaning) is kept) (subst (IsKeptImage other_meaning) also other_kept)
   where
-    by : (meaning other_meaning : ReducedMeaning) → IsKept meaning (Fit a) → IsKept other_meaning (Fit b) →
+    by : (meaning other_meaning : ReducedMeaning) → IsKeptImage meaning (Fit a) → IsKeptImage other_meaning (Fit b) →
         IsTrue result ↔ (meaning ≡ other_meaning)
     by (OfReducedTree tree) (OfReducedTree others) kept other_kept =
         let both = same tree others kept other_kept in

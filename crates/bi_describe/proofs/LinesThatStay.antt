@@ -11,7 +11,7 @@ use Rattle.bi_legacy.specs.Meaning.{LegacyImage}
 use Rattle.bi_norm.specs.Meaning.{Meaning, OfLegacy, OfFit}
 use Rattle.bi_common.specs.CommonLines.{header_lines, reservation_line}
 use Rattle.bi_common.specs.Lines.{Line}
-use Rattle.bi_describe.specs.ComparedNodes.{ComparedNode, compared_nodes, described_node, described_payload}
+use Rattle.bi_describe.specs.ComparedNodes.{ComparedNode, nodes_to_compare, described_node, described_payload}
 use Rattle.bi_describe.specs.Descriptions.{description_lines, digest_of_payload, fit_lines, head_lines, legacy_lines, node_lines, own_lines}
 use Rattle.bi_describe.specs.Descriptions.{part_lines, payload_lines, plain_node, property_line, tree_lines}
 use Rattle.bi_describe.specs.Ignoring.{Ignored, is_node_ignored, is_part_ignored, is_property_ignored, is_time_ignored}
@@ -89,7 +89,7 @@ module _ (P : Line → Type 0) (words : List Ignored) where
       own_ones = own_lines [] (plain_node tree.root.own)
 
       below : List Line
-      below = node_lines [] (as_described (compared_nodes tree.root.children tree.payloads))
+      below = node_lines [] (as_described (nodes_to_compare tree.root.children tree.payloads))
 
       all : Each (own_ones ++ below)
       all = subst (λ nodes. Each (own_ones ++ node_lines [] nodes)) (sym (nodes_described tree.root.children tree.payloads)) each
@@ -99,7 +99,7 @@ module _ (P : Line → Type 0) (words : List Ignored) where
       by true is = rw is tt
       by false is = rw is (each-append P (own_lines [] (described_node (kept_own words [] (compared_root tree.root tree.payloads).own))) _
           (own_stays [] (compared_root tree.root tree.payloads).own (each-front P own_ones below all))
-          (nodes_stay [] (compared_nodes tree.root.children tree.payloads) (each-back P own_ones below all)))
+          (nodes_stay [] (nodes_to_compare tree.root.children tree.payloads) (each-back P own_ones below all)))
 
   tree_stays : (tree : ImageTree) → Each (fit_lines tree) → Each (reduced_tree_lines (reduced_tree words tree))
   tree_stays tree each =

@@ -15,7 +15,7 @@ use Rattle.bi_legacy.specs.Meaning.{LegacyImage}
 use Rattle.bi_norm.specs.Meaning.{Meaning, Means, OfLegacy, OfFit}
 use Rattle.bi_common.specs.Lines.{Line}
 use Rattle.bi_common.specs.CommonLines.{header_lines, reservation_line}
-use Rattle.bi_describe.specs.ComparedNodes.{ComparedNode, ComparedPayload, NoImage, ImageWith, compared_children, compared_images, compared_nodes}
+use Rattle.bi_describe.specs.ComparedNodes.{ComparedNode, ComparedPayload, NoImage, ImageWith, compared_children, compared_images, nodes_to_compare}
 use Rattle.bi_describe.specs.ComparedNodes.{plain_compared}
 use Rattle.bi_describe.specs.Comparing.{comparison, differences_or_reason}
 use Rattle.bi_describe.specs.ComparingWithout.{comparison_without}
@@ -28,7 +28,7 @@ use Rattle.bi_describe.specs.ReducedMeanings.{reduced_lines, reduced_part_lines,
 use Rattle.bi_describe.proofs.ComparedTrees.{as_described, nodes_described}
 use Rattle.bi_describe.proofs.KeptImageFacts.{legacy_as_meanings, trees_as_meanings}
 use Rattle.bi_describe.proofs.KeptProperties.{same_kept}
-use Rattle.bi_describe.proofs.ReadableDescriptions.SameTrees.{images_of}
+use Rattle.bi_describe.proofs.ReadableDescriptions.SameTrees.{tree_images}
 use Rattle.bi_describe.proofs.ReadableDescriptions.DescribedNodes.{HasImages, ImagesIn, InFirst, InLater, images_among, same_described}
 
 -- Without words all of a meaning stays.
@@ -81,7 +81,7 @@ image_payloads (node name own children later) (payload ∷ payloads) apart =
 
 -- Nodes none of which has the image nodes as its children.
 others_plain : (nodes : Nodes PropertyMap) (payloads : List (Option (List ℕ))) →
-    AllByRecursion (λ name. name ≢ images_name) (names nodes) → payloads_of (compared_nodes nodes payloads) ≡ []
+    AllByRecursion (λ name. name ≢ images_name) (names nodes) → payloads_of (nodes_to_compare nodes payloads) ≡ []
 others_plain none payloads others = refl
 others_plain (node name own children later) payloads others =
     ap₂ (λ (below after : List (Option (List ℕ))). below ++ after) (by (bytes_eq name images_name) refl) (others_plain later payloads others.1)
@@ -91,14 +91,14 @@ others_plain (node name own children later) payloads others =
     by false is = rw is (plain_payloads children)
 
 node_payloads : (nodes : Nodes PropertyMap) (payloads : List (Option (List ℕ))) → HasImages ArePropertiesByName nodes payloads →
-    payloads_of (compared_nodes nodes payloads) ≡ payloads
+    payloads_of (nodes_to_compare nodes payloads) ≡ payloads
 node_payloads none payloads has = let nothing : None ≡ Some has.images = has.has_images in absurd cc
 node_payloads (node name own children later) payloads has =
     by (images_among ArePropertiesByName name own children later payloads has) (node_payloads later payloads)
   where
     by : ImagesIn ArePropertiesByName name own children later payloads →
-        (HasImages ArePropertiesByName later payloads → payloads_of (compared_nodes later payloads) ≡ payloads) →
-        payloads_of (compared_nodes (node name own children later) payloads) ≡ payloads
+        (HasImages ArePropertiesByName later payloads → payloads_of (nodes_to_compare later payloads) ≡ payloads) →
+        payloads_of (nodes_to_compare (node name own children later) payloads) ≡ payloads
     by (InFirst is apart no_more) rest =
         rw is (ap₂ (λ (below after : List (Option (List ℕ))). below ++ after) (image_payloads children payloads apart)
         (others_plain later payloads no_more) ∙ append-nil payloads)
@@ -114,10 +114,10 @@ same_trees one other is also cpus reservations roots =
     let described = sym (nodes_described one.root.children one.payloads) ∙ ap as_described nodes
     ∙ nodes_described other.root.children other.payloads in
     let children = (same_described ArePropertiesByName one.root.children other.root.children one.payloads other.payloads
-    (images_of one is) (images_of other also) described).0 in
+    (tree_images one is) (tree_images other also) described).0 in
     let payloads : one.payloads ≡ other.payloads =
-    sym (node_payloads one.root.children one.payloads (images_of one is)) ∙ ap payloads_of nodes
-    ∙ node_payloads other.root.children other.payloads (images_of other also) in
+    sym (node_payloads one.root.children one.payloads (tree_images one is)) ∙ ap payloads_of nodes
+    ∙ node_payloads other.root.children other.payloads (tree_images other also) in
     (λ i. record {
       cpu = cpus i;
       reservations = reservations i;

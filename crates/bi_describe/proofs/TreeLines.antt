@@ -12,7 +12,7 @@ use Rattle.bi_common.specs.CommonLines.{reservation_line}
 use Rattle.bi_common.specs.LineTokens.{LineToken, line_tokens, tokens_of_lines}
 use Rattle.bi_common.specs.Lines.{Line}
 use Rattle.bi_describe.specs.ReadDescription.{read_lines, root_lines}
-use Rattle.bi_describe.specs.ComparedNodes.{ComparedNode, ComparedPayload, NoImage, ImageWith, compared_nodes, described_node}
+use Rattle.bi_describe.specs.ComparedNodes.{ComparedNode, ComparedPayload, NoImage, ImageWith, nodes_to_compare, described_node}
 use Rattle.bi_describe.specs.ComparedNodes.{described_payload}
 use Rattle.bi_describe.specs.Descriptions.{DescribedNode, head_lines, described_nodes, node_line}
 use Rattle.bi_describe.specs.Descriptions.{node_lines, own_lines, plain_node}

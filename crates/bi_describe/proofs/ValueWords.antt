@@ -6,7 +6,7 @@ use Rattle.std.specs.List.{AllZip}
 use Rattle.std.proofs.lemmas.List.{get_or-map, length-map, take_more}
 use Rattle.bi_common.specs.MadeFields.{bytes_of_names}
 use Rattle.bi_base.proofs.ListMembers.{Contains-cases, Contains-none}
-use Rattle.bi_describe.specs.IgnoredWords.{AreFirstWords, AreNoPlainWords, AreWordsOfValue, AreWordsOfValues, IsBadValue, IsFirstBad, IsNoPlainWord}
+use Rattle.bi_describe.specs.IgnoredWords.{AreFirstWords, AreNoPlainWords, AreWordsOfValue, AreWordsOfValues, IsBadIgnoredValue, IsFirstBadIgnored, IsNoPlainWord}
 use Rattle.bi_describe.specs.IgnoredWords.{IsNoWordWithPath, IsOneWord, IsPlainWord, IsWordWithPath}
 use Rattle.bi_describe.specs.Ignoring.{Ignored}
 
@@ -46,13 +46,13 @@ no_plain_among (first ∷ later) text has none (word ∷ words) are =
     by (inr more) after = after more
 
 -- A value that is neither of both.
-pub bad_value : (value : List ℕ) → AreNoPlainWords value → IsNoWordWithPath value → IsBadValue value
-bad_value value no_plain no_path words (inl are) = no_plain words are
-bad_value value no_plain no_path words (inr one) = no_path one.word one.is_word
+pub bad_ignored_value : (value : List ℕ) → AreNoPlainWords value → IsNoWordWithPath value → IsBadIgnoredValue value
+bad_ignored_value value no_plain no_path words (inl are) = no_plain words are
+bad_ignored_value value no_plain no_path words (inr one) = no_path one.word one.is_word
 
 -- The values of slices, up to one of them.
-values_from : (values : List (Bor (List ℕ))) (index : ℕ) (value : Bor (List ℕ)) → value ≡ get_or values index value → index < length values →
-    take (index + 1) (bytes_of_names values) ≡ take index (bytes_of_names values) ++ value.now ∷ []
+values_from : (values : List (Bor (List ℕ))) (index : ℕ) (value : Bor (List ℕ)) → value ≡ get_or values index value →
+    index < length values → take (index + 1) (bytes_of_names values) ≡ take index (bytes_of_names values) ++ value.now ∷ []
 values_from values index value is within =
     let long = length-map values (λ (value : Bor (List ℕ)). value.now) in
     take_more (bytes_of_names values) index value.now (omega (arith, within, long))
@@ -69,13 +69,13 @@ values_next values index value words first more is within so_far are appended =
 
 pub first_bad_value : (values : List (Bor (List ℕ))) (index : ℕ) (value : Bor (List ℕ)) (words : List Ignored) →
     value ≡ get_or values index value → index < length values → AreWordsOfValues (take index (bytes_of_names values)) words →
-    IsBadValue value.now → IsFirstBad (bytes_of_names values) index
+    IsBadIgnoredValue value.now → IsFirstBadIgnored (bytes_of_names values) index
 first_bad_value values index value words is within so_far bad =
     let long = length-map values (λ (value : Bor (List ℕ)). value.now) in
     record {
       within = omega (arith, within, long);
       before = words;
       is_before = so_far;
-      is_bad = subst IsBadValue (ap (λ (value : Bor (List ℕ)). value.now) is
+      is_bad = subst IsBadIgnoredValue (ap (λ (value : Bor (List ℕ)). value.now) is
           ∙ sym (get_or-map (λ (value : Bor (List ℕ)). value.now) values index value [] within)) bad;
     }

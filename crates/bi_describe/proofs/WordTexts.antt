@@ -23,7 +23,7 @@ use Rattle.bi_describe.specs.IgnoredWords.{HasPath, IsNodePlace, IsNoWordWithPat
 use Rattle.bi_describe.specs.IgnoredWords.{path_in, payload_path, place_path}
 use Rattle.bi_describe.specs.Ignoring.{Ignored, IgnoredTime, IgnoredSignatures, IgnoredNode, IgnoredProperty, IgnoredPart, NodePlace}
 use Rattle.bi_describe.specs.Ignoring.{OfImageNamed, OfPart, PayloadPlace, TreePlace, Itself, Inside}
-use Rattle.bi_describe.specs.WordParts.{IsNoPart, IsNoPayload, IsNoPlace, IsShownPart, IsShownPayload, IsShownPlace, IsSplit, has_two_slashes}
+use Rattle.bi_describe.specs.WordParts.{IsNoPart, IsNoPayload, IsNoPlace, IsShownPart, IsPayloadWord, IsShownPlace, IsSplit, has_two_slashes}
 
 -- The texts of words with a path are read back from their parts.
 
@@ -216,8 +216,8 @@ pub path_of_payload : (name text : List ℕ) → shown_text name ≡ text → pa
 path_of_payload name text is = ap (λ shown. codes "/images/" ++ shown) (append-nil (shown_text name) ∙ is)
 
 -- A text of another beginning is that of no image, and of no part.
-pub no_payload : (text : List ℕ) → IsNoPart text → ((name : List ℕ) → IsChildNameOfBytes name → codes "/images/" ++ shown_text name ≢ text) →
-    IsNoPayload text
+pub no_payload : (text : List ℕ) → IsNoPart text →
+    ((name : List ℕ) → IsChildNameOfBytes name → codes "/images/" ++ shown_text name ≢ text) → IsNoPayload text
 no_payload text no_part no_image (OfPart index) small same = no_part index small same
 no_payload text no_part no_image (OfImageNamed name) is same = no_image name is (sym (path_of_payload name (shown_text name) refl) ∙ same)
 

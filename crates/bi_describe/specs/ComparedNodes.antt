@@ -36,11 +36,11 @@ compared_children name children payloads =
     else with_each plain_compared children
 
 -- The children of the root with all nodes below them.
-abbrev pub compared_nodes : Nodes PropertyMap → List (Option (List ℕ)) → Nodes ComparedNode
-compared_nodes none payloads = none
-compared_nodes (node name own children later) payloads =
+abbrev pub nodes_to_compare : Nodes PropertyMap → List (Option (List ℕ)) → Nodes ComparedNode
+nodes_to_compare none payloads = none
+nodes_to_compare (node name own children later) payloads =
     node name (plain_compared own) (compared_children name children payloads)
-    (compared_nodes later payloads)
+    (nodes_to_compare later payloads)
 
 -- The payload as a description shows it.
 abbrev pub described_payload : ComparedPayload → NodePayload

@@ -31,7 +31,7 @@ described_tokens (Legacy image) =
 described_tokens (Fit fit) = read_tokens fit.blob.now (map as_entry fit.entries.items)
 
 -- It has all of a flattened image tree.
-pub record HoldsTree (tree : ImageTree) (described : DescribedFit) : Type 0 where
+pub record HoldsDescribedTree (tree : ImageTree) (described : DescribedFit) : Type 0 where
   pub cpu : described.blob.now.cpu ≡ tree.cpu
   pub reservations : described.blob.now.reservations ≡ tree.reservations
   pub entries : map as_entry described.entries.items ≡ tree_entries tree
@@ -40,7 +40,7 @@ pub record HoldsTree (tree : ImageTree) (described : DescribedFit) : Type 0 wher
 abbrev pub HoldsMeaning : Meaning → DescribedImage → Type 0
 HoldsMeaning (OfLegacy image) (Legacy described) =
     image_of described.fields (bytes_of_parts described.parts.items) ≡ image
-HoldsMeaning (OfFit tree) (Fit described) = HoldsTree tree described
+HoldsMeaning (OfFit tree) (Fit described) = HoldsDescribedTree tree described
 HoldsMeaning meaning described = ⊥
 
 -- It is what the description of a meaning is made from.

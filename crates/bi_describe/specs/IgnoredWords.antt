@@ -97,8 +97,8 @@ abbrev pub AreWordsOfValue : (value : List ℕ) → List Ignored → Type 0
 AreWordsOfValue value words = ArePlainWords value words ⊎ IsOneWord value words
 
 -- It is for no words.
-abbrev pub IsBadValue : (value : List ℕ) → Type 0
-IsBadValue value = (words : List Ignored) → ¬ (AreWordsOfValue value words)
+abbrev pub IsBadIgnoredValue : (value : List ℕ) → Type 0
+IsBadIgnoredValue value = (words : List Ignored) → ¬ (AreWordsOfValue value words)
 
 -- The words of the first of these values, and those of the others.
 pub record AreFirstWords (value : List ℕ) (IsOfOthers : List Ignored → Type 0)
@@ -116,8 +116,8 @@ AreWordsOfValues [] words = words ≡ []
 AreWordsOfValues (value ∷ later) words = AreFirstWords value (AreWordsOfValues later) words
 
 -- The value with this index is the first of these that is for no words.
-pub record IsFirstBad (values : List (List ℕ)) (index : ℕ) : Type 0 where
+pub record IsFirstBadIgnored (values : List (List ℕ)) (index : ℕ) : Type 0 where
   pub within : index < length values
   pub before : List Ignored
   pub is_before : AreWordsOfValues (take index values) before
-  pub is_bad : IsBadValue (get_or values index [])
+  pub is_bad : IsBadIgnoredValue (get_or values index [])

@@ -32,13 +32,13 @@ pub record IsKeptTree (reduced : ReducedTree) (fit : KeptFit) : Type 0 where
       ≡ root_entries reduced.root
 
 -- This is what stays of a meaning.
-abbrev pub IsKept : ReducedMeaning → KeptImage → Type 0
-IsKept (OfReducedLegacy reduced) (Legacy image) = IsKeptLegacy reduced image
-IsKept (OfReducedTree reduced) (Fit fit) = IsKeptTree reduced fit
-IsKept reduced image = ⊥
+abbrev pub IsKeptImage : ReducedMeaning → KeptImage → Type 0
+IsKeptImage (OfReducedLegacy reduced) (Legacy image) = IsKeptLegacy reduced image
+IsKeptImage (OfReducedTree reduced) (Fit fit) = IsKeptTree reduced fit
+IsKeptImage reduced image = ⊥
 
 -- This is what stays of a meaning, and its lines are ASCII.
 pub record IsKeptAscii (image : KeptImage) : Type 0 where
   pub meaning : ReducedMeaning
-  pub is_kept : IsKept meaning image
+  pub is_kept : IsKeptImage meaning image
   pub ascii : IsAscii (text_of_lines (reduced_lines meaning))

@@ -30,8 +30,8 @@ use Rattle.bi_describe.specs.MadeWords.{ignored_words, node_place, tree_place}
 -- Small files that are compared without something, by which a reader can judge the definitions.
 
 -- What is written as lines, or in JSON, or not at all.
-abbrev pub written : List Ignored → (quiet : Bool) → Format → IgnoringOptionsModel
-written words quiet format = record { words = words; quiet = quiet; format = format }
+abbrev pub options_with : List Ignored → (quiet : Bool) → Format → IgnoringOptionsModel
+options_with words quiet format = record { words = words; quiet = quiet; format = format }
 
 -- The node of the image `a`.
 abbrev pub node_a : Ignored
@@ -43,12 +43,12 @@ ComparesWith options same text = AreComparedWithout options widest smallest_text
 
 -- Without the image both are the same. If nothing is written, they still differ.
 pub record ComparedWithoutIsKnown : Type 0 where
-  pub same : ComparesWith (written (node_a ∷ []) false Lines) true []
-  pub same_json : ComparesWith (written (node_a ∷ []) false Json) true
+  pub same : ComparesWith (options_with (node_a ∷ []) false Lines) true []
+  pub same_json : ComparesWith (options_with (node_a ∷ []) false Json) true
       (lines (codes "{\"same\":true,\"differences\":[]}" ∷ []))
-  pub different : ComparesWith (written [] false Lines) false
+  pub different : ComparesWith (options_with [] false Lines) false
       (lines (codes "+node /images/a" ∷ codes "+payload /images/a none" ∷ []))
-  pub quiet : ComparesWith (written [] true Lines) false []
+  pub quiet : ComparesWith (options_with [] true Lines) false []
 
 -- A file that is too long to describe is refused, even beside itself.
 pub record IgnoringErrorsAreKnown : Type 0 where

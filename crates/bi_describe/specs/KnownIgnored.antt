@@ -6,7 +6,7 @@ use Rattle.bi_fit.specs.Names.{images_name, configurations_name}
 use Rattle.bi_legacy.specs.Meaning.{LegacyImage}
 use Rattle.bi_norm.specs.Meaning.{Meaning, OfLegacy, OfFit}
 use Rattle.bi_describe.specs.Differences.{line_bytes}
-use Rattle.bi_describe.specs.IgnoredWords.{ignored_text, AreWordsOfValue, IsBadValue}
+use Rattle.bi_describe.specs.IgnoredWords.{ignored_text, AreWordsOfValue, IsBadIgnoredValue}
 use Rattle.bi_describe.specs.Ignoring.{Ignored, IgnoredTime, IgnoredSignatures, IgnoredNode}
 use Rattle.bi_describe.specs.Ignoring.{IgnoredProperty, IgnoredPart, NodePlace, Itself, Inside}
 use Rattle.bi_describe.specs.Ignoring.{OfImageNamed, OfPart}
@@ -182,8 +182,8 @@ pub record IgnoredWordsAreKnown : Type 0 where
   pub root : AreWordsOfValue (codes "/") (IgnoredNode (own_node []) ∷ [])
   -- A comma after a path belongs to a name.
   pub comma : AreWordsOfValue (codes "/a,b") (IgnoredNode (own_node (codes "a,b" ∷ [])) ∷ [])
-  pub empty_value : IsBadValue []
-  pub other_word : IsBadValue (codes "nothing")
-  pub no_last : IsBadValue (codes "time,")
-  pub path_after : IsBadValue (codes "time,/")
-  pub two_slashes : IsBadValue (codes "//")
+  pub empty_value : IsBadIgnoredValue []
+  pub other_word : IsBadIgnoredValue (codes "nothing")
+  pub no_last : IsBadIgnoredValue (codes "time,")
+  pub path_after : IsBadIgnoredValue (codes "time,/")
+  pub two_slashes : IsBadIgnoredValue (codes "//")

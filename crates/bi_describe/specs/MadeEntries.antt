@@ -4,7 +4,7 @@ use Rattle.bi_blob.specs.Lookups.{Sibling}
 use Rattle.bi_fit.specs.NormalNodes.{nodes_by_name, properties_by_name}
 use Rattle.bi_fit.specs.ImageTree.{with_children_of, without_payload, without_payloads}
 use Rattle.bi_fit.specs.Names.{images_name}
-use Rattle.bi_describe.specs.ComparedNodes.{compared_images, compared_nodes, plain_compared}
+use Rattle.bi_describe.specs.ComparedNodes.{compared_images, nodes_to_compare, plain_compared}
 use Rattle.bi_describe.specs.TreeEntries.{EntryModel, NodeBegins, NodeEnds, PayloadEntry}
 use Rattle.bi_describe.specs.TreeEntries.{node_entries, property_entries}
 
@@ -35,5 +35,5 @@ images_entries nodes payloads =
 -- The entries of the children of the root, and of all nodes below them.
 abbrev pub root_children_entries : Nodes FileNode → List (Option (List ℕ)) → List EntryModel
 root_children_entries nodes payloads =
-    node_entries (compared_nodes
+    node_entries (nodes_to_compare
     (with_children_of images_name without_payloads (nodes_by_name nodes)) payloads)

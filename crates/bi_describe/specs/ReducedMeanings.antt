@@ -8,7 +8,7 @@ use Rattle.bi_legacy.specs.Meaning.{LegacyImage}
 use Rattle.bi_norm.specs.Meaning.{Meaning, OfLegacy, OfFit}
 use Rattle.bi_common.specs.CommonLines.{header_lines, reservation_line}
 use Rattle.bi_common.specs.Lines.{Line, Text, Decimal}
-use Rattle.bi_describe.specs.ComparedNodes.{ComparedNode, compared_nodes, described_node}
+use Rattle.bi_describe.specs.ComparedNodes.{ComparedNode, nodes_to_compare, described_node}
 use Rattle.bi_describe.specs.ComparedNodes.{plain_compared}
 use Rattle.bi_describe.specs.Descriptions.{digest_of_payload, head_lines, node_lines, own_lines}
 use Rattle.bi_describe.specs.Descriptions.{part_line}
@@ -54,7 +54,7 @@ abbrev pub compared_root : Root PropertyMap → List (Option (List ℕ)) → Roo
 compared_root root payloads =
     record {
       own = plain_compared root.own;
-      children = compared_nodes root.children payloads;
+      children = nodes_to_compare root.children payloads;
     }
 
 -- ---- legacy images

@@ -6,7 +6,7 @@ use Rattle.bi_common.specs.Lines.{Line}
 use Rattle.bi_describe.specs.declared.describe.entries.Entry.{Entry}
 use Rattle.bi_describe.specs.declared.describe.entries.Entry.TheVariants as entry
 use Rattle.bi_describe.specs.ComparedNodes.{ComparedNode, ComparedPayload, NoImage, ImageWith}
-use Rattle.bi_describe.specs.ComparedNodes.{compared_nodes, described_payload}
+use Rattle.bi_describe.specs.ComparedNodes.{nodes_to_compare, described_payload}
 use Rattle.bi_describe.specs.Descriptions.{node_line, payload_lines, property_line}
 use Rattle.bi_describe.specs.ImagePayloads.{bytes_of_payload}
 
@@ -49,7 +49,7 @@ node_entries (node name own children later) =
 abbrev pub tree_entries : ImageTree → List EntryModel
 tree_entries tree =
     property_entries tree.root.own
-    ++ node_entries (compared_nodes tree.root.children tree.payloads)
+    ++ node_entries (nodes_to_compare tree.root.children tree.payloads)
 
 -- The names of the open nodes after an entry, if these are open before it. The root is left out.
 abbrev pub open_after : (names : List (List ℕ)) → EntryModel → List (List ℕ)

@@ -6,7 +6,7 @@ mod path_words;
 ghost use Rattle.std.specs.Prelude.{◌≡◌, ◌++◌, OnOk, IfOk, IfErr, IfSome, IfNone};
 ghost use Rattle.bi_base.specs.declared.fault.Error.TheVariants.{OutOfMemory};
 ghost use Rattle.bi_common.specs.MadeFields.{bytes_of_names};
-ghost use Rattle.bi_describe.specs.IgnoredWords.{AreWordsOfValue, AreWordsOfValues, IsBadValue};
+ghost use Rattle.bi_describe.specs.IgnoredWords.{AreWordsOfValue, AreWordsOfValues, IsBadIgnoredValue};
 ghost use Rattle.bi_describe.specs.IgnoredWords.{IsPlainWord, IsNoPlainWord, ArePlainWords};
 ghost use Rattle.bi_describe.specs.IgnoredWords.{AreNoPlainWords};
 ghost use Rattle.bi_describe.specs.IgnoredErrors.{IsParseError};
@@ -128,7 +128,7 @@ fn append_words(all: &mut Vec<Ignored>, words: Vec<Ignored>) -> Result<(), Alloc
 fn read_value(alloc: Global, value: &[u8]) -> Result<Option<Vec<Ignored>>, AllocError>
     ensures some { IfOk result (λ found. IfSome found (λ words.
         AreWordsOfValue value.now (ignored_words words.items))) }
-    ensures none { IfOk result (λ found. IfNone found (IsBadValue value.now)) }
+    ensures none { IfOk result (λ found. IfNone found (IsBadIgnoredValue value.now)) }
 {
     match words_of_value(alloc, value) {
         Ok(found) => Ok(found),
@@ -141,7 +141,7 @@ fn read_value(alloc: Global, value: &[u8]) -> Result<Option<Vec<Ignored>>, Alloc
 fn words_of_value(alloc: Global, value: &[u8]) -> Result<Option<Vec<Ignored>>, Error>
     ensures some { IfOk result (λ found. IfSome found (λ words.
         AreWordsOfValue value.now (ignored_words words.items))) }
-    ensures none { IfOk result (λ found. IfNone found (IsBadValue value.now)) }
+    ensures none { IfOk result (λ found. IfNone found (IsBadIgnoredValue value.now)) }
     ensures failed { IfErr result (λ error. error ≡ OutOfMemory) }
 {
     if let Some(words) = plain_words(alloc, value)? {

@@ -6,7 +6,7 @@ ghost use Rattle.bi_describe.specs.Comparing.{comparison_text};
 ghost use Rattle.bi_describe.specs.ComparingWithout.{IsComparisonWithout, comparison_without};
 ghost use Rattle.bi_describe.specs.ComparingWithout.{lines_without, text_without};
 ghost use Rattle.bi_describe.specs.Ignoring.{Ignored as Word};
-ghost use Rattle.bi_describe.specs.KeptImages.{IsKept, IsKeptAscii};
+ghost use Rattle.bi_describe.specs.KeptImages.{IsKeptImage, IsKeptAscii};
 ghost use Rattle.bi_describe.specs.KeptLines.{KeepsLines};
 ghost use Rattle.bi_describe.specs.MadeLines.{made_lines};
 ghost use Rattle.bi_describe.specs.MadeOptions.{ignoring_model};
@@ -46,8 +46,8 @@ pub(super) fn compare_kept(
     requires ascii { IsKeptAscii image.now }
     requires other_ascii { IsKeptAscii other.now }
     ensures { IfOk result (λ comparison. (meaning other_meaning : Meaning)
-        → IsKept (meaning_without (ignored_words options.entry.words.now) meaning) image.now
-        → IsKept (meaning_without (ignored_words options.entry.words.now) other_meaning) other.now
+        → IsKeptImage (meaning_without (ignored_words options.entry.words.now) meaning) image.now
+        → IsKeptImage (meaning_without (ignored_words options.entry.words.now) other_meaning) other.now
         → IsComparisonWithout (ignoring_model options.entry) meaning other_meaning comparison.same
         (string_bytes comparison.differences)) }
 {
@@ -70,8 +70,8 @@ fn written_differences(
     requires ascii { IsKeptAscii image.now }
     requires other_ascii { IsKeptAscii other.now }
     ensures { IfOk result (λ text. (words : List Word) (meaning other_meaning : Meaning)
-        → IsKept (meaning_without words meaning) image.now
-        → IsKept (meaning_without words other_meaning) other.now
+        → IsKeptImage (meaning_without words meaning) image.now
+        → IsKeptImage (meaning_without words other_meaning) other.now
         → string_bytes text ≡ text_without (ignoring_model options.entry) same
         (lines_without words meaning other_meaning same)) }
 {
@@ -95,8 +95,8 @@ fn text_of_kept(
     requires ascii { IsKeptAscii image.now }
     requires other_ascii { IsKeptAscii other.now }
     ensures { IfOk result (λ text. (words : List Word) (meaning other_meaning : Meaning)
-        → IsKept (meaning_without words meaning) image.now
-        → IsKept (meaning_without words other_meaning) other.now
+        → IsKeptImage (meaning_without words meaning) image.now
+        → IsKeptImage (meaning_without words other_meaning) other.now
         → string_bytes text
         ≡ comparison_text format same (lines_without words meaning other_meaning same)) }
 {
@@ -120,8 +120,8 @@ fn lines_of_kept<'a>(
     other_kept: &'a KeptLines,
 ) -> Result<Vec<SignedLine<'a>>, AllocError>
     ensures { IfOk result (λ lines. (words : List Word) (meaning other_meaning : Meaning)
-        → IsKept (meaning_without words meaning) image.now
-        → IsKept (meaning_without words other_meaning) other.now
+        → IsKeptImage (meaning_without words meaning) image.now
+        → IsKeptImage (meaning_without words other_meaning) other.now
         → KeepsLines (reduced_lines (meaning_without words meaning)) kept.entry.now
         → KeepsLines (reduced_lines (meaning_without words other_meaning)) other_kept.entry.now
         → made_lines lines.items ≡ comparison_without words meaning other_meaning) }

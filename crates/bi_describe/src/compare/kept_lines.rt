@@ -26,7 +26,7 @@ pub(super) struct KeptLines {
 }
 
 impl KeptLines {
-    ghost use Rattle.bi_describe.specs.KeptImages.{IsKept, IsKeptAscii};
+    ghost use Rattle.bi_describe.specs.KeptImages.{IsKeptImage, IsKeptAscii};
     ghost use Rattle.bi_describe.specs.KeptLines.{KeepsLines};
     ghost use Rattle.bi_describe.specs.ReducedMeanings.{ReducedMeaning, reduced_lines};
 
@@ -55,7 +55,7 @@ impl KeptLines {
     /// Fails only if memory runs out.
     pub(super) fn of_kept(alloc: Global, image: &KeptImage) -> Result<KeptLines, AllocError>
         requires { IsKeptAscii image.now }
-        ensures { IfOk result (λ lines. (meaning : ReducedMeaning) → IsKept meaning image.now
+        ensures { IfOk result (λ lines. (meaning : ReducedMeaning) → IsKeptImage meaning image.now
             → KeepsLines (reduced_lines meaning) lines) }
     {
         let mut keeper = LineKeeper::new(alloc);

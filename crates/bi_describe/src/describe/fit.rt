@@ -38,7 +38,7 @@ pub(crate) struct DescribedFit<'a, 'b> {
 }
 
 impl<'a, 'b> DescribedFit<'a, 'b> {
-    ghost use Rattle.bi_describe.specs.DescribedImages.{HoldsTree};
+    ghost use Rattle.bi_describe.specs.DescribedImages.{HoldsDescribedTree};
 
     /// Returns what the description of a flattened image tree is made from. Requires: the tree was
     /// read.
@@ -52,7 +52,7 @@ impl<'a, 'b> DescribedFit<'a, 'b> {
     ) -> Result<DescribedFit<'a, 'b>, Error>
         requires held { IsHeld fit.now }
         ensures within { OnOk result (¬ (IsOverPayloadBound limits (OfFit (tree_of fit.now)))) }
-        ensures holds { IfOk result (HoldsTree (tree_of fit.entry.now)) }
+        ensures holds { IfOk result (HoldsDescribedTree (tree_of fit.entry.now)) }
         ensures lines { IfOk result (λ described.
             read_lines described.blob.now (map as_entry described.entries.items)
             ≡ fit_lines (tree_of fit.entry.now)) }

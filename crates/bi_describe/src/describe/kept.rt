@@ -9,7 +9,7 @@ ghost use Rattle.bi_common.specs.LineTokens.{tokens_of_lines};
 ghost use Rattle.bi_describe.specs.DescribedImages.{HoldsMeaning};
 ghost use Rattle.bi_describe.specs.Ignoring.{Ignored as Word};
 ghost use Rattle.bi_describe.specs.MadeWords.{ignored_words};
-ghost use Rattle.bi_describe.specs.KeptImages.{IsKept};
+ghost use Rattle.bi_describe.specs.KeptImages.{IsKeptImage};
 ghost use Rattle.bi_describe.specs.ReducedMeanings.{ReducedMeaning, meaning_without, reduced_lines};
 
 mod entries;
@@ -44,7 +44,7 @@ impl<'a, 'b> KeptImage<'a, 'b> {
         words: &[Ignored],
     ) -> Result<KeptImage<'a, 'b>, AllocError>
         ensures { IfOk result (λ image. (meaning : Meaning) → HoldsMeaning meaning described.now
-            → IsKept (meaning_without (ignored_words words.now) meaning) image) }
+            → IsKeptImage (meaning_without (ignored_words words.now) meaning) image) }
     {
         Ok(match described {
             DescribedImage::Legacy(image) => {
@@ -58,7 +58,7 @@ impl<'a, 'b> KeptImage<'a, 'b> {
     ///
     /// Fails only if memory runs out.
     pub(crate) fn put_lines<L: LinePen>(&self, alloc: Global, pen: &mut L) -> Result<(), AllocError>
-        ensures { OnOk result ((meaning : ReducedMeaning) → IsKept meaning self.now
+        ensures { OnOk result ((meaning : ReducedMeaning) → IsKeptImage meaning self.now
             → L.puts pen.old (tokens_of_lines (reduced_lines meaning)) pen.new) }
     {
         match self {
@@ -72,8 +72,8 @@ impl<'a, 'b> KeptImage<'a, 'b> {
 
     /// Returns whether what stays of two images is the same. Payloads are compared byte by byte.
     pub(crate) fn is_same(&self, other: &KeptImage<'_, '_>) -> bool
-        ensures { (meaning other_meaning : ReducedMeaning) → IsKept meaning self.now
-            → IsKept other_meaning other.now
+        ensures { (meaning other_meaning : ReducedMeaning) → IsKeptImage meaning self.now
+            → IsKeptImage other_meaning other.now
             → IsTrue result ↔ (meaning ≡ other_meaning) }
     {
         match (self, other) {

@@ -5,7 +5,7 @@ ghost use Rattle.std.specs.Prelude.{if◌then◌else◌};
 ghost use Rattle.std.specs.Option.{option_map};
 ghost use Rattle.bi_fit.specs.ImageTree.{ImageTree};
 ghost use Rattle.bi_common.specs.LineTokens.{tokens_of_lines};
-ghost use Rattle.bi_describe.specs.DescribedImages.{HoldsTree};
+ghost use Rattle.bi_describe.specs.DescribedImages.{HoldsDescribedTree};
 ghost use Rattle.bi_describe.specs.Ignoring.{is_node_ignored as is_node_out};
 ghost use Rattle.bi_describe.specs.KeptEntries.{kept_entries as kept_of};
 ghost use Rattle.bi_describe.specs.MadeWords.{ignored_words};
@@ -42,7 +42,7 @@ impl<'a, 'b> KeptFit<'a, 'b> {
         fit: &DescribedFit<'a, 'b>,
         words: &[Ignored],
     ) -> Result<KeptFit<'a, 'b>, AllocError>
-        ensures { IfOk result (λ made. (tree : ImageTree) → HoldsTree tree fit.now
+        ensures { IfOk result (λ made. (tree : ImageTree) → HoldsDescribedTree tree fit.now
             → IsKeptTree (reduced_tree (ignored_words words.now) tree) made) }
     {
         let entries = kept_root(alloc, &fit.entries, words)?;

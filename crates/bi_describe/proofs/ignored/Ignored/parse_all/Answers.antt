@@ -3,7 +3,7 @@ use Rattle.std.proofs.lemmas.List.{length-map}
 use Rattle.std.proofs.Math.Seq.{take-length}
 use Rattle.bi_common.specs.MadeFields.{bytes_of_names}
 use Rattle.bi_common.proofs.UnshownNames.{some_holds}
-use Rattle.bi_describe.specs.IgnoredWords.{AreWordsOfValue, IsBadValue, IsFirstBad}
+use Rattle.bi_describe.specs.IgnoredWords.{AreWordsOfValue, IsBadIgnoredValue, IsFirstBadIgnored}
 use Rattle.bi_describe.specs.MadeWords.{ignored_words}
 use Rattle.bi_describe.proofs.ValueWords.{first_bad_value, values_next}
 use Rattle.bi_describe.proofs.ignored.Ignored.parse_all.Goals as goal
@@ -22,7 +22,7 @@ loop-value-preserved c =
 pub returns-in_default-clause-failed : goal.returns-in_default-clause-failed
 returns-in_default-clause-failed c =
     let value = c.value-item.result in
-    subst (IsFirstBad (bytes_of_names c.args.values.now)) (sym c.loop-value.invariant.counted)
+    subst (IsFirstBadIgnored (bytes_of_names c.args.values.now)) (sym c.loop-value.invariant.counted)
     (first_bad_value c.args.values.now c.loop-value.value-index value (ignored_words c.loop-value.all.items) c.value-item.is
     c.loop-value-test.true c.loop-value.invariant.words
-    (subst (λ found. IfNone found (IsBadValue value.now)) c.in_default.is c.in_ok-words.ensures.none))
+    (subst (λ found. IfNone found (IsBadIgnoredValue value.now)) c.in_default.is c.in_ok-words.ensures.none))
