@@ -107,7 +107,8 @@ meanings_of limits one other image other_image opened other_opened = record {
 pub files_without : (options : IgnoringOptionsModel) (limits : Limits) (one other : List ℕ) (image other_image : BootImage)
     (same : Bool) (text : List ℕ) → IsReadBootImage limits one image → IsReadBootImage limits other other_image →
     CanBeDescribed Lines limits (meaning_of image) → CanBeDescribed Lines limits (meaning_of other_image) →
-    IsComparisonWithout options (meaning_of image) (meaning_of other_image) same text → AreComparedWithout options limits one other same text
+    IsComparisonWithout options (meaning_of image) (meaning_of other_image) same text →
+    AreComparedWithout options limits one other same text
 files_without options limits one other image other_image same text opened other_opened described other_described differs = record {
   are = meanings_of limits one other image other_image opened other_opened;
   described = described;

@@ -28,7 +28,7 @@ use Rattle.bi_describe.specs.ReducedMeanings.{reduced_lines, reduced_part_lines,
 use Rattle.bi_describe.proofs.ComparedTrees.{as_described, nodes_described}
 use Rattle.bi_describe.proofs.KeptImageFacts.{legacy_as_meanings, trees_as_meanings}
 use Rattle.bi_describe.proofs.KeptProperties.{same_kept}
-use Rattle.bi_describe.proofs.ReadableDescriptions.SameTrees.{tree_images}
+use Rattle.bi_describe.proofs.ReadableDescriptions.SameTrees.{images_of_image_tree}
 use Rattle.bi_describe.proofs.ReadableDescriptions.DescribedNodes.{HasImages, ImagesIn, InFirst, InLater, images_among, same_described}
 
 -- Without words all of a meaning stays.
@@ -114,10 +114,10 @@ same_trees one other is also cpus reservations roots =
     let described = sym (nodes_described one.root.children one.payloads) ∙ ap as_described nodes
     ∙ nodes_described other.root.children other.payloads in
     let children = (same_described ArePropertiesByName one.root.children other.root.children one.payloads other.payloads
-    (tree_images one is) (tree_images other also) described).0 in
+    (images_of_image_tree one is) (images_of_image_tree other also) described).0 in
     let payloads : one.payloads ≡ other.payloads =
-    sym (node_payloads one.root.children one.payloads (tree_images one is)) ∙ ap payloads_of nodes
-    ∙ node_payloads other.root.children other.payloads (tree_images other also) in
+    sym (node_payloads one.root.children one.payloads (images_of_image_tree one is)) ∙ ap payloads_of nodes
+    ∙ node_payloads other.root.children other.payloads (images_of_image_tree other also) in
     (λ i. record {
       cpu = cpus i;
       reservations = reservations i;

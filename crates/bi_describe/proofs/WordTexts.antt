@@ -23,7 +23,7 @@ use Rattle.bi_describe.specs.IgnoredWords.{HasPath, IsNodePlace, IsNoWordWithPat
 use Rattle.bi_describe.specs.IgnoredWords.{path_in, payload_path, place_path}
 use Rattle.bi_describe.specs.Ignoring.{Ignored, IgnoredTime, IgnoredSignatures, IgnoredNode, IgnoredProperty, IgnoredPart, NodePlace}
 use Rattle.bi_describe.specs.Ignoring.{OfImageNamed, OfPart, PayloadPlace, TreePlace, Itself, Inside}
-use Rattle.bi_describe.specs.WordParts.{IsNoPart, IsNoPayload, IsNoPlace, IsShownPart, IsPayloadWord, IsShownPlace, IsSplit, has_two_slashes}
+use Rattle.bi_describe.specs.WordParts.{IsNoPart, IsNoPayload, IsNoPlace, IsShownPart, IsPayloadPath, IsShownPlace, IsSplit, has_two_slashes}
 
 -- The texts of words with a path are read back from their parts.
 

@@ -16,7 +16,7 @@ abbrev pub IsNoPlace : (text : List ℕ) → Type 0
 IsNoPlace text = (place : NodePlace) → IsNodePlace place → place_path place ≢ text
 
 -- The text is the path of this payload.
-pub record IsPayloadWord (text : List ℕ) (payload : PayloadPlace) : Type 0 where
+pub record IsPayloadPath (text : List ℕ) (payload : PayloadPlace) : Type 0 where
   pub is_payload : IsPayloadPlace payload
   pub is : payload_path payload ≡ text
 
@@ -26,7 +26,7 @@ IsNoPayload text = (payload : PayloadPlace) → IsPayloadPlace payload → paylo
 
 -- The text is the path of the part with this index.
 abbrev pub IsShownPart : (text : List ℕ) → (index : ℕ) → Type 0
-IsShownPart text index = IsPayloadWord text (OfPart index)
+IsShownPart text index = IsPayloadPath text (OfPart index)
 
 -- It is the path of no part.
 abbrev pub IsNoPart : (text : List ℕ) → Type 0

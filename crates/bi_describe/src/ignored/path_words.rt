@@ -8,7 +8,7 @@ ghost use Rattle.bi_base.specs.declared.fault.Error.TheVariants.{OutOfMemory};
 ghost use Rattle.bi_describe.specs.IgnoredWords.{IsNoWordWithPath, IsWordWithPath};
 ghost use Rattle.bi_describe.specs.MadeWords.{ignored_word, node_place, place_of_payload};
 ghost use Rattle.bi_describe.specs.WordParts.{IsNoNumber, IsNoPart, IsNoPayload, IsNoPlace};
-ghost use Rattle.bi_describe.specs.WordParts.{IsShownNumber, IsShownPart, IsPayloadWord};
+ghost use Rattle.bi_describe.specs.WordParts.{IsShownNumber, IsShownPart, IsPayloadPath};
 ghost use Rattle.bi_describe.specs.WordParts.{IsShownPlace, IsSplit, has_two_slashes};
 
 use super::{Ignored, NodePlace, PayloadPlace, TreePlace};
@@ -135,7 +135,7 @@ fn inner_node(alloc: Global, payload: &[u8], path: &[u8]) -> Result<Option<NodeP
 /// payload. Fails if memory runs out.
 fn payload_shown_as(alloc: Global, text: &[u8]) -> Result<Option<PayloadPlace>, Error>
     ensures some { IfOk result (λ found. IfSome found (λ payload.
-        IsPayloadWord text.now (place_of_payload payload))) }
+        IsPayloadPath text.now (place_of_payload payload))) }
     ensures none { IfOk result (λ found. IfNone found (IsNoPayload text.now)) }
     ensures failed { IfErr result (λ error. error ≡ OutOfMemory) }
 {

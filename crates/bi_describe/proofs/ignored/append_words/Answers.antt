@@ -10,6 +10,6 @@ returns c =
     let gives = c.into_iter-word-iterator.ensures.into_iter_gives in
     let road = YieldsList-from_vec c.args.words.items gives.0
     (gives.1 ∙ sym c.as_slice.ensures.len ∙ ap length c.as_slice.ensures.value) in
-    let end = YieldsList-end road c.loop-word.yielded _ c.loop-word.yielded_by _ _ c.in-None.is c.next.ensures.steps in
+    let end = YieldsList-end road c.loop-word.yielded _ c.loop-word.yielded_by _ c.next.new.self c.in-None.is c.next.ensures.steps in
     c.loop-word.invariant
     ∙ ap (λ words. ignored_words c.args.all.now.items ++ ignored_words words) (sym (map-id c.loop-word.yielded) ∙ end.0)
