@@ -26,6 +26,13 @@ returns-else-number-len-clause-number c =
     let index : c.find_name-number.result ≡ index_named c.args.name.now names =
     c.find_name-number.ensures.index ∙ ap (λ l. index_named c.args.name.now (bytes_of l)) c.deref.ensures.value in
     let within : index_named c.args.name.now names < length names =
-    omega (arith, c.find_name-number.ensures.within, c.deref.ensures.len, c.len.ensures, c.if-number-len.false, index,
-    length-bytes c.args.names.now.items) in
+    omega (
+      arith,
+      c.find_name-number.ensures.within,
+      c.deref.ensures.len,
+      c.len.ensures,
+      c.if-number-len.false,
+      index,
+      length-bytes c.args.names.now.items,
+    ) in
     subst (IsNumberOf names c.args.name.now) (sym index) (found_number c.args.name.now names within)

@@ -1,0 +1,1 @@
+//! Laws of plain trees. The functions do nothing: what each one ensures is the law.
