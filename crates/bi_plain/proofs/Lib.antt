@@ -1,0 +1,9 @@
+pub mod Marks
+pub mod MarkedNames
+pub mod UsedNames
+pub mod AddedEntries
+pub mod ReadLists
+pub mod ChangedNodes
+pub mod OwnPayloads
+pub mod SortedEntries
+pub mod ReadProperties

@@ -85,6 +85,14 @@ pub record AreRanked (sorted : List (List ℕ)) (ranks : List ℕ) (properties :
 abbrev pub named_entries : List (List ℕ) → List (ℕ × Bor (List ℕ)) → List Property
 named_entries names entries = map (λ entry. (name_numbered names entry.0, entry.1.now)) entries
 
+-- Values after ranks, and those of properties after the ranks at the numbers of their names.
+abbrev pub ranked_values : List (ℕ × Bor (List ℕ)) → List (ℕ × List ℕ)
+ranked_values entries = map (λ entry. (entry.0, entry.1.now)) entries
+
+abbrev pub values_by_rank : (ranks : List ℕ) → List NumberedProperty → List (ℕ × List ℕ)
+values_by_rank ranks properties =
+    map (λ property. (slice_index_or ranks property.number 0, property.value)) properties
+
 -- So do those of each of these nodes.
 abbrev pub AreRankedNodes : List (List ℕ) → List ℕ → Nodes (List NumberedProperty) → Type 0
 AreRankedNodes sorted ranks nodes = EachOwn (AreRanked sorted ranks) nodes

@@ -14,7 +14,7 @@ ghost use Rattle.bi_lay.specs.Contents.{name_numbered, with_event};
 ghost use Rattle.bi_tree.specs.Properties.{tree_properties};
 ghost use Rattle.bi_tree.specs.TreeNodes.{below};
 ghost use Rattle.bi_plain.specs.Ranked.{AreRanked, AreRankedNodes, alone_named, named_entries};
-ghost use Rattle.bi_plain.specs.Ranked.{sorted_models, sorted_own};
+ghost use Rattle.bi_plain.specs.Ranked.{ranked_values, sorted_models, sorted_own, values_by_rank};
 
 use crate::memory::only_memory;
 use bi_lay::{Doc, Value};
@@ -77,9 +77,8 @@ fn ranked_entries<'b>(
     properties: &'b [TreeProperty<'_>],
     ranks: &[usize],
 ) -> Result<Vec<(usize, &'b [u8])>, AllocError>
-    ensures { IfOk result (λ entries. map (λ entry. (entry.0, entry.1.now)) entries.items
-        ≡ map (λ property. (slice_index_or ranks.now property.number 0, property.value))
-        (tree_properties properties.entry.now)) }
+    ensures { IfOk result (λ entries. ranked_values entries.items
+        ≡ values_by_rank ranks.now (tree_properties properties.entry.now)) }
 {
     let mut entries = Vec::with_capacity(alloc, properties.len())?;
     for property in properties {
