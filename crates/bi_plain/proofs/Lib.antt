@@ -7,3 +7,9 @@ pub mod ChangedNodes
 pub mod OwnPayloads
 pub mod SortedEntries
 pub mod ReadProperties
+pub mod NodeNumbers
+pub mod MarkedSteps
+pub mod PlainPayloads
+pub mod LongNames
+pub mod PlainDocuments
+pub mod PlainTrees

@@ -3,3 +3,4 @@ pub mod PlainNodes
 pub mod PlainText
 pub mod Ranked
 pub mod ReadNodes
+pub mod Laws

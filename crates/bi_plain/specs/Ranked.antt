@@ -9,6 +9,7 @@ use Rattle.std.specs.Ordering.{nat_cmp}
 use Rattle.std.specs.Borrow.{Bor}
 use Rattle.bi_base.specs.Slices.{bytes_of}
 use Rattle.bi_blob.specs.Tree.{Nodes, none, node, Root, Property, AreDistinct, EachOwn, with_each}
+use Rattle.bi_blob.specs.Events.{Event, NodeStart, NodeProperty}
 use Rattle.bi_fdt.specs.declared.ranks.NameRanks.{NameRanks}
 use Rattle.bi_fdt.specs.Numbers.{IsNumberOf}
 use Rattle.bi_fdt.specs.TableItems.{TableItem, NodeItem, PropertyItem}
@@ -26,6 +27,10 @@ alone_named name below = node name below.own below.children none
 -- Properties in byte order of their names.
 abbrev pub sorted_own : List NumberedProperty → List Property
 sorted_own properties = entries (by_name properties)
+
+-- The events with which a node begins: its start and its properties, in byte order.
+abbrev pub start_events : (name : List ℕ) → List NumberedProperty → List Event
+start_events name properties = NodeStart name ∷ map NodeProperty (sorted_own properties)
 
 -- Nodes with the properties of each in byte order of their names.
 abbrev pub sorted_models : Nodes (List NumberedProperty) → Nodes (List Property)

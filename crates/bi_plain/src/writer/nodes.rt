@@ -14,7 +14,8 @@ ghost use Rattle.bi_lay.specs.Contents.{name_numbered, with_event};
 ghost use Rattle.bi_tree.specs.Properties.{tree_properties};
 ghost use Rattle.bi_tree.specs.TreeNodes.{below};
 ghost use Rattle.bi_plain.specs.Ranked.{AreRanked, AreRankedNodes, alone_named, named_entries};
-ghost use Rattle.bi_plain.specs.Ranked.{ranked_values, sorted_models, sorted_own, values_by_rank};
+ghost use Rattle.bi_plain.specs.Ranked.{ranked_values, sorted_models, sorted_own, start_events};
+ghost use Rattle.bi_plain.specs.Ranked.{values_by_rank};
 
 use crate::memory::only_memory;
 use bi_lay::{Doc, Value};
@@ -41,13 +42,32 @@ where
     ensures added { OnOk result (doc.new ≡ with_events doc.old
         (events (sorted_models (alone_named name.entry.now (below node.entry.now))))) }
 {
-    only_memory(doc.begin(name))?;
-    add_properties(alloc, doc, &node.properties, ranks)?;
+    begin_node(alloc, doc, name, &node.properties, ranks)?;
     for child in &node.children {
         add_node(alloc, doc, child.name, child, ranks)?;
     }
     doc.end();
     Ok(())
+}
+
+/// Begins a node with this name and these properties, as a child of the innermost open node or as
+/// the root. Requires: the names of the document are in byte order, each once, and have these ranks;
+/// no two of the properties have the same name; and the node and they may come next in the document.
+fn begin_node<'b>(
+    alloc: Global,
+    doc: &mut Doc<'b>,
+    name: &'b [u8],
+    properties: &'b [TreeProperty<'_>],
+    ranks: &[usize],
+) -> Result<(), AllocError>
+    requires in_order { IsStrictlySortedBy (slice_cmp nat_cmp) doc.old.names }
+    requires ranked { AreRanked doc.old.names ranks.now (tree_properties properties.now) }
+    requires may { MayAdd doc.old (start_events name.now (tree_properties properties.now)) }
+    ensures added { OnOk result (doc.new ≡ with_events doc.old
+        (start_events name.entry.now (tree_properties properties.entry.now))) }
+{
+    only_memory(doc.begin(name))?;
+    add_properties(alloc, doc, properties, ranks)
 }
 
 /// Adds properties to the innermost open node, in byte order of their names. Requires: the names of
