@@ -1,5 +1,4 @@
 use Rattle.std.proofs.Common.{◌≡◌, ℕ, Bool, true, false, List, [], ◌∷◌, Option, Some, None, option_map, if◌then◌else◌, bytes_eq, refl, ap}
-use Rattle.std.specs.FinMap.{from_entries}
 use Rattle.bi_blob.specs.Tree.{Nodes, none, node, PropertyMap, with_each}
 use Rattle.bi_tree.specs.Changes.{named_node}
 use Rattle.bi_tree.specs.TreeNodes.{TreeNodeModel}
@@ -38,16 +37,3 @@ digests_given (Some payload) (node name own children later) =
 pub no_nodes_given : (digests : List (Option (List ℕ))) → with_each_digest digests none ≡ none
 no_nodes_given [] = refl
 no_nodes_given (digest ∷ digests) = refl
-
--- The image nodes are the children of the first node with their name.
-abbrev pub with_digests_below : Nodes PropertyMap → Nodes PropertyMap
-with_digests_below nodes = with_children_of images_name with_payload_digests nodes
-
-pub no_images_here : (top : TreeNodeModel) (later : Nodes PropertyMap) → bytes_eq top.name images_name ≡ false →
-    before top (with_digests_below later) ≡ with_digests_below (before top later)
-no_images_here top later other = rw other refl
-
-pub images_here : (top : TreeNodeModel) (later : Nodes PropertyMap) → bytes_eq top.name images_name ≡ true →
-    node top.name (from_entries top.own) (with_payload_digests (with_each from_entries top.children)) later
-    ≡ with_digests_below (before top later)
-images_here top later same = rw same refl

@@ -1,4 +1,4 @@
-use Rattle.std.proofs.Common.{◌≡◌, ℕ, List, [], ◌∷◌, map, Bor, rules}
+use Rattle.std.proofs.Common.{◌≡◌, ℕ, List, ◌∷◌, map, Bor, rules}
 use Rattle.bi_blob.specs.Events.{NodeProperty}
 use Rattle.bi_blob.specs.Following.{stage_of_events, MayHaveNextProperty}
 use Rattle.bi_lay.specs.Contents.{Doc, with_event, name_numbered}

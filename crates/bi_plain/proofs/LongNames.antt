@@ -1,5 +1,5 @@
-use Rattle.std.proofs.Common.{◌≡◌, ◌⊎◌, ℕ, ◌+◌, ◌<◌, ◌≤◌, Bool, true, false, not, nat_le, inl, inr, List, [], ◌∷◌, ◌++◌, length, map, rules}
-use Rattle.std.proofs.Common.{Contains, filter, flat_map, bytes_eq, nat_cmp, refl, sym, ap, subst, ◌∙◌, arith}
+use Rattle.std.proofs.Common.{◌≡◌, ◌⊎◌, ℕ, ◌+◌, ◌<◌, ◌≤◌, Bool, true, false, not, inl, inr, List, [], ◌∷◌, ◌++◌, length, map, rules}
+use Rattle.std.proofs.Common.{Contains, filter, bytes_eq, nat_cmp, refl, sym, ap, subst, ◌∙◌, arith}
 use Rattle.std.specs.Cmp.Lexicographic.{slice_cmp}
 use Rattle.std.specs.FinMap.{entries, from_entries, get, get-entries, get-from_entries}
 use Rattle.std.specs.FinMap.Entries.{is_some-find}
@@ -15,11 +15,11 @@ use Rattle.std.proofs.lemmas.Map.Text.{is_eq-slice_cmp}
 use Rattle.std.proofs.lemmas.Map.Views.{list_any-from_Contains, Contains-from_any}
 use Rattle.std.proofs.lemmas.Slice.Eq.{bytes_eq-Decides}
 use Rattle.bi_base.proofs.AlignmentLaws.{up_to-le}
-use Rattle.bi_base.proofs.ListMembers.{Contains-none, Contains-others, Contains-filter, each-weaker}
+use Rattle.bi_base.proofs.ListMembers.{Contains-none, Contains-filter, each-weaker}
 use Rattle.bi_blob.specs.Tree.{Nodes, none, node, IsNew, AreDistinct, Property, PropertyMap}
 use Rattle.bi_blob.specs.Blob.{Reservation, reservation_block}
-use Rattle.bi_blob.specs.Events.{Event, NodeStart, NodeProperty, NodeEnd, events}
-use Rattle.bi_blob.specs.Layout.{distinct_names, event_names, length_before_padding, strings_block, structure_block, text_of_events, used_names}
+use Rattle.bi_blob.specs.Events.{NodeProperty, events}
+use Rattle.bi_blob.specs.Layout.{distinct_names, length_before_padding, strings_block, structure_block, text_of_events, used_names}
 use Rattle.bi_blob.proofs.Texts.EventLengths.{text_of_events_has_length}
 use Rattle.bi_blob.proofs.Texts.NamesOnce.{distinct_names-all}
 use Rattle.bi_fit.specs.LongNames.{name_if_long}

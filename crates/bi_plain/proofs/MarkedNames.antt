@@ -1,11 +1,9 @@
-use Rattle.std.proofs.Common.{◌≡◌, ◌≢◌, ℕ, zero, suc, ◌+◌, ◌<◌, Bool, true, false, List, [], ◌∷◌, ◌++◌, Some, get_or, length, slice_get}
-use Rattle.std.proofs.Common.{refl, sym, ap, subst, ◌∙◌, arith, true≢false, append_assoc, length-append}
+use Rattle.std.proofs.Common.{◌≡◌, ℕ, zero, suc, ◌+◌, Bool, true, false, List, [], ◌∷◌, ◌++◌, Some, get_or, length, slice_get}
+use Rattle.std.proofs.Common.{refl, sym, subst, ◌∙◌, true≢false, append_assoc, length-append}
 use Rattle.std.specs.Prelude.{slice_index_or}
-use Rattle.std.specs.List.{AllByRecursion, AllZip}
-use Rattle.std.proofs.lemmas.Option.{get_or_from_slice_get}
+use Rattle.std.specs.List.{AllByRecursion}
 use Rattle.bi_blob.specs.Tree.{AreDistinct, IsNew}
-use Rattle.bi_fdt.specs.Numbers.{AreNumbered, IsNumbered, IsNumberOf}
-use Rattle.bi_fdt.specs.TableItems.{TableItem, NodeItem, PropertyItem}
+use Rattle.bi_fdt.specs.Numbers.{AreNumbered, IsNumberOf}
 use Rattle.bi_plain.specs.Ranked.{marked_names, marked_numbers, marked_table}
 
 -- The names that have marks, and their numbers.

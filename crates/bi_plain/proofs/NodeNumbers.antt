@@ -1,4 +1,4 @@
-use Rattle.std.proofs.Common.{◌≡◌, ℕ, zero, suc, ◌+◌, ◌<◌, List, [], ◌∷◌, ◌++◌, length, get_or, refl, sym, ap, subst, ◌∙◌, arith, append_assoc, append-nil}
+use Rattle.std.proofs.Common.{◌≡◌, ℕ, zero, suc, ◌<◌, List, [], ◌∷◌, ◌++◌, length, get_or, sym, ap, subst, ◌∙◌, arith, append_assoc, append-nil}
 use Rattle.bi_blob.specs.Tree.{Nodes, as_nodes, node_count}
 use Rattle.bi_tree.specs.Properties.{NumberedProperty}
 use Rattle.bi_tree.specs.TreeNodes.{TreeNodeModel, below, nodes_of_models}

@@ -1,6 +1,6 @@
 use Rattle.std.proofs.Common.{◌≡◌, ℕ, ◌≤◌, List, [], refl, sym, ap, ap₂, subst, ◌∙◌}
 use Rattle.std.specs.FinMap.{entries}
-use Rattle.bi_blob.specs.Tree.{Nodes, none, node, Root, PropertyMap, as_nodes, depth_of, with_each}
+use Rattle.bi_blob.specs.Tree.{Nodes, none, node, Root, PropertyMap, as_nodes, with_each}
 use Rattle.bi_blob.specs.Blob.{Reservation}
 use Rattle.bi_blob.specs.Events.{events, events_of}
 use Rattle.bi_blob.specs.Following.{AreClosedEvents, MayFollowInText, most_open_nodes, stage_of_events}

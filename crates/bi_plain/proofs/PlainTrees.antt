@@ -1,24 +1,23 @@
-use Rattle.std.proofs.Common.{◌≡◌, ◌≢◌, ℕ, ◌≤◌, ◌+◌, max, Bool, true, false, cond, not, List, [], ◌∷◌, map, length, Option, Some, None, bytes_eq}
+use Rattle.std.proofs.Common.{◌≡◌, ℕ, ◌≤◌, ◌+◌, max, Bool, true, false, cond, not, List, [], ◌∷◌, map, length, Option, Some, None, bytes_eq}
 use Rattle.std.proofs.Common.{refl, sym, ap, ap₂, subst, ◌∙◌, append-nil, true≢false}
 use Rattle.std.specs.Prelude.{IfSome}
 use Rattle.std.specs.FinMap.{get, insert}
 use Rattle.std.specs.List.{AllByRecursion, AllZip}
-use Rattle.std.specs.Option.{is_some}
 use Rattle.std.proofs.lemmas.Slice.Eq.{bytes_eq-Decides}
 use Rattle.bi_base.specs.Cells.{AreBytes, up_to}
 use Rattle.bi_blob.specs.Tree.{Nodes, none, node, Root, PropertyMap, AreNodes, IsNew, depth, depth_of}
 use Rattle.bi_blob.specs.Following.{most_open_nodes}
 use Rattle.bi_fit.specs.Laws.{IsAcceptedAs}
 use Rattle.bi_fit.specs.declared.form.Form.TheVariants.{Embedded}
-use Rattle.bi_fit.specs.ImageTree.{ImageTree, IsImageTree, IsApart, ArePropertiesByName, children_of, each_own, image_nodes, nodes_or_none}
-use Rattle.bi_fit.specs.ImageTree.{with_children_of, with_image_nodes, without_payload, without_payloads, tree_without_payloads}
+use Rattle.bi_fit.specs.ImageTree.{ImageTree, IsImageTree, IsApart, ArePropertiesByName, each_own, image_nodes, nodes_or_none}
+use Rattle.bi_fit.specs.ImageTree.{with_image_nodes, without_payload, without_payloads, tree_without_payloads}
 use Rattle.bi_fit.specs.Names.{data_name, images_name, is_payload_name}
 use Rattle.bi_fit.specs.Text.{blob_of, end_after, fit_text, with_payload, with_payloads}
-use Rattle.bi_fit.proofs.PayloadProperties.{get-put, get-put_other, get-with_payload, get-without, same, taken_out, without-with_payload}
+use Rattle.bi_fit.proofs.PayloadProperties.{get-put, get-put_other, get-without, same, taken_out, without-with_payload}
 use Rattle.bi_fit.proofs.TextLaws.{fit_text_is_accepted}
 use Rattle.bi_fit.proofs.TreeContents.{content-in_byte_order, nodes-without_payloads, properties-with_payload}
 use Rattle.bi_fit.proofs.TreeShapes.{AreNodes-children_of, AreNodes-with_children_of, bytes-with_children_of, bytes-with_payloads}
-use Rattle.bi_fit.proofs.TreeShapes.{bytes-without_payloads, depth-with_children_of, depth-with_payloads, depth-without_payloads, names-with_payloads}
+use Rattle.bi_fit.proofs.TreeShapes.{bytes-without_payloads, depth-with_children_of, depth-with_payloads, names-with_payloads}
 use Rattle.bi_fit.proofs.Trees.{children_of-with_children_of, with_children_of-back}
 use Rattle.bi_plain.specs.Laws.{EachImageTreeHasPlainTree, EachPlainTreeIsOfImageTree, PlainTreesReturn}
 use Rattle.bi_plain.specs.Plain.{HasOnlyData, IsPlainTree, plain_payloads, plain_root, with_plain_root}

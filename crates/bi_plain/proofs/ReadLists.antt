@@ -1,11 +1,11 @@
-use Rattle.std.proofs.Common.{◌≡◌, ℕ, List, [], ◌∷◌, ◌++◌, Option, Some, None, IfSome, refl, sym, ap, ◌∙◌}
+use Rattle.std.proofs.Common.{◌≡◌, ℕ, List, [], ◌∷◌, ◌++◌, Option, IfSome, refl, sym, ap, ◌∙◌}
 use Rattle.bi_blob.specs.Tree.{Nodes, none, node, FileNode, EachOwn, PropertyMap, with_each}
 use Rattle.bi_fdt.specs.declared.node.NodeRef.{NodeRef}
 use Rattle.bi_fdt.specs.TableItems.{TableItem}
 use Rattle.bi_fdt.specs.Views.{table_of_node}
 use Rattle.bi_blob.specs.Lookups.{Sibling}
-use Rattle.bi_fit.specs.NormalNodes.{nodes_by_name, properties_by_name}
-use Rattle.bi_tree.specs.TreeNodes.{TreeNodeModel, nodes_of_models}
+use Rattle.bi_fit.specs.NormalNodes.{nodes_by_name}
+use Rattle.bi_tree.specs.TreeNodes.{TreeNodeModel}
 use Rattle.bi_tree.specs.Trees.{AreNumberedAmong, by_name}
 use Rattle.bi_plain.specs.PlainNodes.{AreNumberedNodes, models_by_name}
 use Rattle.bi_plain.specs.ReadNodes.{AreReadNodes, IsReadNode}

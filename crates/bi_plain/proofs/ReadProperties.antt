@@ -1,20 +1,19 @@
-use Rattle.std.proofs.Common.{◌≡◌, true≢false, false, Some, ℕ, List, [], ◌∷◌, map, Option, cond, IsPermutation, refl, sym, ap, subst, ◌∙◌, nat_cmp}
+use Rattle.std.proofs.Common.{◌≡◌, true≢false, false, Some, ℕ, List, [], ◌∷◌, map, cond, IsPermutation, refl, sym, ap, subst, ◌∙◌, nat_cmp}
 use Rattle.std.specs.Cmp.Lexicographic.{slice_cmp}
-use Rattle.std.specs.FinMap.{find, get, from_entries, get-from_entries}
+use Rattle.std.specs.FinMap.{find, get-from_entries}
 use Rattle.std.specs.List.{AllByRecursion, IsDistinct}
 use Rattle.std.specs.Map.{lookup}
 use Rattle.std.proofs.lemmas.Cmp.{eq_by_cmp_equiv, nat_list_cmp_total}
 use Rattle.std.proofs.lemmas.List.Sorted.{IsPermutation-map}
 use Rattle.std.proofs.lemmas.Map.Keys.{IsDistinct-IsPermutation, IsDistinct-head, IsDistinct-tail}
-use Rattle.bi_blob.specs.Tree.{AreDistinct, FileNode, FileProperty, IsNew, Property, properties_of, property_of}
+use Rattle.bi_blob.specs.Tree.{AreDistinct, FileNode, IsNew, Property, property_of}
 use Rattle.bi_fdt.specs.Numbers.{HasNumber, IsNumberOf}
 use Rattle.bi_fdt.specs.Order.{AreByNumber, KeyedProperty}
 use Rattle.bi_fdt.proofs.ByName.{found_by_name}
 use Rattle.bi_fdt.proofs.DistinctKeys.{names_stay_distinct, one_name_each}
-use Rattle.bi_fit.specs.NormalNodes.{HasDistinctNames, properties_by_name}
+use Rattle.bi_fit.specs.NormalNodes.{HasDistinctNames}
 use Rattle.bi_fit.proofs.PayloadProperties.{same as same_by_name}
 use Rattle.bi_tree.specs.Properties.{property_names, without_numbers}
-use Rattle.bi_tree.specs.Trees.{AreNumberedAmong, by_name}
 use Rattle.bi_plain.specs.ReadNodes.{AreReadProperties, numbered_properties}
 
 -- The properties of a node in the order of the numbers of their names are its properties.

@@ -1,9 +1,9 @@
-use Rattle.std.proofs.Common.{◌≡◌, ℕ, zero, suc, ◌<◌, ◌≤◌, List, [], ◌∷◌, map, Bor, Some, slice_get, IsPermutation, get_or, length}
+use Rattle.std.proofs.Common.{◌≡◌, ℕ, ◌<◌, List, [], ◌∷◌, map, Bor, IsPermutation, length}
 use Rattle.std.proofs.Common.{refl, sym, ap, ap₂, subst, ◌∙◌, nat_cmp, arith}
 use Rattle.std.specs.Prelude.{nat_eq, slice_index_or}
 use Rattle.std.specs.Cmp.{nat_eq_equiv}
 use Rattle.std.specs.Cmp.Lexicographic.{slice_cmp}
-use Rattle.std.specs.List.{AllByRecursion, AllZip, IsDistinct}
+use Rattle.std.specs.List.{AllByRecursion, AllZip}
 use Rattle.std.specs.List.Sorted.{IsNonDecreasing, IsNonDecreasingBy, IsStrictlySortedBy}
 use Rattle.std.specs.Map.{keys_of}
 use Rattle.std.proofs.lemmas.List.{get_or-map, length-map}
@@ -13,7 +13,7 @@ use Rattle.std.proofs.lemmas.Map.Keys.{sorted_from_strictly_increasing, IsDistin
 use Rattle.std.proofs.lemmas.Option.{get_or_from_slice_get, slice_get-get_or, slice_get_within}
 use Rattle.bi_blob.specs.Tree.{AreDistinct, FileProperty, Property, property_of}
 use Rattle.bi_fdt.specs.Numbers.{HasNumber, IsNumberOf}
-use Rattle.bi_fdt.specs.Order.{AreByNumber, KeyedProperty, sorted_properties}
+use Rattle.bi_fdt.specs.Order.{KeyedProperty, sorted_properties}
 use Rattle.bi_fdt.proofs.ByName.{by_rank_by_name}
 use Rattle.bi_fdt.proofs.DistinctNumbers.{distinct_numbers}
 use Rattle.bi_lay.specs.Contents.{name_numbered}

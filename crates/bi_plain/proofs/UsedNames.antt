@@ -1,9 +1,6 @@
 use Rattle.std.proofs.Common.{◌≡◌, ◌⊎◌, ℕ, ◌<◌, Bool, true, false, List, [], ◌∷◌, ◌++◌, replicate, get_or, length, Contains, inl, inr, flat_map}
-use Rattle.std.proofs.Common.{refl, sym, ap, subst, ◌∙◌}
-use Rattle.std.specs.Cmp.Lexicographic.{slice_cmp}
+use Rattle.std.proofs.Common.{sym, subst, ◌∙◌}
 use Rattle.std.specs.List.{AllByRecursion}
-use Rattle.std.specs.List.Sorted.{IsStrictlySortedBy}
-use Rattle.std.specs.Ordering.{nat_cmp}
 use Rattle.std.proofs.lemmas.List.Elements.{Contains-append_left, Contains-append_right, Contains-append_cases}
 use Rattle.std.proofs.lemmas.Option.{slice_get_within, same_Some}
 use Rattle.bi_base.proofs.ListMembers.{Contains-none, Contains-cases, Contains-first, Contains-others, each-append, each-contains, each-weaker}
@@ -14,7 +11,7 @@ use Rattle.bi_tree.specs.Properties.{NumberedProperty, property_names}
 use Rattle.bi_tree.specs.Trees.{AreNumberedAmong}
 use Rattle.bi_fit.specs.LongNames.{name_if_long}
 use Rattle.bi_plain.specs.Ranked.{all_names, all_numbers, own_numbers, with_marks, marked_names, marked_table}
-use Rattle.bi_plain.specs.Ranked.{AreRanked, AreRankedNodes, HaveLongNames}
+use Rattle.bi_plain.specs.Ranked.{AreRankedNodes, HaveLongNames}
 use Rattle.bi_plain.proofs.Marks.{marked, marked_only}
 use Rattle.bi_plain.proofs.MarkedNames.{HasMark, each_has_mark, rank_there, marked_are_distinct}
 
@@ -134,8 +131,8 @@ module _ (names : List (List ℕ)) where
     pub long_names_used : AreDistinct names → (limit : ℕ) →
         limit < length (flat_map name_if_long (marked_names names used_marks)) → HaveLongNames limit nodes
     long_names_used distinct limit longer = (
-          marked_names names used_marks,
-          marked_are_distinct names used_marks distinct,
-          each_used (marked_names names used_marks) (each_has_mark names used_marks),
-          longer,
-        )
+      marked_names names used_marks,
+      marked_are_distinct names used_marks distinct,
+      each_used (marked_names names used_marks) (each_has_mark names used_marks),
+      longer,
+    )

@@ -4,7 +4,7 @@ use Rattle.bi_blob.specs.Lookups.{Sibling}
 use Rattle.bi_fdt.specs.Order.{KeyedProperty}
 use Rattle.bi_fit.specs.NormalNodes.{nodes_by_name, properties_by_name}
 use Rattle.bi_tree.specs.Properties.{NumberedProperty}
-use Rattle.bi_tree.specs.TreeNodes.{TreeNodeModel, nodes_of_models}
+use Rattle.bi_tree.specs.TreeNodes.{TreeNodeModel}
 use Rattle.bi_tree.specs.Trees.{AreNumberedAmong, by_name}
 use Rattle.bi_plain.specs.PlainNodes.{AreNumberedNodes, models_by_name}
 

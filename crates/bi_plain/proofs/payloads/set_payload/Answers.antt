@@ -1,4 +1,4 @@
-use Rattle.std.proofs.Common.{◌≡◌, ℕ, List, [], Some, None, Option, Bor, take, option_map, sym, ap, subst, ◌∙◌}
+use Rattle.std.proofs.Common.{◌≡◌, ℕ, List, [], None, Option, Bor, take, option_map, sym, ap, subst, ◌∙◌}
 use Rattle.bi_blob.specs.Tree.{Root, with_each}
 use Rattle.bi_fit.specs.Names.{data_name}
 use Rattle.bi_tree.specs.Properties.{NumberedProperty, tree_properties}

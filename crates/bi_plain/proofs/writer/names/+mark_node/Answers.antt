@@ -1,4 +1,4 @@
-use Rattle.std.proofs.Common.{◌≡◌, ◌+◌, ◌<◌, ◌≤◌, [], ◌∷◌, ◌++◌, drop, length, refl, sym, ap, subst, ◌∙◌, append-nil, arith}
+use Rattle.std.proofs.Common.{◌≡◌, ◌+◌, ◌<◌, [], ◌∷◌, ◌++◌, drop, length, refl, sym, ap, subst, ◌∙◌, append-nil, arith}
 use Rattle.std.proofs.lemmas.List.{at_drop_all, at_drop_more}
 use Rattle.std.specs.List.{AllByRecursion}
 use Rattle.bi_base.proofs.ListMembers.{each-back, each-front}
@@ -6,7 +6,7 @@ use Rattle.bi_blob.specs.Tree.{as_nodes, node_count}
 use Rattle.bi_tree.specs.Properties.{tree_properties}
 use Rattle.bi_tree.specs.TreeNodes.{below, nodes_of_models}
 use Rattle.bi_plain.specs.Ranked.{all_numbers, own_numbers, with_marks}
-use Rattle.bi_plain.proofs.Marks.{length-with_marks, with_marks-append}
+use Rattle.bi_plain.proofs.Marks.{with_marks-append}
 use Rattle.bi_plain.proofs.NodeNumbers.{fewer_nodes, first_numbers}
 use Rattle.bi_plain.proofs.writer.names.+mark_node.Goals as goal
 

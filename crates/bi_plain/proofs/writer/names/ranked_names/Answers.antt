@@ -31,8 +31,7 @@ returns-in_err-check_long_names-clause-failed c =
     ap bytes_of c.deref.ensures.value ∙ c.in_ok-used.ensures.names
     ∙ ap (λ n. marked_names names (with_marks (all_numbers nodes) (replicate n false))) (sym (length-bytes c.args.names.now)) in
     refused_by c.from_residual-in_err-check_long_names.result c.in_err-check_long_names.field-0.0 late
-    c.from_residual-in_err-check_long_names.ensures.1
-    (
+    c.from_residual-in_err-check_long_names.ensures.1 (
       c.in_err-check_long_names.ensures.fault.0,
       long_names_used names nodes c.requires.numbered c.requires.distinct c.args.limit
           (subst (λ l. c.args.limit < length (flat_map name_if_long l)) kept c.in_err-check_long_names.ensures.fault.1),

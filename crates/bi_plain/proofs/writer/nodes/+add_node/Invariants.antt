@@ -1,4 +1,4 @@
-use Rattle.std.proofs.Common.{◌≡◌, ◌<◌, length, drop}
+use Rattle.std.proofs.Common.{◌≡◌, drop}
 use Rattle.bi_blob.specs.Tree.{node_count}
 use Rattle.bi_blob.specs.Events.{events}
 use Rattle.bi_fit.specs.NormalNodes.{with_events}
