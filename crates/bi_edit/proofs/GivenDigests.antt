@@ -9,7 +9,6 @@ use Rattle.bi_fit.specs.Names.{images_name, is_hash_name}
 use Rattle.bi_fit.specs.Updating.{known_algorithm, with_digest_by, with_digests_of}
 use Rattle.bi_edit.specs.Edits.{with_payload_digests}
 use Rattle.bi_edit.specs.PayloadDigests.{payload_digests, with_digest_if, with_each_digest}
-use Rattle.bi_edit.proofs.ChangedNodes.{before}
 
 -- The digests of a payload are given to the children of an image node.
 
