@@ -25,18 +25,18 @@ use Rattle.bi_edit.specs.Edits.{IsTooDeep, edited_root, edits_of_turn, in_edit_o
 use Rattle.bi_edit.specs.Places.{IsPropertyNameOfBytes, PropertyPlaceModel, image_path, is_image_path}
 use Rattle.bi_edit.proofs.KeptDepths.{bound_at, bound_with, bound_without_at}
 use Rattle.bi_edit.proofs.KeptDigests.{bytes_with_payload_digests, depth_with_payload_digests, nodes_with_payload_digests, own_with_payload_digests}
-use Rattle.bi_edit.proofs.KeptImages.{HasImages, KeepsData, images_at, images_with, images_without_at, only-put, only-put_data, only-remove}
-use Rattle.bi_edit.proofs.KeptNodes.{IsGood, Keeps, kept_at, kept_with, kept_without, properties-remove}
+use Rattle.bi_edit.proofs.KeptImages.{HasPlainImages, KeepsData, plain_images_at, plain_images_with, images_without_at, only-put, only-put_data, only-remove}
+use Rattle.bi_edit.proofs.KeptNodes.{IsGood, KeepsGood, good_at_path, good_with_path, good_without_path, properties-remove}
 
 -- Edits of a plain tree make a plain tree.
 
 good_tree : (root : Root PropertyMap) → IsPlainTree root → IsGood root
 good_tree root is = record { own = is.is_tree.is_own; nodes = is.is_tree.children; bytes = is.name_bytes }
 
-tree_images : (root : Root PropertyMap) → IsPlainTree root → HasImages root.children
+tree_images : (root : Root PropertyMap) → IsPlainTree root → HasPlainImages root.children
 tree_images root is = record { images = is.images; found = is.has_images; only = is.embedded }
 
-plain_tree : (root : Root PropertyMap) → IsGood root → HasImages root.children → IsPlainTree root
+plain_tree : (root : Root PropertyMap) → IsGood root → HasPlainImages root.children → IsPlainTree root
 plain_tree root good has = record {
   is_tree = record { is_own = good.own; children = good.nodes };
   name_bytes = good.bytes;
@@ -47,11 +47,11 @@ plain_tree root good has = record {
 
 -- ---- changes of one node
 
-put_good : (name value : List ℕ) → IsProperty name value → Keeps (with_own_value name value)
+put_good : (name value : List ℕ) → IsProperty name value → KeepsGood (with_own_value name value)
 put_good name value is root good =
     record { own = properties-put root.own name value good.own is; nodes = good.nodes; bytes = good.bytes }
 
-remove_good : (name : List ℕ) → Keeps (without_own_value name)
+remove_good : (name : List ℕ) → KeepsGood (without_own_value name)
 remove_good name root good = record { own = properties-remove root.own name good.own; nodes = good.nodes; bytes = good.bytes }
 
 -- A path that is that of an image node, and a name that is none of the four.
@@ -69,26 +69,26 @@ property_of_name name value is bytes = record { is_name = is.is_name; name_bytes
 -- It keeps the tree plain.
 edit_keeps : (root : Root PropertyMap) (edit : Edit) → IsPlainTree root → IsEditOfBytes edit → IsPlainTree (edited_root root edit)
 edit_keeps root (RemoveNode path) is of =
-    plain_tree _ (kept_without path root (good_tree root is)) (images_without_at path of.not_images root (tree_images root is))
+    plain_tree _ (good_without_path path root (good_tree root is)) (images_without_at path of.not_images root (tree_images root is))
 edit_keeps root (RemoveProperty place) is of =
-    plain_tree _ (kept_at place.path (without_own_value place.name) (remove_good place.name) root (good_tree root is))
-    (images_at place.path (without_own_value place.name) (λ below. refl)
+    plain_tree _ (good_at_path place.path (without_own_value place.name) (remove_good place.name) root (good_tree root is))
+    (plain_images_at place.path (without_own_value place.name) (λ below. refl)
     (λ name image is_path is_images below only. only-remove below.own place.name only) root (tree_images root is))
 edit_keeps root (SetProperty place value) is (of, bytes) =
     plain_tree _
-    (kept_at place.path (with_own_value place.name value.items)
+    (good_at_path place.path (with_own_value place.name value.items)
     (put_good place.name value.items (property_of_name place.name value.items of.is_name bytes))
-    (with_node_at empty place.path root) (kept_with place.path of.is_path.are_names root (good_tree root is)))
-    (images_at place.path (with_own_value place.name value.items) (λ below. refl)
+    (with_node_at empty place.path root) (good_with_path place.path of.is_path.are_names root (good_tree root is)))
+    (plain_images_at place.path (with_own_value place.name value.items) (λ below. refl)
     (λ name image is_path is_images below only. only-put below.own place.name value.items
     (no_payload_name place.path place.name of.no_payload name image is_path is_images) only)
-    (with_node_at empty place.path root) (images_with place.path root (tree_images root is)))
+    (with_node_at empty place.path root) (plain_images_with place.path root (tree_images root is)))
 edit_keeps root (SetField value) is of = is
 edit_keeps root (SetPayload image payload) is (of, bytes) =
     plain_tree _
-    (kept_at (image_path image) (with_own_value data_name payload.now)
+    (good_at_path (image_path image) (with_own_value data_name payload.now)
     (put_good data_name payload.now (tested_property _ _ payload.now refl bytes)) root (good_tree root is))
-    (images_at (image_path image) (with_own_value data_name payload.now) (λ below. refl)
+    (plain_images_at (image_path image) (with_own_value data_name payload.now) (λ below. refl)
     (λ name image is_path is_images below only. only-put_data below.own payload.now only) root (tree_images root is))
 edit_keeps root (SetTime time) is of =
     plain_tree _ (put_good timestamp_name (cell time) (tested_property _ _ (cell time) refl (AreBytes-cell time)) root (good_tree root is))

@@ -8,13 +8,10 @@ use Rattle.bi_fit.specs.ImageTree.{ArePropertiesByName, HaveByteNames, each_own}
 use Rattle.bi_fit.specs.Names.{data_name, is_hash_name, value_name}
 use Rattle.bi_fit.specs.Updating.{known_algorithm, with_digest, with_digest_by, with_digests, with_digests_of}
 use Rattle.bi_fit.proofs.TreeContents.{properties-put, tested_property}
+use Rattle.bi_fit.proofs.UpdatedTrees.{names-with_digests}
 use Rattle.bi_edit.specs.Edits.{with_payload_digests}
 
 -- Digests in hash nodes change no name, no depth and no property of an image node.
-
-names_with_digests : (payload : List ℕ) (nodes : Nodes PropertyMap) → names (with_digests payload nodes) ≡ names nodes
-names_with_digests payload none = refl
-names_with_digests payload (node name own children later) = ap (λ l. name ∷ l) (names_with_digests payload later)
 
 properties-with_digest_by : (algo : Option Algo) (payload : List ℕ) (own : PropertyMap) → ArePropertiesByName own →
     ArePropertiesByName (with_digest_by algo payload own)
@@ -38,7 +35,7 @@ nodes_with_digests payload (node name own children later) are = (
   record {
     is_name = are.0.is_name;
     is_own = properties-with_digest payload name own are.0.is_own;
-    is_new = subst (IsNew name) (sym (names_with_digests payload later)) are.0.is_new;
+    is_new = subst (IsNew name) (sym (names-with_digests payload later)) are.0.is_new;
   },
   are.1,
   nodes_with_digests payload later are.2,

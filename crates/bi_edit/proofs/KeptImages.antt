@@ -21,7 +21,7 @@ abbrev pub HaveOnlyData : Nodes PropertyMap → Type 0
 HaveOnlyData nodes = AllByRecursion HasOnlyData (each_own nodes)
 
 -- There are image nodes, and they have at most `data`.
-pub record HasImages (nodes : Nodes PropertyMap) : Type 0 where
+pub record HasPlainImages (nodes : Nodes PropertyMap) : Type 0 where
   pub images : Nodes PropertyMap
   pub found : children_of images_name nodes ≡ Some images
   pub only : HaveOnlyData images
@@ -30,7 +30,7 @@ pub record HasImages (nodes : Nodes PropertyMap) : Type 0 where
 
 images_with_node : (name : List ℕ) (change : Root PropertyMap → Root PropertyMap) →
     (name ≡ images_name → (root : Root PropertyMap) → HaveOnlyData root.children → HaveOnlyData (change root).children) →
-    (nodes : Nodes PropertyMap) → HasImages nodes → HasImages (with_node name change nodes)
+    (nodes : Nodes PropertyMap) → HasPlainImages nodes → HasPlainImages (with_node name change nodes)
 images_with_node name change keeps none has = absurd (nothing has.found) where
   nothing : children_of images_name none ≡ Some has.images → ⊥
   nothing is = cc
@@ -40,8 +40,8 @@ images_with_node name change keeps (node other own children later) has =
   where
     by_images : (b : Bool) → bytes_eq other images_name ≡ b → (c : Bool) → bytes_eq other name ≡ c →
         children_of images_name (node other own children later) ≡ Some has.images →
-        (children_of images_name later ≡ Some has.images → HasImages (with_node name change later)) →
-        HasImages (with_node name change (node other own children later))
+        (children_of images_name later ≡ Some has.images → HasPlainImages (with_node name change later)) →
+        HasPlainImages (with_node name change (node other own children later))
     by_images true is true is_name found rest =
         let here : children ≡ has.images = same_in_some children has.images (rw is at found) in
         rw is_name (record {
@@ -59,7 +59,7 @@ images_with_node name change keeps (node other own children later) has =
         let after = rest (rw is at found) in
         rw is_name (record { images = after.images; found = rw is after.found; only = after.only })
 
-images_with_new : (name : List ℕ) (nodes : Nodes PropertyMap) → HasImages nodes → HasImages (with_new_node empty name nodes)
+images_with_new : (name : List ℕ) (nodes : Nodes PropertyMap) → HasPlainImages nodes → HasPlainImages (with_new_node empty name nodes)
 images_with_new name none has = absurd (nothing has.found) where
   nothing : children_of images_name none ≡ Some has.images → ⊥
   nothing is = cc
@@ -69,8 +69,8 @@ images_with_new name (node other own children later) has =
   where
     by_images : (b : Bool) → bytes_eq other images_name ≡ b → (c : Bool) → bytes_eq other name ≡ c →
         children_of images_name (node other own children later) ≡ Some has.images →
-        (children_of images_name later ≡ Some has.images → HasImages (with_new_node empty name later)) →
-        HasImages (with_new_node empty name (node other own children later))
+        (children_of images_name later ≡ Some has.images → HasPlainImages (with_new_node empty name later)) →
+        HasPlainImages (with_new_node empty name (node other own children later))
     by_images b is true is_name found rest = rw is_name has
     by_images true is false is_name found rest =
         rw is_name (record { images = has.images; found = rw is (rw is at found); only = has.only })
@@ -78,7 +78,8 @@ images_with_new name (node other own children later) has =
         let after = rest (rw is at found) in
         rw is_name (record { images = after.images; found = rw is after.found; only = after.only })
 
-images_without : (name : List ℕ) → name ≢ images_name → (nodes : Nodes PropertyMap) → HasImages nodes → HasImages (without_node name nodes)
+images_without : (name : List ℕ) → name ≢ images_name → (nodes : Nodes PropertyMap) → HasPlainImages nodes →
+    HasPlainImages (without_node name nodes)
 images_without name differs none has = absurd (nothing has.found) where
   nothing : children_of images_name none ≡ Some has.images → ⊥
   nothing is = cc
@@ -88,8 +89,8 @@ images_without name differs (node other own children later) has =
   where
     by_images : (b : Bool) → bytes_eq other images_name ≡ b → (c : Bool) → bytes_eq other name ≡ c →
         children_of images_name (node other own children later) ≡ Some has.images →
-        (children_of images_name later ≡ Some has.images → HasImages (without_node name later)) →
-        HasImages (without_node name (node other own children later))
+        (children_of images_name later ≡ Some has.images → HasPlainImages (without_node name later)) →
+        HasPlainImages (without_node name (node other own children later))
     by_images true is true is_name found rest =
         absurd (differs (sym (same_bytes other name is_name) ∙ same_bytes other images_name is))
     by_images false is true is_name found rest =
@@ -142,16 +143,16 @@ KeepsData path change =
     (name image : List ℕ) → path ≡ name ∷ image ∷ [] → name ≡ images_name → (root : Root PropertyMap) → HasOnlyData root.own →
     HasOnlyData (change root).own
 
-pub images_at : (path : List (List ℕ)) (change : Root PropertyMap → Root PropertyMap) →
+pub plain_images_at : (path : List (List ℕ)) (change : Root PropertyMap → Root PropertyMap) →
     ((root : Root PropertyMap) → (change root).children ≡ root.children) → KeepsData path change →
-    (root : Root PropertyMap) → HasImages root.children → HasImages (with_change_at path change root).children
-images_at [] change same keeps root has = subst HasImages (sym (same root)) has
-images_at (name ∷ []) change same keeps root has =
+    (root : Root PropertyMap) → HasPlainImages root.children → HasPlainImages (with_change_at path change root).children
+plain_images_at [] change same keeps root has = subst HasPlainImages (sym (same root)) has
+plain_images_at (name ∷ []) change same keeps root has =
     images_with_node name change (λ is below only. subst HaveOnlyData (sym (same below)) only) root.children has
-images_at (name ∷ image ∷ []) change same keeps root has =
+plain_images_at (name ∷ image ∷ []) change same keeps root has =
     images_with_node name (with_change_at (image ∷ []) change)
     (λ is below only. only_with_node image change (keeps name image refl is) below.children only) root.children has
-images_at (name ∷ image ∷ next ∷ later) change same keeps root has =
+plain_images_at (name ∷ image ∷ next ∷ later) change same keeps root has =
     images_with_node name (with_change_at (image ∷ next ∷ later) change)
     (λ is below only. only_with_node image (with_change_at (next ∷ later) change) (λ below only. only) below.children only)
     root.children has
@@ -160,16 +161,17 @@ own_with : (path : List (List ℕ)) (root : Root PropertyMap) → (with_node_at 
 own_with [] root = refl
 own_with (name ∷ later) root = refl
 
-only_with : (path : List (List ℕ)) (root : Root PropertyMap) → HaveOnlyData root.children → HaveOnlyData (with_node_at empty path root).children
+only_with : (path : List (List ℕ)) (root : Root PropertyMap) → HaveOnlyData root.children →
+    HaveOnlyData (with_node_at empty path root).children
 only_with [] root only = only
 only_with (image ∷ later) root only =
     only_with_node image (with_node_at empty later) (λ below only. subst HasOnlyData (sym (own_with later below)) only)
     (with_new_node empty image root.children) (only_with_new image root.children only)
 
-pub images_with : (path : List (List ℕ)) (root : Root PropertyMap) → HasImages root.children →
-    HasImages (with_node_at empty path root).children
-images_with [] root has = has
-images_with (name ∷ later) root has =
+pub plain_images_with : (path : List (List ℕ)) (root : Root PropertyMap) → HasPlainImages root.children →
+    HasPlainImages (with_node_at empty path root).children
+plain_images_with [] root has = has
+plain_images_with (name ∷ later) root has =
     images_with_node name (with_node_at empty later) (λ is below only. only_with later below only)
     (with_new_node empty name root.children) (images_with_new name root.children has)
 
@@ -186,8 +188,8 @@ only_without_at (image ∷ next ∷ later) root only =
     only_with_node image (without_node_at (next ∷ later)) (λ below only. subst HasOnlyData (sym (own_without (next ∷ later) below)) only)
     root.children only
 
-pub images_without_at : (path : List (List ℕ)) → path ≢ images_path → (root : Root PropertyMap) → HasImages root.children →
-    HasImages (without_node_at path root).children
+pub images_without_at : (path : List (List ℕ)) → path ≢ images_path → (root : Root PropertyMap) → HasPlainImages root.children →
+    HasPlainImages (without_node_at path root).children
 images_without_at [] differs root has = has
 images_without_at (name ∷ []) differs root has =
     images_without name (λ is. differs (ap (λ name. name ∷ []) is)) root.children has

@@ -19,8 +19,8 @@ pub record IsGood (root : Root PropertyMap) : Type 0 where
   pub nodes : AreNodes ArePropertiesByName root.children
   pub bytes : HaveByteNames root.children
 
-abbrev pub Keeps : (Root PropertyMap → Root PropertyMap) → Type 0
-Keeps change = (root : Root PropertyMap) → IsGood root → IsGood (change root)
+abbrev pub KeepsGood : (Root PropertyMap → Root PropertyMap) → Type 0
+KeepsGood change = (root : Root PropertyMap) → IsGood root → IsGood (change root)
 
 abbrev AreGood : Nodes PropertyMap → Type 0
 AreGood nodes = AreNodes ArePropertiesByName nodes × HaveByteNames nodes
@@ -38,7 +38,7 @@ names_with_node {Own = Own} name change (node other own children later) =
     by_name true is rest = rw is refl
     by_name false is rest = rw is (ap (λ l. other ∷ l) rest)
 
-good_with_node : (name : List ℕ) (change : Root PropertyMap → Root PropertyMap) → Keeps change → (nodes : Nodes PropertyMap) →
+good_with_node : (name : List ℕ) (change : Root PropertyMap → Root PropertyMap) → KeepsGood change → (nodes : Nodes PropertyMap) →
     AreGood nodes → AreGood (with_node name change nodes)
 good_with_node name change keeps none good = good
 good_with_node name change keeps (node other own children later) good =
@@ -147,25 +147,26 @@ with_children : (root : Root PropertyMap) → IsGood root → (nodes : Nodes Pro
     IsGood (record { own = root.own; children = nodes })
 with_children root good nodes are = record { own = good.own; nodes = are.0; bytes = are.1 }
 
-pub kept_at : (path : List (List ℕ)) (change : Root PropertyMap → Root PropertyMap) → Keeps change → Keeps (with_change_at path change)
-kept_at [] change keeps root good = keeps root good
-kept_at (name ∷ later) change keeps root good =
+pub good_at_path : (path : List (List ℕ)) (change : Root PropertyMap → Root PropertyMap) → KeepsGood change →
+    KeepsGood (with_change_at path change)
+good_at_path [] change keeps root good = keeps root good
+good_at_path (name ∷ later) change keeps root good =
     with_children root good _
-    (good_with_node name (with_change_at later change) (kept_at later change keeps) root.children (good.nodes, good.bytes))
+    (good_with_node name (with_change_at later change) (good_at_path later change keeps) root.children (good.nodes, good.bytes))
 
-pub kept_with : (path : List (List ℕ)) → AreChildNames path → Keeps (with_node_at empty path)
-kept_with [] are root good = good
-kept_with (name ∷ later) are root good =
+pub good_with_path : (path : List (List ℕ)) → AreChildNames path → KeepsGood (with_node_at empty path)
+good_with_path [] are root good = good
+good_with_path (name ∷ later) are root good =
     with_children root good _
-    (good_with_node name (with_node_at empty later) (kept_with later are.1) (with_new_node empty name root.children)
+    (good_with_node name (with_node_at empty later) (good_with_path later are.1) (with_new_node empty name root.children)
     (good_with_new name are.0 root.children (good.nodes, good.bytes)))
 
-pub kept_without : (path : List (List ℕ)) → Keeps (without_node_at path)
-kept_without [] root good = good
-kept_without (name ∷ []) root good = with_children root good _ (good_without name root.children (good.nodes, good.bytes))
-kept_without (name ∷ next ∷ later) root good =
+pub good_without_path : (path : List (List ℕ)) → KeepsGood (without_node_at path)
+good_without_path [] root good = good
+good_without_path (name ∷ []) root good = with_children root good _ (good_without name root.children (good.nodes, good.bytes))
+good_without_path (name ∷ next ∷ later) root good =
     with_children root good _
-    (good_with_node name (without_node_at (next ∷ later)) (kept_without (next ∷ later)) root.children (good.nodes, good.bytes))
+    (good_with_node name (without_node_at (next ∷ later)) (good_without_path (next ∷ later)) root.children (good.nodes, good.bytes))
 
 -- ---- properties
 

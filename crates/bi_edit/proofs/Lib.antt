@@ -14,4 +14,5 @@ pub mod KeptNodes
 pub mod KeptImages
 pub mod KeptDepths
 pub mod KeptDigests
+pub mod EditedFits
 pub mod EditedTrees

@@ -27,8 +27,8 @@ edit_error_of (apply_error.FindsNothing index) = error.FindsNothing index
 edit_error_of apply_error.OutOfMemory = error.Failed OutOfMemory
 
 -- The flattened image tree was read under these limits.
-abbrev pub WasRead : Limits → FitModel → Type 0
-WasRead limits content = (file : List ℕ) × IsReadFit limits file content
+abbrev pub WasReadWithin : Limits → FitModel → Type 0
+WasReadWithin limits content = (file : List ℕ) × IsReadFit limits file content
 
 -- The text of a flattened image tree after edits in the form Embedded. Under the limits it is
 -- accepted and means the edited tree. Each of the edits found what it is of.

@@ -3,8 +3,9 @@
 ghost use Rattle.std.specs.Prelude.{◌≡◌, ◌↔◌, IfOk, IfErr, IsTrue, OnOk};
 ghost use Rattle.std.specs.List.{AllByRecursion};
 ghost use Rattle.bi_base.specs.declared.fault.Cause.TheVariants.{TooDeep};
+ghost use Rattle.bi_base.specs.Limits.{IsInRange};
 ghost use Rattle.bi_fit.specs.Content.{tree_of};
-ghost use Rattle.bi_edit.specs.EditedFits.{HasTooDeep, IsEditError, IsEditedText, WasRead};
+ghost use Rattle.bi_edit.specs.EditedFits.{HasTooDeep, IsEditError, IsEditedText, WasReadWithin};
 ghost use Rattle.bi_edit.specs.EditLaws.{IsEditOfBytes};
 ghost use Rattle.bi_edit.specs.Edits.{IsTooDeep};
 
@@ -83,11 +84,12 @@ pub fn edit_fit<'a>(
     edits: &'a [Edit<'a>],
     limits: Limits,
 ) -> Result<Vec<u8>, EditError>
-    requires { WasRead limits fit.now }
+    requires { WasReadWithin limits fit.now }
     ensures edited { IfOk result (λ text.
         IsEditedText limits (tree_of fit.now) edits.entry.now text.items) }
     ensures failed { IfErr result (IsEditError limits (tree_of fit.now) edits.entry.now) }
 {
+    know_limits(limits);
     know_edits(edits);
     check_depths(edits, limits)?;
     let mut tree = read_plain_tree(alloc, fit)?;
@@ -122,6 +124,14 @@ fn is_too_deep(edit: &Edit<'_>, limits: Limits) -> bool
         }
         _ => false,
     }
+}
+
+/// Does nothing. Proofs get from it that these are limits that a call may have.
+fn know_limits(limits: Limits)
+    ensures { IsInRange limits.file limits.depth }
+{
+    let _ = limits.file();
+    let _ = limits.depth();
 }
 
 /// Does nothing. Proofs get from it that the places of edits are places of edits, and that values
