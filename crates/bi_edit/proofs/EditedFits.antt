@@ -1,13 +1,11 @@
-use Rattle.std.proofs.Common.{◌≡◌, ℕ, ◌<◌, ◌≤◌, ◌⊎◌, List, length, Result, Ok, Err, sym, ap, subst, ◌∙◌, arith, inl, inr}
+use Rattle.std.proofs.Common.{◌≡◌, ℕ, ◌<◌, ◌≤◌, List, length, Result, Ok, Err, sym, ap, subst, ◌∙◌, arith, inr}
 use Rattle.std.specs.Result.{IfErr, IsErrAnd}
 use Rattle.std.specs.List.{AllByRecursion}
 use Rattle.bi_base.specs.declared.fault.Error.{Error}
 use Rattle.bi_base.specs.declared.fault.Error.TheVariants as base_error
-use Rattle.bi_base.specs.declared.fault.Fault.{Fault}
 use Rattle.bi_base.specs.Errors.{IsFaultOrNoMemory}
 use Rattle.bi_base.specs.Limits.{Limits, IsInRange}
 use Rattle.bi_blob.specs.Tree.{Root, PropertyMap, depth_of}
-use Rattle.bi_blob.specs.Following.{most_open_nodes}
 use Rattle.bi_fdt.specs.Content.{Blob}
 use Rattle.bi_fit.specs.declared.form.Form.TheVariants.{Embedded}
 use Rattle.bi_fit.specs.Content.{FitModel, tree_of}
@@ -22,7 +20,7 @@ use Rattle.bi_plain.proofs.PlainTrees.{each_image_tree_has_plain_tree, each_plai
 use Rattle.bi_edit.specs.declared.edit.Edit.{Edit}
 use Rattle.bi_edit.specs.declared.edited_fit.EditError.{EditError}
 use Rattle.bi_edit.specs.declared.edited_fit.EditError.TheVariants as error
-use Rattle.bi_edit.specs.EditedFits.{IsEditError, IsEditFault, IsEditedText, WasReadWithin}
+use Rattle.bi_edit.specs.EditedFits.{IsEditError, IsEditedText, WasReadWithin}
 use Rattle.bi_edit.specs.EditLaws.{IsEditOfBytes}
 use Rattle.bi_edit.specs.Edits.{AllFind, IsTooDeep, edited_tree, in_edit_order, root_after}
 use Rattle.bi_edit.proofs.EditedTrees.{edits_keep_plain_trees, order_each}

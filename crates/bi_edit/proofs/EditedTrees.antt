@@ -1,19 +1,19 @@
-use Rattle.std.proofs.Common.{◌≡◌, ◌≢◌, ℕ, ◌+◌, ◌<◌, ◌≤◌, ◌-◌, max, Bool, true, false, ◌&&◌, List, [], ◌∷◌, ◌++◌, length, filter, Option, Some, None, bytes_eq}
+use Rattle.std.proofs.Common.{◌≡◌, ℕ, ◌+◌, ◌<◌, ◌≤◌, ◌-◌, true, false, ◌&&◌, List, [], ◌∷◌, length}
 use Rattle.std.proofs.Common.{refl, sym, ap, subst, ◌∙◌, arith}
-use Rattle.std.specs.FinMap.{empty, insert, remove}
+use Rattle.std.specs.FinMap.{empty}
 use Rattle.std.specs.List.{AllByRecursion}
 use Rattle.std.proofs.lemmas.Slice.Eq.{bytes_eq-Decides}
 use Rattle.bi_base.specs.Cells.{AreBytes, cell}
 use Rattle.bi_base.specs.Limits.{Limits}
 use Rattle.bi_base.proofs.ByteLists.{AreBytes-cell}
 use Rattle.bi_base.proofs.ListMembers.{each-append, each-filter}
-use Rattle.bi_blob.specs.Tree.{Nodes, Root, PropertyMap, depth, depth_of}
-use Rattle.bi_fit.specs.ImageTree.{ImageTree, IsImageTree, ArePropertiesByName, IsProperty, with_image_nodes}
+use Rattle.bi_blob.specs.Tree.{Root, PropertyMap, depth}
+use Rattle.bi_fit.specs.ImageTree.{ArePropertiesByName, IsProperty}
 use Rattle.bi_fit.specs.Names.{data_name, images_name, is_payload_name, timestamp_name}
 use Rattle.bi_fit.proofs.TreeContents.{properties-put, tested_property}
 use Rattle.bi_fit.proofs.TreeShapes.{AreNodes-children_of, AreNodes-with_children_of, bytes-with_children_of, depth-with_children_of}
 use Rattle.bi_fit.proofs.Trees.{children_of-with_children_of}
-use Rattle.bi_tree.specs.Changes.{with_change_at, with_node_at, without_node_at}
+use Rattle.bi_tree.specs.Changes.{with_node_at}
 use Rattle.bi_tree.specs.Trees.{with_own_value, without_own_value}
 use Rattle.bi_plain.specs.Plain.{HasOnlyData, IsPlainTree, plain_root}
 use Rattle.bi_plain.proofs.PlainTrees.{each_image_tree_has_plain_tree, each_plain_tree_is_of_image_tree}
@@ -22,10 +22,10 @@ use Rattle.bi_edit.specs.declared.edit.Edit.TheVariants.{RemoveNode, RemovePrope
 use Rattle.bi_edit.specs.declared.edit.Edit.TheVariants.{SetField, SetPayload, SetTime, SetDigests}
 use Rattle.bi_edit.specs.EditLaws.{EditsKeepImageTrees, EditsKeepPlainTrees, IsEditOfBytes}
 use Rattle.bi_edit.specs.Edits.{IsTooDeep, edited_root, edits_of_turn, in_edit_order, root_after, with_payload_digests}
-use Rattle.bi_edit.specs.Places.{IsPropertyNameOfBytes, PropertyPlaceModel, image_path, is_image_path}
+use Rattle.bi_edit.specs.Places.{IsPropertyNameOfBytes, image_path, is_image_path}
 use Rattle.bi_edit.proofs.KeptDepths.{bound_at, bound_with, bound_without_at}
 use Rattle.bi_edit.proofs.KeptDigests.{bytes_with_payload_digests, depth_with_payload_digests, nodes_with_payload_digests, own_with_payload_digests}
-use Rattle.bi_edit.proofs.KeptImages.{HasPlainImages, KeepsData, plain_images_at, plain_images_with, images_without_at, only-put, only-put_data, only-remove}
+use Rattle.bi_edit.proofs.KeptImages.{HasPlainImages, plain_images_at, plain_images_with, images_without_at, only-put, only-put_data, only-remove}
 use Rattle.bi_edit.proofs.KeptNodes.{IsGood, KeepsGood, good_at_path, good_with_path, good_without_path, properties-remove}
 
 -- Edits of a plain tree make a plain tree.

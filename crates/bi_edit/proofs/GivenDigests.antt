@@ -1,13 +1,10 @@
-use Rattle.std.proofs.Common.{◌≡◌, ℕ, Bool, true, false, List, [], ◌∷◌, Option, Some, None, option_map, if◌then◌else◌, bytes_eq, refl, ap}
-use Rattle.bi_blob.specs.Tree.{Nodes, none, node, PropertyMap, with_each}
+use Rattle.std.proofs.Common.{◌≡◌, ℕ, Bool, true, false, List, [], ◌∷◌, Option, Some, None, option_map, if◌then◌else◌, refl, ap}
+use Rattle.bi_blob.specs.Tree.{Nodes, none, node, PropertyMap}
 use Rattle.bi_tree.specs.Changes.{named_node}
-use Rattle.bi_tree.specs.TreeNodes.{TreeNodeModel}
 use Rattle.bi_hash.specs.declared.algo.Algo.{Algo}
 use Rattle.bi_hash.specs.Digests.{digest_of}
-use Rattle.bi_fit.specs.ImageTree.{with_children_of}
-use Rattle.bi_fit.specs.Names.{images_name, is_hash_name}
+use Rattle.bi_fit.specs.Names.{is_hash_name}
 use Rattle.bi_fit.specs.Updating.{known_algorithm, with_digest_by, with_digests_of}
-use Rattle.bi_edit.specs.Edits.{with_payload_digests}
 use Rattle.bi_edit.specs.PayloadDigests.{payload_digests, with_digest_if, with_each_digest}
 
 -- The digests of a payload are given to the children of an image node.

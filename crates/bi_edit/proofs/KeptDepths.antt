@@ -1,6 +1,6 @@
-use Rattle.std.proofs.Common.{◌≡◌, ℕ, zero, suc, ◌+◌, ◌≤◌, max, Bool, true, false, List, [], ◌∷◌, length, bytes_eq, refl, sym, ap, ap₂, subst, ◌∙◌, arith}
+use Rattle.std.proofs.Common.{◌≡◌, ℕ, zero, suc, ◌≤◌, Bool, true, false, List, [], ◌∷◌, length, bytes_eq, refl, sym, subst, arith}
 use Rattle.std.specs.FinMap.{empty}
-use Rattle.bi_blob.specs.Tree.{Nodes, none, node, Root, PropertyMap, depth, depth_of}
+use Rattle.bi_blob.specs.Tree.{Nodes, none, node, Root, PropertyMap, depth}
 use Rattle.bi_tree.specs.Changes.{with_change_at, with_new_node, with_node, with_node_at, without_node, without_node_at}
 
 -- How deep trees are after changes at paths.

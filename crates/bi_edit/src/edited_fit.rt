@@ -119,9 +119,7 @@ fn is_too_deep(edit: &Edit<'_>, limits: Limits) -> bool
     ensures { IsTrue result ↔ IsTooDeep limits edit.now }
 {
     match edit {
-        Edit::SetProperty(place, _) => {
-            place.path().names().len() >= usize::from(limits.depth())
-        }
+        Edit::SetProperty(place, _) => { place.path().names().len() >= usize::from(limits.depth()) }
         _ => false,
     }
 }

@@ -32,11 +32,7 @@ pub(crate) fn set_digests(alloc: Global, tree: &mut Tree<'_>) -> Result<(), Allo
 }
 
 /// Does so below the root. `number` is that of the name `value`.
-fn set_root_digests(
-    alloc: Global,
-    root: &mut TreeNode<'_>,
-    number: usize,
-) -> Result<(), AllocError>
+fn set_root_digests(alloc: Global, root: &mut TreeNode<'_>, number: usize) -> Result<(), AllocError>
     ensures set { OnOk result (tree_by_name (below root.new)
         ≡ with_image_nodes with_payload_digests (tree_by_name (below root.old))) }
     ensures numbered { (names : List (List ℕ)) → IsNumberOf names value_name number

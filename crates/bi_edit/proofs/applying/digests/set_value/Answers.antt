@@ -4,7 +4,7 @@ use Rattle.bi_tree.specs.Properties.{NumberedProperty}
 use Rattle.bi_tree.specs.TreeNodes.{below}
 use Rattle.bi_tree.specs.Trees.{IsNumberedTree, tree_by_name}
 use Rattle.bi_tree.proofs.ChangesByName.{changes_by_name}
-use Rattle.bi_tree.proofs.StayingNumbers.{numbered_with_nodes, numbers_stay}
+use Rattle.bi_tree.proofs.StayingNumbers.{numbers_stay}
 use Rattle.bi_edit.specs.PayloadDigests.{with_digest_if}
 use Rattle.bi_edit.proofs.applying.digests.set_value.Goals as goal
 
