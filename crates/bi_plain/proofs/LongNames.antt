@@ -26,7 +26,7 @@ use Rattle.bi_fit.specs.LongNames.{name_if_long}
 use Rattle.bi_fit.proofs.LongNames.{length-name_if_long, long_length}
 use Rattle.bi_fit.proofs.FormAlignments.{form-aligned, form-positive}
 use Rattle.bi_fit.specs.declared.form.Form.TheVariants.{Embedded}
-use Rattle.bi_tree.specs.Properties.{NumberedProperty, property_names, without_numbers}
+use Rattle.bi_tree.specs.Properties.{TreePropertyModel, own_property_names, without_numbers}
 use Rattle.bi_tree.specs.Trees.{by_name}
 use Rattle.bi_plain.specs.Ranked.{HaveLongNames, all_names, sorted_models, sorted_own}
 
@@ -71,7 +71,8 @@ no_longer_than_all [] = omega arith
 no_longer_than_all (name ∷ later) = search (rules, length-name_if_long, sum_by-cons, no_longer_than_all later)
 
 -- The names of the properties of nodes are used by their events.
-names_left : (properties : List NumberedProperty) → map (λ property. property.0) (without_numbers properties) ≡ property_names properties
+names_left : (properties : List TreePropertyModel) →
+    map (λ property. property.0) (without_numbers properties) ≡ own_property_names properties
 names_left [] = refl
 names_left (property ∷ properties) = ap (λ l. property.name ∷ l) (names_left properties)
 
@@ -90,7 +91,7 @@ name_in_order name properties has =
     (map (λ property. property.0) (entries properties))
     (sym (is_some-find (slice_cmp nat_cmp) name (entries properties)) ∙ ap is_some (sym (get-entries properties name)) ∙ has)
 
-own_used : (name : List ℕ) (properties : List NumberedProperty) → Contains (property_names properties) name →
+own_used : (name : List ℕ) (properties : List TreePropertyModel) → Contains (own_property_names properties) name →
     Contains (map (λ property. property.0) (sorted_own properties)) name
 own_used name properties has =
     name_in_order name (by_name properties)
@@ -100,18 +101,18 @@ names_of_properties : (properties : List Property) → used_names (map NodePrope
 names_of_properties [] = refl
 names_of_properties (property ∷ later) = ap (λ names. property.0 ∷ names) (names_of_properties later)
 
-names_of_node : (name : List ℕ) (own : List NumberedProperty) (children later : Nodes (List NumberedProperty)) →
+names_of_node : (name : List ℕ) (own : List TreePropertyModel) (children later : Nodes (List TreePropertyModel)) →
     used_names (events (sorted_models (node name own children later)))
     ≡ map (λ property. property.0) (sorted_own own)
     ++ (used_names (events (sorted_models children)) ++ used_names (events (sorted_models later)))
 names_of_node name own children later = search (rules, flat_map-append, names_of_properties)
 
-all_used : (name : List ℕ) (nodes : Nodes (List NumberedProperty)) → Contains (all_names nodes) name →
+all_used : (name : List ℕ) (nodes : Nodes (List TreePropertyModel)) → Contains (all_names nodes) name →
     Contains (used_names (events (sorted_models nodes))) name
 all_used name none has = absurd (Contains-none name has)
 all_used name (node n own children later) has =
     subst (λ l. Contains l name) (sym (names_of_node n own children later))
-    (by_own (Contains-append_cases (property_names own) (all_names children ++ all_names later) name has)
+    (by_own (Contains-append_cases (own_property_names own) (all_names children ++ all_names later) name has)
     (λ has. all_used name children has) (λ has. all_used name later has))
   where
     below_used : List (List ℕ)
@@ -130,7 +131,7 @@ all_used name (node n own children later) has =
         Contains-append_right (map (λ property. property.0) (sorted_own own)) (below_used ++ later_used) name
         (Contains-append_right below_used later_used name (after has))
 
-    by_own : Contains (property_names own) name ⊎ Contains (all_names children ++ all_names later) name →
+    by_own : Contains (own_property_names own) name ⊎ Contains (all_names children ++ all_names later) name →
         (Contains (all_names children) name → Contains below_used name) → (Contains (all_names later) name → Contains later_used name) →
         Contains (map (λ property. property.0) (sorted_own own) ++ (below_used ++ later_used)) name
     by_own (inl has) below after =
@@ -138,7 +139,7 @@ all_used name (node n own children later) has =
     by_own (inr has) below after = by_rest (Contains-append_cases (all_names children) (all_names later) name has) below after
 
 -- So a text with these events is longer than the limit, if the long names are.
-pub longer_text : (limit cpu : ℕ) (reservations : List Reservation) (nodes : Nodes (List NumberedProperty)) → HaveLongNames limit nodes →
+pub longer_text : (limit cpu : ℕ) (reservations : List Reservation) (nodes : Nodes (List TreePropertyModel)) → HaveLongNames limit nodes →
     limit < length (text_of_events 4 cpu reservations (events (sorted_models nodes)))
 longer_text limit cpu reservations nodes (names, distinct, are, longer) =
     let all = events (sorted_models nodes) in

@@ -17,7 +17,8 @@ module _ (names : List (Bor (List ℕ))) (marks : List Bool) (index : ℕ) (name
   abbrev rest : List Bool
   rest = drop (index + 1) marks
 
-  left : {A : Type 0} (f : List (List ℕ) → List Bool → A) → f (bytes_of (drop index names)) (drop index marks) ≡ f (first.now ∷ later) (mark ∷ rest)
+  left : {A : Type 0} (f : List (List ℕ) → List Bool → A) →
+      f (bytes_of (drop index names)) (drop index marks) ≡ f (first.now ∷ later) (mark ∷ rest)
   left f =
       ap (λ l. f (bytes_of l) (drop index marks)) (drop_more names index name within)
       ∙ ap (λ l. f (first.now ∷ later) l) (drop_more marks index false marked_within)

@@ -35,12 +35,12 @@ set_there [] number within = absurd (omega (arith, within))
 set_there (mark ∷ marks) zero within = refl
 set_there (mark ∷ marks) (suc number) within = set_there marks number (omega (arith, within))
 
-pub marked : (numbers : List ℕ) (marks : List Bool) (number : ℕ) → number < length marks → Contains numbers number →
+pub is_marked : (numbers : List ℕ) (marks : List Bool) (number : ℕ) → number < length marks → Contains numbers number →
     get_or (with_marks numbers marks) number false ≡ true
-marked [] marks number within has = absurd (Contains-none number has)
-marked (first ∷ numbers) marks number within has =
+is_marked [] marks number within has = absurd (Contains-none number has)
+is_marked (first ∷ numbers) marks number within has =
     by_case (Contains-cases first numbers number has)
-    (λ has. marked numbers (set marks first true) number (omega (arith, within, length-set marks first true)) has)
+    (λ has. is_marked numbers (set marks first true) number (omega (arith, within, length-set marks first true)) has)
   where
     by_case : (first ≡ number) ⊎ Contains numbers number →
         (Contains numbers number → get_or (with_marks numbers (set marks first true)) number false ≡ true) →
@@ -67,7 +67,8 @@ pub marked_from : (numbers : List ℕ) (marks : List Bool) (number : ℕ) → ge
 marked_from [] marks number is = inr is
 marked_from (first ∷ numbers) marks number is = by_rest (marked_from numbers (set marks first true) number is)
   where
-    by_first : (first ≡ number) ⊎ (get_or marks number false ≡ true) → Contains (first ∷ numbers) number ⊎ (get_or marks number false ≡ true)
+    by_first : (first ≡ number) ⊎ (get_or marks number false ≡ true) →
+        Contains (first ∷ numbers) number ⊎ (get_or marks number false ≡ true)
     by_first (inl same) = inl (subst (Contains (first ∷ numbers)) same (Contains-first first numbers))
     by_first (inr was) = inr was
 

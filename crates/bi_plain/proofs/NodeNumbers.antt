@@ -1,13 +1,13 @@
 use Rattle.std.proofs.Common.{◌≡◌, ℕ, zero, suc, ◌<◌, List, [], ◌∷◌, ◌++◌, length, get_or, sym, ap, subst, ◌∙◌, arith, append_assoc, append-nil}
 use Rattle.bi_blob.specs.Tree.{Nodes, as_nodes, node_count}
-use Rattle.bi_tree.specs.Properties.{NumberedProperty}
+use Rattle.bi_tree.specs.Properties.{TreePropertyModel}
 use Rattle.bi_tree.specs.TreeNodes.{TreeNodeModel, below, nodes_of_models}
 use Rattle.bi_plain.specs.Ranked.{all_numbers, own_numbers}
 
 -- The numbers of the names of nodes, one node after the other.
 
 -- Those of a node are before those of the nodes after it.
-pub first_numbers : (top : TreeNodeModel) (later : Nodes (List NumberedProperty)) →
+pub first_numbers : (top : TreeNodeModel) (later : Nodes (List TreePropertyModel)) →
     own_numbers top.own ++ (all_numbers top.children ++ all_numbers later) ≡ all_numbers (as_nodes (below top)) ++ all_numbers later
 first_numbers top later =
     sym (append_assoc (own_numbers top.own) (all_numbers top.children) (all_numbers later))

@@ -14,7 +14,7 @@ use Rattle.bi_fit.specs.ImageTree.{without_payload}
 use Rattle.bi_fit.specs.Names.{is_payload_name}
 use Rattle.bi_fit.specs.NormalNodes.{payloads_of}
 use Rattle.bi_fit.proofs.PayloadProperties.{get-without, same}
-use Rattle.bi_tree.specs.Properties.{NumberedProperty, property_names, tree_properties, tree_property, without_numbers}
+use Rattle.bi_tree.specs.Properties.{TreePropertyModel, own_property_names, tree_properties, tree_property, without_numbers}
 use Rattle.bi_tree.specs.Trees.{AreNumberedAmong, by_name}
 use Rattle.bi_tree.specs.declared.properties.TreeProperty.{TreeProperty}
 use Rattle.bi_plain.specs.PlainNodes.{first_or_none, without_first, without_payload_names}
@@ -39,13 +39,13 @@ kept_are [] = refl
 kept_are (first ∷ later) = kept_first first later (kept_are later) (stays first.name.now) refl
 
 -- By name they are the properties without those of payloads.
-abbrev found : List ℕ → List NumberedProperty → Option (List ℕ)
+abbrev found : List ℕ → List TreePropertyModel → Option (List ℕ)
 found name properties = find (slice_cmp nat_cmp) name (without_numbers properties)
 
 abbrev is_same : List ℕ → List ℕ → Bool
 is_same name other = eq_by_cmp (slice_cmp nat_cmp) name other
 
-abbrev IsFoundKept : List ℕ → List NumberedProperty → Type 0
+abbrev IsFoundKept : List ℕ → List TreePropertyModel → Type 0
 IsFoundKept name properties = found name (without_payload_names properties) ≡ cond (stays name) (found name properties) None
 
 cond_none : (b : Bool) (nothing : Option (List ℕ)) → nothing ≡ cond b nothing nothing
@@ -53,9 +53,10 @@ cond_none true nothing = refl
 cond_none false nothing = refl
 
 -- A property that stays is found as before, and another that is taken out is not found.
-found_first_kept : (name : List ℕ) (first : NumberedProperty) (later : List NumberedProperty) → IsFoundKept name later →
+found_first_kept : (name : List ℕ) (first : TreePropertyModel) (later : List TreePropertyModel) → IsFoundKept name later →
     stays first.name ≡ true → (b : Bool) → is_same name first.name ≡ b →
-    cond b (Some first.value) (found name (without_payload_names later)) ≡ cond (stays name) (cond b (Some first.value) (found name later)) None
+    cond b (Some first.value) (found name (without_payload_names later))
+    ≡ cond (stays name) (cond b (Some first.value) (found name later)) None
 found_first_kept name first later rest kept true equal =
     subst (λ b. Some first.value ≡ cond b (Some first.value) None)
     (sym (ap stays (same_bytes name first.name (sym (is_eq-slice_cmp name first.name) ∙ equal)) ∙ kept)) refl
@@ -64,7 +65,7 @@ found_first_kept name first later rest kept false differs = rest
 gone : (b : Bool) (value other : Option (List ℕ)) → b ≡ false → cond b value None ≡ cond b other None
 gone b value other is = ap (λ b. cond b value None) is ∙ sym (ap (λ b. cond b other None) is)
 
-found_first_out : (name : List ℕ) (first : NumberedProperty) (later : List NumberedProperty) → IsFoundKept name later →
+found_first_out : (name : List ℕ) (first : TreePropertyModel) (later : List TreePropertyModel) → IsFoundKept name later →
     stays first.name ≡ false → (b : Bool) → is_same name first.name ≡ b →
     found name (without_payload_names later) ≡ cond (stays name) (cond b (Some first.value) (found name later)) None
 found_first_out name first later rest out true equal =
@@ -72,16 +73,16 @@ found_first_out name first later rest out true equal =
     (ap stays (same_bytes name first.name (sym (is_eq-slice_cmp name first.name) ∙ equal)) ∙ out)
 found_first_out name first later rest out false differs = rest
 
-found_first : (name : List ℕ) (first : NumberedProperty) (later : List NumberedProperty) → IsFoundKept name later → (b : Bool) →
+found_first : (name : List ℕ) (first : TreePropertyModel) (later : List TreePropertyModel) → IsFoundKept name later → (b : Bool) →
     stays first.name ≡ b → IsFoundKept name (first ∷ later)
 found_first name first later rest true is = rw is (found_first_kept name first later rest is (is_same name first.name) refl)
 found_first name first later rest false is = rw is (found_first_out name first later rest is (is_same name first.name) refl)
 
-found_kept : (name : List ℕ) (properties : List NumberedProperty) → IsFoundKept name properties
+found_kept : (name : List ℕ) (properties : List TreePropertyModel) → IsFoundKept name properties
 found_kept name [] = cond_none (stays name) None
 found_kept name (first ∷ later) = found_first name first later (found_kept name later) (stays first.name) refl
 
-pub without_payload_by_name : (properties : List NumberedProperty) →
+pub without_payload_by_name : (properties : List TreePropertyModel) →
     by_name (without_payload_names properties) ≡ without_payload (by_name properties)
 without_payload_by_name properties =
     same _ _ (λ name.
@@ -91,31 +92,31 @@ without_payload_by_name properties =
     ∙ sym (get-without (by_name properties) name))
 
 -- They still give the numbers of their names.
-new_kept_first : (name : List ℕ) (first : NumberedProperty) (later : List NumberedProperty) → first.name ≢ name →
-    IsNew name (property_names (without_payload_names later)) → (b : Bool) → stays first.name ≡ b →
-    IsNew name (property_names (without_payload_names (first ∷ later)))
+new_kept_first : (name : List ℕ) (first : TreePropertyModel) (later : List TreePropertyModel) → first.name ≢ name →
+    IsNew name (own_property_names (without_payload_names later)) → (b : Bool) → stays first.name ≡ b →
+    IsNew name (own_property_names (without_payload_names (first ∷ later)))
 new_kept_first name first later differs rest true is = rw is (differs, rest)
 new_kept_first name first later differs rest false is = rw is rest
 
-new_kept : (name : List ℕ) (properties : List NumberedProperty) → IsNew name (property_names properties) →
-    IsNew name (property_names (without_payload_names properties))
+new_kept : (name : List ℕ) (properties : List TreePropertyModel) → IsNew name (own_property_names properties) →
+    IsNew name (own_property_names (without_payload_names properties))
 new_kept name [] new = tt
 new_kept name (first ∷ later) new =
     new_kept_first name first later new.0 (new_kept name later new.1) (stays first.name) refl
 
-distinct_kept_first : (first : NumberedProperty) (later : List NumberedProperty) → IsNew first.name (property_names later) →
-    AreDistinct (property_names (without_payload_names later)) → (b : Bool) → stays first.name ≡ b →
-    AreDistinct (property_names (without_payload_names (first ∷ later)))
+distinct_kept_first : (first : TreePropertyModel) (later : List TreePropertyModel) → IsNew first.name (own_property_names later) →
+    AreDistinct (own_property_names (without_payload_names later)) → (b : Bool) → stays first.name ≡ b →
+    AreDistinct (own_property_names (without_payload_names (first ∷ later)))
 distinct_kept_first first later new rest true is = rw is (new_kept first.name later new, rest)
 distinct_kept_first first later new rest false is = rw is rest
 
-distinct_kept : (properties : List NumberedProperty) → AreDistinct (property_names properties) →
-    AreDistinct (property_names (without_payload_names properties))
+distinct_kept : (properties : List TreePropertyModel) → AreDistinct (own_property_names properties) →
+    AreDistinct (own_property_names (without_payload_names properties))
 distinct_kept [] distinct = tt
 distinct_kept (first ∷ later) distinct =
     distinct_kept_first first later distinct.0 (distinct_kept later distinct.1) (stays first.name) refl
 
-pub numbered_kept : (names : List (List ℕ)) (properties : List NumberedProperty) → AreNumberedAmong names properties →
+pub numbered_kept : (names : List (List ℕ)) (properties : List TreePropertyModel) → AreNumberedAmong names properties →
     AreNumberedAmong names (without_payload_names properties)
 numbered_kept names properties all = record {
   distinct = distinct_kept properties all.distinct;
@@ -144,5 +145,5 @@ fewer (payload ∷ payloads) zero = refl
 fewer (payload ∷ payloads) (suc index) = fewer payloads index
 
 -- The payloads after the next one.
-pub one_fewer : (payloads : List (Option (List ℕ))) (index : ℕ) → drop (index + 1) payloads ≡ without_first (drop index payloads)
-one_fewer payloads index = ap (λ n. drop n payloads) (add-one index) ∙ fewer payloads index
+pub one_payload_fewer : (payloads : List (Option (List ℕ))) (index : ℕ) → drop (index + 1) payloads ≡ without_first (drop index payloads)
+one_payload_fewer payloads index = ap (λ n. drop n payloads) (add-one index) ∙ fewer payloads index

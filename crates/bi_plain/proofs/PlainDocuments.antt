@@ -12,7 +12,7 @@ use Rattle.bi_blob.proofs.Texts.NormalEvents.{normal_events_have_one_tree}
 use Rattle.bi_blob.proofs.Texts.NormalOrder.{has_one_order}
 use Rattle.bi_lay.specs.Contents.{Doc, empty_with_names}
 use Rattle.bi_fit.specs.NormalNodes.{MayAdd, with_events, with_reservations}
-use Rattle.bi_tree.specs.Properties.{NumberedProperty}
+use Rattle.bi_tree.specs.Properties.{TreePropertyModel}
 use Rattle.bi_tree.specs.Trees.{by_name, tree_by_name}
 use Rattle.bi_plain.specs.PlainText.{HasPlainText, IsPlainDoc}
 use Rattle.bi_plain.specs.Ranked.{alone_named, sorted_models, sorted_own}
@@ -34,16 +34,16 @@ plain_events_close cpu reservations root has = (normal_events_have_one_tree (eve
 })
 
 -- The nodes that the code has are those of the tree.
-twice : (nodes : Nodes (List NumberedProperty)) → with_each entries (with_each by_name nodes) ≡ sorted_models nodes
+twice : (nodes : Nodes (List TreePropertyModel)) → with_each entries (with_each by_name nodes) ≡ sorted_models nodes
 twice none = refl
 twice (node name own children later) = ap₂ (node name (sorted_own own)) (twice children) (twice later)
 
-pub same_tree_events : (root : Root (List NumberedProperty)) →
+pub same_tree_events : (root : Root (List TreePropertyModel)) →
     events_of (in_byte_order (tree_by_name root)) ≡ events (sorted_models (alone_named [] root))
 same_tree_events root = ap (λ children. events (node [] (sorted_own root.own) children none)) (twice root.children)
 
 module _ (boot_cpu : ℕ) (reserved : List Reservation) (root : Root PropertyMap) (has : HasPlainText boot_cpu reserved root)
-    (inside : Root (List NumberedProperty)) (is : tree_by_name inside ≡ root) (names : List (List ℕ))
+    (inside : Root (List TreePropertyModel)) (is : tree_by_name inside ≡ root) (names : List (List ℕ))
     (started begun : Doc) (is_started : started ≡ empty_with_names boot_cpu names) (is_begun : begun ≡ with_reservations started reserved) where
   whole_is : begun ≡ with_reservations (empty_with_names boot_cpu names) reserved
   whole_is = is_begun ∙ ap (λ document. with_reservations document reserved) is_started

@@ -33,7 +33,8 @@ abbrev AreTwice : (change first both : Nodes PropertyMap → Nodes PropertyMap) 
 AreTwice change first both nodes =
     with_children_of images_name both nodes ≡ with_children_of images_name change (with_children_of images_name first nodes)
 
-twice_first : (change first both : Nodes PropertyMap → Nodes PropertyMap) → ((nodes : Nodes PropertyMap) → both nodes ≡ change (first nodes)) →
+twice_first : (change first both : Nodes PropertyMap → Nodes PropertyMap) →
+    ((nodes : Nodes PropertyMap) → both nodes ≡ change (first nodes)) →
     (name : List ℕ) (own : PropertyMap) (children later : Nodes PropertyMap) → AreTwice change first both later → (b : Bool) →
     bytes_eq name images_name ≡ b → AreTwice change first both (node name own children later)
 twice_first change first both same name own children later rest true is =

@@ -28,7 +28,8 @@ use Rattle.bi_plain.specs.PlainText.{HasPlainText, plain_text}
 -- ---- an image node
 
 -- With its payload it has no other of the four properties.
-only_data : (begin : ℕ) (payload : Option (List ℕ)) (own : PropertyMap) → IsApart own payload → HasOnlyData (with_payload None begin payload own)
+only_data : (begin : ℕ) (payload : Option (List ℕ)) (own : PropertyMap) → IsApart own payload →
+    HasOnlyData (with_payload None begin payload own)
 only_data begin None own apart name is other = apart.no_payload_name name is
 only_data begin (Some payload) own apart name is other =
     get-put_other own data_name payload name (differs (bytes_eq name data_name) refl) ∙ apart.no_payload_name name is

@@ -26,18 +26,18 @@ nodes_before-none none = refl
 nodes_before-none (node name own children later) = ap (node name own children) (nodes_before-none later)
 
 -- These nodes are left to be read, and are all with those that were read.
-pub record IsReading (names : List (List ℕ)) (all : Nodes FileNode) (done : List TreeNodeModel) (left : Nodes FileNode) : Type 0 where
+pub record IsReadingNodes (names : List (List ℕ)) (all : Nodes FileNode) (done : List TreeNodeModel) (left : Nodes FileNode) : Type 0 where
   pub same : nodes_before (models_by_name done) (nodes_by_name left) ≡ nodes_by_name all
   pub numbered : AreNumberedNodes names done
 
 -- At first none was read.
-pub none_read : (names : List (List ℕ)) (all : Nodes FileNode) → IsReading names all [] all
-none_read names all = record { same = refl; numbered = tt }
+pub no_nodes_read : (names : List (List ℕ)) (all : Nodes FileNode) → IsReadingNodes names all [] all
+no_nodes_read names all = record { same = refl; numbered = tt }
 
 -- In the end all were.
-pub all_read : (names : List (List ℕ)) (all : Nodes FileNode) (done : List TreeNodeModel) → IsReading names all done none →
+pub all_nodes_read : (names : List (List ℕ)) (all : Nodes FileNode) (done : List TreeNodeModel) → IsReadingNodes names all done none →
     AreReadNodes names all done
-all_read names all done reading =
+all_nodes_read names all done reading =
     record { same = sym (nodes_before-none (models_by_name done)) ∙ reading.same; numbered = reading.numbered }
 
 -- One more was read.
@@ -52,10 +52,11 @@ more_numbered : (names : List (List ℕ)) (done : List TreeNodeModel) (top : Tre
 more_numbered names [] top all own below = (own, below, tt)
 more_numbered names (first ∷ done) top all own below = (all.0, all.1, more_numbered names done top all.2 own below)
 
-pub one_read : (names : List (List ℕ)) (all : Nodes FileNode) (done : List TreeNodeModel) (s : Sibling FileNode) (top : TreeNodeModel) →
-    IsReading names all done (node s.name s.own s.children s.later) → IsReadNode names s top →
-    IsReading names all (done ++ top ∷ []) s.later
-one_read names all done s top reading read = record {
+pub one_node_read : (names : List (List ℕ)) (all : Nodes FileNode) (done : List TreeNodeModel) (s : Sibling FileNode)
+    (top : TreeNodeModel) →
+    IsReadingNodes names all done (node s.name s.own s.children s.later) → IsReadNode names s top →
+    IsReadingNodes names all (done ++ top ∷ []) s.later
+one_node_read names all done s top reading read = record {
   same = more_before done top (nodes_by_name s.later)
       ∙ (λ i. nodes_before (models_by_name done) (node (read.name i) (read.own.same i) (read.same i) (nodes_by_name s.later)))
       ∙ reading.same;

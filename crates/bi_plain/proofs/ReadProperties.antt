@@ -13,7 +13,7 @@ use Rattle.bi_fdt.proofs.ByName.{found_by_name}
 use Rattle.bi_fdt.proofs.DistinctKeys.{names_stay_distinct, one_name_each}
 use Rattle.bi_fit.specs.NormalNodes.{HasDistinctNames}
 use Rattle.bi_fit.proofs.PayloadProperties.{same as same_by_name}
-use Rattle.bi_tree.specs.Properties.{property_names, without_numbers}
+use Rattle.bi_tree.specs.Properties.{own_property_names, without_numbers}
 use Rattle.bi_plain.specs.ReadNodes.{AreReadProperties, numbered_properties}
 
 -- The properties of a node in the order of the numbers of their names are its properties.
@@ -27,7 +27,7 @@ numbers_left [] = refl
 numbers_left (one ∷ keyed) = ap (λ l. property_of one.1 ∷ l) (numbers_left keyed)
 
 names_of_keyed : (keyed : List KeyedProperty) →
-    property_names (numbered_properties keyed) ≡ map (λ property. property.0) (map property_of (map (λ one. one.1) keyed))
+    own_property_names (numbered_properties keyed) ≡ map (λ property. property.0) (map property_of (map (λ one. one.1) keyed))
 names_of_keyed [] = refl
 names_of_keyed (one ∷ keyed) = ap (λ l. one.1.name ∷ l) (names_of_keyed keyed)
 

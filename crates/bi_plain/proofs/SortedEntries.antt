@@ -17,7 +17,7 @@ use Rattle.bi_fdt.specs.Order.{KeyedProperty, sorted_properties}
 use Rattle.bi_fdt.proofs.ByName.{by_rank_by_name}
 use Rattle.bi_fdt.proofs.DistinctNumbers.{distinct_numbers}
 use Rattle.bi_lay.specs.Contents.{name_numbered}
-use Rattle.bi_tree.specs.Properties.{NumberedProperty, property_names, without_numbers}
+use Rattle.bi_tree.specs.Properties.{TreePropertyModel, own_property_names, without_numbers}
 use Rattle.bi_plain.specs.Ranked.{AreRanked, named_entries, ranked_values, sorted_own, values_by_rank}
 
 -- Properties in the order of the ranks of their names are in byte order of their names.
@@ -33,7 +33,8 @@ module _ (names : List (List ℕ)) where
   abbrev keyed_at : Entry → KeyedProperty
   keyed_at entry = (entry.0, property_at entry)
 
-  named-keyed : (entries : List Entry) → map (λ (one : KeyedProperty). property_of one.1) (map keyed_at entries) ≡ named_entries names entries
+  named-keyed : (entries : List Entry) →
+      map (λ (one : KeyedProperty). property_of one.1) (map keyed_at entries) ≡ named_entries names entries
   named-keyed [] = refl
   named-keyed (entry ∷ entries) = ap (λ l. (name_numbered names entry.0, entry.1.now) ∷ l) (named-keyed entries)
 
@@ -104,7 +105,7 @@ module _ (names : List (List ℕ)) where
 
   -- The entries of properties have their names,
   module _ (ranks : List ℕ) where
-    entries_named : (properties : List NumberedProperty) (entries : List Entry) →
+    entries_named : (properties : List TreePropertyModel) (entries : List Entry) →
         AllByRecursion (λ property. IsNumberOf names property.name (slice_index_or ranks property.number 0)) properties →
         ranked_values entries ≡ values_by_rank ranks properties →
         (named_entries names entries ≡ without_numbers properties) × AllByRecursion IsWithin entries
@@ -124,12 +125,13 @@ module _ (names : List (List ℕ)) where
           (slice_get_within names entry.0 property.name there, rest.1),
         )
 
-    names_left : (properties : List NumberedProperty) → map (λ property. property.0) (without_numbers properties) ≡ property_names properties
+    names_left : (properties : List TreePropertyModel) →
+        map (λ property. property.0) (without_numbers properties) ≡ own_property_names properties
     names_left [] = refl
     names_left (property ∷ properties) = ap (λ l. property.name ∷ l) (names_left properties)
 
     -- and are these in byte order after a sort.
-    pub sorted_entries : (properties : List NumberedProperty) (entries moved : List Entry) → IsStrictlySortedBy (slice_cmp nat_cmp) names →
+    pub sorted_entries : (properties : List TreePropertyModel) (entries moved : List Entry) → IsStrictlySortedBy (slice_cmp nat_cmp) names →
         AreRanked names ranks properties → ranked_values entries ≡ values_by_rank ranks properties → IsPermutation entries moved →
         IsNonDecreasingBy (λ entry. entry.0) moved → named_entries names moved ≡ sorted_own properties
     sorted_entries properties entries moved ascend are is move rising =

@@ -3,7 +3,7 @@ use Rattle.bi_blob.specs.Tree.{Nodes, none, node, Root, PropertyMap, EachOwn, wi
 use Rattle.bi_fit.specs.ImageTree.{without_payload}
 use Rattle.bi_fit.specs.Names.{is_payload_name}
 use Rattle.bi_fit.specs.Text.{with_payload}
-use Rattle.bi_tree.specs.Properties.{NumberedProperty}
+use Rattle.bi_tree.specs.Properties.{TreePropertyModel}
 use Rattle.bi_tree.specs.TreeNodes.{TreeNodeModel, nodes_of_models}
 use Rattle.bi_tree.specs.Trees.{AreNumberedAmong, by_name}
 
@@ -19,7 +19,7 @@ abbrev pub AreNumberedNodes : List (List ℕ) → List TreeNodeModel → Type 0
 AreNumberedNodes names nodes = EachOwn (AreNumberedAmong names) (nodes_of_models nodes)
 
 -- Properties without those that hold a payload or name its region.
-abbrev pub without_payload_names : List NumberedProperty → List NumberedProperty
+abbrev pub without_payload_names : List TreePropertyModel → List TreePropertyModel
 without_payload_names properties = filter (λ property. not (is_payload_name property.name)) properties
 
 -- An image node with this payload, or none, as the value of `data`, and without the other

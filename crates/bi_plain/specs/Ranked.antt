@@ -15,7 +15,7 @@ use Rattle.bi_fdt.specs.Numbers.{IsNumberOf}
 use Rattle.bi_fdt.specs.TableItems.{TableItem, NodeItem, PropertyItem}
 use Rattle.bi_lay.specs.Contents.{name_numbered}
 use Rattle.bi_fit.specs.LongNames.{name_if_long}
-use Rattle.bi_tree.specs.Properties.{NumberedProperty, property_names}
+use Rattle.bi_tree.specs.Properties.{TreePropertyModel, own_property_names}
 use Rattle.bi_tree.specs.Trees.{by_name}
 
 -- The names of the properties of a tree that is written, and their ranks.
@@ -25,32 +25,32 @@ abbrev pub alone_named : {Own : Type 0} → (name : List ℕ) → Root Own → N
 alone_named name below = node name below.own below.children none
 
 -- Properties in byte order of their names.
-abbrev pub sorted_own : List NumberedProperty → List Property
+abbrev pub sorted_own : List TreePropertyModel → List Property
 sorted_own properties = entries (by_name properties)
 
 -- The events with which a node begins: its start and its properties, in byte order.
-abbrev pub start_events : (name : List ℕ) → List NumberedProperty → List Event
+abbrev pub start_events : (name : List ℕ) → List TreePropertyModel → List Event
 start_events name properties = NodeStart name ∷ map NodeProperty (sorted_own properties)
 
 -- Nodes with the properties of each in byte order of their names.
-abbrev pub sorted_models : Nodes (List NumberedProperty) → Nodes (List Property)
+abbrev pub sorted_models : Nodes (List TreePropertyModel) → Nodes (List Property)
 sorted_models nodes = with_each sorted_own nodes
 
 -- The numbers of the names of these properties.
-abbrev pub own_numbers : List NumberedProperty → List ℕ
+abbrev pub own_numbers : List TreePropertyModel → List ℕ
 own_numbers properties = map (λ property. property.number) properties
 
 -- The numbers of the names of the properties of these nodes and of all below them.
-abbrev pub all_numbers : Nodes (List NumberedProperty) → List ℕ
+abbrev pub all_numbers : Nodes (List TreePropertyModel) → List ℕ
 all_numbers none = []
 all_numbers (node name own children later) =
     own_numbers own ++ (all_numbers children ++ all_numbers later)
 
 -- The names of the properties of these nodes and of all below them.
-abbrev pub all_names : Nodes (List NumberedProperty) → List (List ℕ)
+abbrev pub all_names : Nodes (List TreePropertyModel) → List (List ℕ)
 all_names none = []
 all_names (node name own children later) =
-    property_names own ++ (all_names children ++ all_names later)
+    own_property_names own ++ (all_names children ++ all_names later)
 
 -- Marks, with those at these numbers set.
 abbrev pub with_marks : List ℕ → List Bool → List Bool
@@ -80,9 +80,9 @@ marked_table (name ∷ names) (true ∷ marks) =
 marked_table (name ∷ names) (false ∷ marks) = NodeItem 0 0 [] ∷ marked_table names marks
 
 -- Properties have distinct names, and these names have the ranks at the numbers that they give.
-pub record AreRanked (sorted : List (List ℕ)) (ranks : List ℕ) (properties : List NumberedProperty)
+pub record AreRanked (sorted : List (List ℕ)) (ranks : List ℕ) (properties : List TreePropertyModel)
     : Type 0 where
-  pub distinct : AreDistinct (property_names properties)
+  pub distinct : AreDistinct (own_property_names properties)
   pub ranked : AllByRecursion
       (λ property. IsNumberOf sorted property.name (slice_index_or ranks property.number 0)) properties
 
@@ -94,23 +94,23 @@ named_entries names entries = map (λ entry. (name_numbered names entry.0, entry
 abbrev pub ranked_values : List (ℕ × Bor (List ℕ)) → List (ℕ × List ℕ)
 ranked_values entries = map (λ entry. (entry.0, entry.1.now)) entries
 
-abbrev pub values_by_rank : (ranks : List ℕ) → List NumberedProperty → List (ℕ × List ℕ)
+abbrev pub values_by_rank : (ranks : List ℕ) → List TreePropertyModel → List (ℕ × List ℕ)
 values_by_rank ranks properties =
     map (λ property. (slice_index_or ranks property.number 0, property.value)) properties
 
 -- So do those of each of these nodes.
-abbrev pub AreRankedNodes : List (List ℕ) → List ℕ → Nodes (List NumberedProperty) → Type 0
+abbrev pub AreRankedNodes : List (List ℕ) → List ℕ → Nodes (List TreePropertyModel) → Type 0
 AreRankedNodes sorted ranks nodes = EachOwn (AreRanked sorted ranks) nodes
 
 -- Names of properties of these nodes are distinct, and the long ones are together longer than the
 -- limit.
-abbrev pub HaveLongNames : (limit : ℕ) → Nodes (List NumberedProperty) → Type 0
+abbrev pub HaveLongNames : (limit : ℕ) → Nodes (List TreePropertyModel) → Type 0
 HaveLongNames limit nodes =
     (names : List (List ℕ)) × AreDistinct names × AllByRecursion (Contains (all_names nodes)) names
     × (limit < length (flat_map name_if_long names))
 
 -- Names in byte order, and the rank of each of those that properties of these nodes have, at the
 -- number that the property gives.
-pub record HasRanks (nodes : Nodes (List NumberedProperty)) (ranked : NameRanks) : Type 0 where
+pub record HasRanks (nodes : Nodes (List TreePropertyModel)) (ranked : NameRanks) : Type 0 where
   pub in_order : IsStrictlySortedBy (slice_cmp nat_cmp) (bytes_of ranked.names.items)
   pub ranks : AreRankedNodes (bytes_of ranked.names.items) ranked.ranks.items nodes

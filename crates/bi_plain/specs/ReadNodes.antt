@@ -3,7 +3,7 @@ use Rattle.bi_blob.specs.Tree.{Nodes, EachOwn, FileNode, with_each}
 use Rattle.bi_blob.specs.Lookups.{Sibling}
 use Rattle.bi_fdt.specs.Order.{KeyedProperty}
 use Rattle.bi_fit.specs.NormalNodes.{nodes_by_name, properties_by_name}
-use Rattle.bi_tree.specs.Properties.{NumberedProperty}
+use Rattle.bi_tree.specs.Properties.{TreePropertyModel}
 use Rattle.bi_tree.specs.TreeNodes.{TreeNodeModel}
 use Rattle.bi_tree.specs.Trees.{AreNumberedAmong, by_name}
 use Rattle.bi_plain.specs.PlainNodes.{AreNumberedNodes, models_by_name}
@@ -11,13 +11,13 @@ use Rattle.bi_plain.specs.PlainNodes.{AreNumberedNodes, models_by_name}
 -- What nodes of a tree that can be changed have, if they are read from a file.
 
 -- Properties whose keys are the numbers of their names.
-abbrev pub numbered_properties : List KeyedProperty → List NumberedProperty
+abbrev pub numbered_properties : List KeyedProperty → List TreePropertyModel
 numbered_properties keyed =
     map (λ one. record { name = one.1.name; number = one.0; value = one.1.value }) keyed
 
 -- These are the properties of a node of a file, and give the numbers of their names.
 pub record AreReadProperties (names : List (List ℕ)) (own : FileNode)
-    (properties : List NumberedProperty) : Type 0 where
+    (properties : List TreePropertyModel) : Type 0 where
   pub same : by_name properties ≡ properties_by_name own
   pub numbered : AreNumberedAmong names properties
 

@@ -4,7 +4,7 @@ use Rattle.std.proofs.lemmas.List.{take_all}
 use Rattle.std.proofs.Common.{bytes_eq}
 use Rattle.bi_blob.specs.Tree.{Nodes, none, node, Root}
 use Rattle.bi_tree.specs.Changes.{with_node, with_new_node, with_change_at, with_node_at, without_node_at}
-use Rattle.bi_tree.specs.Properties.{NumberedProperty, with_own_property, with_property_at}
+use Rattle.bi_tree.specs.Properties.{TreePropertyModel, with_own_property, with_property_at}
 use Rattle.bi_base.specs.Slices.{bytes_of}
 
 -- Changes of trees, one after the other.
@@ -28,7 +28,7 @@ are_one name change first_change (node other own children later) =
     one_first name other change first_change own children later (are_one name change first_change later) (bytes_eq other name) refl
 
 -- A property is set in a node below another one by adding the node that leads to it and setting it there.
-pub set_below : (name : List ℕ) (path : List (List ℕ)) (new : NumberedProperty) (root : Root (List NumberedProperty)) →
+pub set_below : (name : List ℕ) (path : List (List ℕ)) (new : TreePropertyModel) (root : Root (List TreePropertyModel)) →
     with_property_at (name ∷ path) new root
     ≡ record { own = root.own; children = with_node name (with_property_at path new) (with_new_node [] name root.children) }
 set_below name path new root =

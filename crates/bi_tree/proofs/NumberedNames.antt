@@ -32,9 +32,9 @@ new_first name first later rest true same none = let no = rw same at none in abs
 new_first name first later rest false differs none =
     let more = rw differs at none in (other_bytes first name differs, rest (omega (arith, more)))
 
-pub not_found : (name : List ℕ) (names : List (List ℕ)) → IsNewThen name names
-not_found name [] none = tt
-not_found name (first ∷ later) none = new_first name first later (not_found name later) (bytes_eq first name) refl none
+pub name_not_found : (name : List ℕ) (names : List (List ℕ)) → IsNewThen name names
+name_not_found name [] none = tt
+name_not_found name (first ∷ later) none = new_first name first later (name_not_found name later) (bytes_eq first name) refl none
 
 -- A name that is added has their number,
 pub added_number : (name : List ℕ) (names : List (List ℕ)) → IsNumberOf (names ++ name ∷ []) name (length names)

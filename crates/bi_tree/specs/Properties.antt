@@ -8,13 +8,13 @@ use Rattle.bi_tree.specs.declared.properties.TreeProperty.{TreeProperty}
 -- The properties of a node of a tree that can be changed.
 
 -- A property, with the number of its name.
-pub record NumberedProperty : Type 0 where
+pub record TreePropertyModel : Type 0 where
   pub name : List ℕ
   pub number : ℕ
   pub value : List ℕ
 
 -- How a property is stored.
-abbrev pub property_code : Coded NumberedProperty
+abbrev pub property_code : Coded TreePropertyModel
 property_code =
     code_by (List ℕ × (ℕ × List ℕ)) (coded× (coded_list coded_ℕ) (coded× coded_ℕ (coded_list coded_ℕ)))
     (λ property. (property.name, (property.number, property.value)))
@@ -22,49 +22,49 @@ property_code =
     (λ _. refl)
 
 -- A property, as the code has it.
-abbrev pub tree_property : TreeProperty → NumberedProperty
+abbrev pub tree_property : TreeProperty → TreePropertyModel
 tree_property property = record {
   name = property.name.now;
   number = property.number;
   value = cow_slice_items property.value;
 }
 
-abbrev pub tree_properties : List TreeProperty → List NumberedProperty
+abbrev pub tree_properties : List TreeProperty → List TreePropertyModel
 tree_properties properties = map tree_property properties
 
 -- Properties without the numbers of their names.
-abbrev pub without_numbers : List NumberedProperty → List Property
+abbrev pub without_numbers : List TreePropertyModel → List Property
 without_numbers properties = map (λ property. (property.name, property.value)) properties
 
 -- The names of properties.
-abbrev pub property_names : List NumberedProperty → List (List ℕ)
-property_names properties = map (λ property. property.name) properties
+abbrev pub own_property_names : List TreePropertyModel → List (List ℕ)
+own_property_names properties = map (λ property. property.name) properties
 
 -- Properties with this one instead of the first one with its name. If there is none, it is added as
 -- the last.
-abbrev pub with_property_in : NumberedProperty → List NumberedProperty → List NumberedProperty
+abbrev pub with_property_in : TreePropertyModel → List TreePropertyModel → List TreePropertyModel
 with_property_in new [] = new ∷ []
 with_property_in new (first ∷ later) =
     if bytes_eq first.name new.name then new ∷ later
     else first ∷ with_property_in new later
 
 -- Properties without the first one with this name.
-abbrev pub without_property_in : (name : List ℕ) → List NumberedProperty → List NumberedProperty
+abbrev pub without_property_in : (name : List ℕ) → List TreePropertyModel → List TreePropertyModel
 without_property_in name [] = []
 without_property_in name (first ∷ later) =
     if bytes_eq first.name name then later else first ∷ without_property_in name later
 
 -- A node with this property, and one without a property.
-abbrev pub with_own_property : NumberedProperty → Root (List NumberedProperty)
-    → Root (List NumberedProperty)
+abbrev pub with_own_property : TreePropertyModel → Root (List TreePropertyModel)
+    → Root (List TreePropertyModel)
 with_own_property new root = record root { own = with_property_in new root.own }
 
-abbrev pub without_own_property : (name : List ℕ) → Root (List NumberedProperty)
-    → Root (List NumberedProperty)
+abbrev pub without_own_property : (name : List ℕ) → Root (List TreePropertyModel)
+    → Root (List TreePropertyModel)
 without_own_property name root = record root { own = without_property_in name root.own }
 
 -- A tree with this property in the node at a path. The nodes of the path are added if they are not
 -- there.
-abbrev pub with_property_at : (path : List (List ℕ)) → NumberedProperty
-    → Root (List NumberedProperty) → Root (List NumberedProperty)
+abbrev pub with_property_at : (path : List (List ℕ)) → TreePropertyModel
+    → Root (List TreePropertyModel) → Root (List TreePropertyModel)
 with_property_at path new root = with_change_at path (with_own_property new) (with_node_at [] path root)

@@ -4,38 +4,38 @@ use Rattle.std.specs.FinMap.{empty, from_entries, get, insert, remove}
 use Rattle.bi_blob.specs.Tree.{Root, PropertyMap, AreDistinct, EachOwn, as_nodes, with_each_node}
 use Rattle.bi_fdt.specs.Numbers.{IsNumberOf}
 use Rattle.bi_tree.specs.Changes.{node_by_path, with_change_at, with_node_at}
-use Rattle.bi_tree.specs.Properties.{NumberedProperty, property_names, without_numbers}
+use Rattle.bi_tree.specs.Properties.{TreePropertyModel, own_property_names, without_numbers}
 
 -- Trees of properties by name, and what a change of a property makes of one (Devicetree
 -- Specification, 2.2.4).
 
 -- Properties by name, without the numbers of their names.
-abbrev pub by_name : List NumberedProperty → PropertyMap
+abbrev pub by_name : List TreePropertyModel → PropertyMap
 by_name properties = from_entries (without_numbers properties)
 
 -- A tree with the properties of each node by name.
-abbrev pub tree_by_name : Root (List NumberedProperty) → Root PropertyMap
+abbrev pub tree_by_name : Root (List TreePropertyModel) → Root PropertyMap
 tree_by_name root = with_each_node by_name root
 
 -- The properties of a node have distinct names, and among these names the numbers that they give.
-pub record AreNumberedAmong (names : List (List ℕ)) (properties : List NumberedProperty) : Type 0
+pub record AreNumberedAmong (names : List (List ℕ)) (properties : List TreePropertyModel) : Type 0
   where
-    pub distinct : AreDistinct (property_names properties)
+    pub distinct : AreDistinct (own_property_names properties)
     pub numbered : AllByRecursion (λ property. IsNumberOf names property.name property.number)
         properties
 
 -- So it is in each node of a tree.
-abbrev pub IsNumberedTree : List (List ℕ) → Root (List NumberedProperty) → Type 0
+abbrev pub IsNumberedTree : List (List ℕ) → Root (List TreePropertyModel) → Type 0
 IsNumberedTree names root = EachOwn (AreNumberedAmong names) (as_nodes root)
 
 -- So it is in each node of a tree, and these names are distinct.
-pub record AreNamesOfTree (names : List (List ℕ)) (root : Root (List NumberedProperty)) : Type 0
+pub record AreNamesOfTree (names : List (List ℕ)) (root : Root (List TreePropertyModel)) : Type 0
   where
     pub distinct : AreDistinct names
     pub numbered : IsNumberedTree names root
 
 -- The value of the first of these properties with a name, if one has it.
-abbrev pub first_value : List NumberedProperty → (name : List ℕ) → Option (List ℕ)
+abbrev pub first_value : List TreePropertyModel → (name : List ℕ) → Option (List ℕ)
 first_value properties name = get (by_name properties) name
 
 -- The value of a property of the node at a path, if there is one.

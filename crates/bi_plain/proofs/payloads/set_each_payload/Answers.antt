@@ -5,7 +5,7 @@ use Rattle.bi_tree.specs.TreeNodes.{below}
 use Rattle.bi_tree.specs.Trees.{tree_by_name}
 use Rattle.bi_plain.specs.PlainNodes.{first_or_none, with_own_payload, with_own_payloads}
 use Rattle.bi_plain.proofs.ChangedNodes.{all_changed, named_before, numbered_after, one_changed}
-use Rattle.bi_plain.proofs.OwnPayloads.{one_fewer}
+use Rattle.bi_plain.proofs.OwnPayloads.{one_payload_fewer}
 use Rattle.bi_plain.proofs.payloads.set_each_payload.Goals as goal
 
 pub returns-in_err-set_payload-clause-numbered : goal.returns-in_err-set_payload-clause-numbered
@@ -30,7 +30,7 @@ loop-index-preserved c =
           (c.in_ok-set_payload.ensures.set
           ∙ ap (λ payload. with_own_payload payload (tree_by_name (below old))) c.payload_at.ensures)
           (with_own_payloads rest later)
-          ∙ ap (λ l. named_node old.name given (with_own_payloads l later)) (one_fewer payloads index))
+          ∙ ap (λ l. named_node old.name given (with_own_payloads l later)) (one_payload_fewer payloads index))
           ∙ c.loop-index.invariant.0,
       λ names is all. numbered_after names nodes index new c.index-nodes-index.result within (c.set_payload.ensures.numbered names is)
           (c.loop-index.invariant.1 names is all),

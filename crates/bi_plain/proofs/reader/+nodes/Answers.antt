@@ -6,7 +6,7 @@ use Rattle.bi_fdt.specs.Order.{IsNumberOrder}
 use Rattle.bi_fdt.specs.Views.{node_of, table_of_node}
 use Rattle.bi_fit.specs.NormalNodes.{HasDistinctNames}
 use Rattle.bi_fit.proofs.NodeEvents.{nodes_from, nodes_from_first}
-use Rattle.bi_plain.proofs.ReadLists.{IsReading, HasSameTable, all_read, none_read, one_read}
+use Rattle.bi_plain.proofs.ReadLists.{IsReadingNodes, HasSameTable, all_nodes_read, no_nodes_read, one_node_read}
 use Rattle.bi_plain.proofs.reader.+nodes.Goals as goal
 
 pub read_children-loop-next-init : goal.read_children-loop-next-init
@@ -15,8 +15,8 @@ read_children-loop-next-init t c =
     let all : nodes_from (option_map node_of c.first_child-next.result) ≡ s.children = ap nodes_from c.first_child-next.ensures.child
     ∙ nodes_from_first s.children in
     rw all (record {
-      reading = λ names order. subst (λ items. IsReading names s.children items s.children) (sym c.new-children.ensures.items)
-          (none_read names s.children);
+      reading = λ names order. subst (λ items. IsReadingNodes names s.children items s.children) (sym c.new-children.ensures.items)
+          (no_nodes_read names s.children);
       table = c.first_child-next.ensures.same_table;
       distinct = c.requires.distinct;
       shallow = omega arith;
@@ -47,9 +47,9 @@ read_children-loop-next-preserved t c =
     subst (λ nodes. depth nodes ≤ depth all) here c.loop-next.invariant.shallow in
     rw rest (record {
       reading = λ names order.
-          subst (λ items. IsReading names all items s.later) (sym c.in_ok-push.ensures.items)
-          (one_read names all c.loop-next.children.items s top
-          (subst (IsReading names all c.loop-next.children.items) here (c.loop-next.invariant.reading names order))
+          subst (λ items. IsReadingNodes names all items s.later) (sym c.in_ok-push.ensures.items)
+          (one_node_read names all c.loop-next.children.items s top
+          (subst (IsReadingNodes names all c.loop-next.children.items) here (c.loop-next.invariant.reading names order))
           (c.in_ok-read_node.ensures names (subst (λ table. IsNumberOrder names table c.args.order.now) (sym table) order)));
       table = subst (λ table. HasSameTable table c.next_sibling-next.result) table c.next_sibling-next.ensures.same_table;
       distinct = distinct.2;
@@ -59,8 +59,8 @@ read_children-loop-next-preserved t c =
 pub read_children-returns : goal.read_children-returns
 read_children-returns t c names order =
     let all = (node_of c.args.node).children in
-    all_read names all c.loop-next.children.items
-    (subst (λ next. IsReading names all c.loop-next.children.items (nodes_from (option_map node_of next))) c.in_default.is
+    all_nodes_read names all c.loop-next.children.items
+    (subst (λ next. IsReadingNodes names all c.loop-next.children.items (nodes_from (option_map node_of next))) c.in_default.is
     (c.loop-next.invariant.reading names order))
 
 pub read_node-returns : goal.read_node-returns

@@ -6,7 +6,7 @@ use Rattle.bi_fdt.specs.Order.{IsNumberOrder}
 use Rattle.bi_fdt.specs.Views.{node_of, table_of_node}
 use Rattle.bi_fit.specs.NormalNodes.{HasDistinctNames}
 use Rattle.bi_fit.proofs.NodeEvents.{nodes_from}
-use Rattle.bi_plain.proofs.ReadLists.{IsReading, HasSameTable}
+use Rattle.bi_plain.proofs.ReadLists.{IsReadingNodes, HasSameTable}
 use Rattle.bi_plain.proofs.reader.+nodes.Given as goal
 
 -- A node calls for its children, and these for each of them.
@@ -19,7 +19,7 @@ decreases-read_node l = 2 * depth (node_of l.node).children + 1
 abbrev pub invariant-read_children-loop-next : goal.invariant-read_children-loop-next
 invariant-read_children-loop-next l = record {
   reading : (names : List (List ℕ)) → IsNumberOrder names (table_of_node l.node) l.order →
-      IsReading names (node_of l.node).children l.children.items (nodes_from (option_map node_of l.next));
+      IsReadingNodes names (node_of l.node).children l.children.items (nodes_from (option_map node_of l.next));
   table : HasSameTable (table_of_node l.node) l.next;
   distinct : EachOwn HasDistinctNames (nodes_from (option_map node_of l.next));
   shallow : depth (nodes_from (option_map node_of l.next)) ≤ depth (node_of l.node).children;

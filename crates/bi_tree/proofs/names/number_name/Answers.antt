@@ -3,7 +3,7 @@ use Rattle.bi_base.specs.Slices.{bytes_of}
 use Rattle.bi_blob.specs.Tree.{AreDistinct}
 use Rattle.bi_fdt.specs.Numbers.{IsNumberOf}
 use Rattle.bi_tree.specs.TreeNodes.{index_named}
-use Rattle.bi_tree.proofs.NumberedNames.{found_number, not_found, distinct_with_new, bytes_with, length-bytes}
+use Rattle.bi_tree.proofs.NumberedNames.{found_number, name_not_found, distinct_with_new, bytes_with, length-bytes}
 use Rattle.bi_tree.proofs.names.number_name.Goals as goal
 
 pub returns-in_ok-push-clause-more : goal.returns-in_ok-push-clause-more
@@ -18,7 +18,7 @@ returns-in_ok-push-clause-distinct c distinct =
     ∙ c.if-number-len.true ∙ c.len.ensures ∙ sym c.deref.ensures.len ∙ ap length c.deref.ensures.value
     ∙ sym (length-bytes c.args.names.now.items) in
     subst AreDistinct (sym (ap bytes_of c.in_ok-push.ensures.items ∙ bytes_with c.args.names.now.items c.args.name))
-    (distinct_with_new c.args.name.now names (not_found c.args.name.now names none) distinct)
+    (distinct_with_new c.args.name.now names (name_not_found c.args.name.now names none) distinct)
 
 pub returns-else-number-len-clause-number : goal.returns-else-number-len-clause-number
 returns-else-number-len-clause-number c =
