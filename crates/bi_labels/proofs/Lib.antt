@@ -1,0 +1,2 @@
+mod LinesInTexts
+mod LabelFacts

@@ -1,0 +1,4 @@
+pub mod LabelledTexts
+pub mod LabelledCommands
+pub mod LabelLaws
+pub mod KnownLabels
