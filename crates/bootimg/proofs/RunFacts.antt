@@ -13,7 +13,8 @@ use Rattle.bootimg.specs.declared.command_line.source.ImageSource.{ImageSource}
 use Rattle.bootimg.specs.declared.failure.Failure.{Failure}
 use Rattle.bi_files.specs.Files.{FileStep, KnownFiles}
 use Rattle.bootimg.specs.declared.tasks.Done.{Done}
-use Rattle.bootimg.specs.Runs.{IsPlainRun, IsRun, IsTaskWork, Logs, IsLogged, HasStopped, IsRejection, Reports, Run, Work, Succeeded}
+use Rattle.bootimg.specs.Runs.{IsTaskWork, Logs, IsLogged, HasStopped, IsRejection, Reports, Run, Work, Succeeded}
+use Rattle.bootimg.specs.ProgramRuns.{IsPlainRun, IsRun}
 use Rattle.bootimg.specs.Runs.{HasFailed, IsAskedFor, IsMistake, source_failure}
 use Rattle.bootimg.specs.Tasks.{plan_promise}
 

@@ -25,8 +25,10 @@ use Rattle.bootimg.specs.Runs.{WroteDifferences, NotAllWritten, NotCompared, IsC
 use Rattle.bootimg.specs.Runs.{IsExplainWork, WroteExplanation, ExplanationNotWritten, NoMemoryForExplanation, IsBuiltWork, WasBuilt}
 use Rattle.bootimg.specs.Runs.{WasNotBuilt, IsBuildWork, BuiltWithInput, BuiltOfFiles, PartNotRead, NoRoom, IsJobWork, IsHeldWork}
 use Rattle.bootimg.specs.Runs.{IsSavedWork, OutputSaved, OutputNotSaved, NoOutput, IsOutputRun, ToStandardOutput, ToFile, IsEnd, EndsWell}
-use Rattle.bootimg.specs.Runs.{EndsWithFailure, IsRequestRun, IsTextRun, IsWritten, IsNotWritten, IsUsage, IsRun, RanJob, Rejected}
-use Rattle.bootimg.specs.Runs.{WroteText, ExtractedAll, IsAllRun, IsAllWork, PayloadsSaved, PayloadsNotSaved, NotExtracted, NothingRead}
+use Rattle.bootimg.specs.Runs.{EndsWithFailure, IsRequestRun, IsTextRun, IsWritten, IsNotWritten, IsUsage}
+use Rattle.bootimg.specs.ProgramRuns.{IsRun, RanJob, Rejected}
+use Rattle.bootimg.specs.Runs.{IsAllRun, IsAllWork, PayloadsSaved, PayloadsNotSaved, NotExtracted, NothingRead}
+use Rattle.bootimg.specs.ProgramRuns.{WroteText, ExtractedAll}
 
 -- A run has the same streams before and after it.
 

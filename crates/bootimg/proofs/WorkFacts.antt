@@ -51,11 +51,15 @@ use Rattle.bootimg.specs.KnownWorks.{OutputsInFilesAreKnown, PartsOfFilesAreKnow
 use Rattle.bootimg.specs.KnownWorks.{all_of_in, bytes_in_part, explanation, file_in, in_job, in_plan, normalising, only_in, parts_a_and_b}
 use Rattle.bootimg.specs.Program.{program_app}
 use Rattle.bootimg.specs.Runs.{ArePartsRead, AreFirstRead, DoneOnFile, DoneOnInput, EndsWell, EndsWithFailure, ExplanationNotWritten}
-use Rattle.bootimg.specs.Runs.{ExtractedAll, FileNotOpened, HasFailed, HasNone, HasSome, Inputs, IsAllWork, IsEnd, IsExplainWork}
+use Rattle.bootimg.specs.Runs.{FileNotOpened, HasFailed, HasNone, HasSome, Inputs, IsAllWork, IsEnd, IsExplainWork}
+use Rattle.bootimg.specs.ProgramRuns.{ExtractedAll}
 use Rattle.bootimg.specs.Runs.{IsFileNotRead, CouldNotOpen, OpenedNotRead, IsHeldFailure, IsHeldWork, IsImageWork, IsJobWork, IsOutputRun}
-use Rattle.bootimg.specs.Runs.{IsPart, IsPartNotRead, IsRun, IsSavedWork, IsTaskWork, NoMemoryForExplanation, NoOutput, NotExtracted, Notes}
-use Rattle.bootimg.specs.Runs.{NothingRead, OutputNotSaved, OutputSaved, PayloadsNotSaved, PayloadsSaved, RanJob, Rejected, Run, Succeeded}
-use Rattle.bootimg.specs.Runs.{ToFile, ToStandardOutput, Work, WroteExplanation, WroteText, failure_in_memory, source_failure}
+use Rattle.bootimg.specs.Runs.{IsPart, IsPartNotRead, IsSavedWork, IsTaskWork, NoMemoryForExplanation, NoOutput, NotExtracted, Notes}
+use Rattle.bootimg.specs.ProgramRuns.{IsRun}
+use Rattle.bootimg.specs.Runs.{NothingRead, OutputNotSaved, OutputSaved, PayloadsNotSaved, PayloadsSaved, Run, Succeeded}
+use Rattle.bootimg.specs.ProgramRuns.{RanJob, Rejected}
+use Rattle.bootimg.specs.Runs.{ToFile, ToStandardOutput, Work, WroteExplanation, failure_in_memory, source_failure}
+use Rattle.bootimg.specs.ProgramRuns.{WroteText}
 use Rattle.bootimg.specs.Runs.{NotesAlignment, NotesCount, inputs_after, inputs_before, note_line, positions_line, with_input, work_of}
 use Rattle.bootimg.specs.Tasks.{IsCallFailure, EndedWith, plan_promise, status_of}
 use Rattle.bootimg.specs.declared.command_line.Job.{Job}

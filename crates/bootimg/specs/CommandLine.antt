@@ -45,6 +45,7 @@ use Rattle.bootimg.specs.declared.command_line.build.FitPlan.{FitPlan}
 use Rattle.bootimg.specs.declared.command_line.build.LegacyPlan.{LegacyPlan}
 use Rattle.bootimg.specs.declared.command_line.image.ImageFields.{ImageFields}
 use Rattle.bootimg.specs.declared.command_line.image.ImageWord.{ImageWord}
+use Rattle.bootimg.specs.declared.command_line.images.ImagesRequest.{ImagesRequest}
 use Rattle.bootimg.specs.declared.command_line.part.PartSource.{PartSource}
 use Rattle.bootimg.specs.declared.command_line.part.PartSource.TheVariants as part
 use Rattle.bootimg.specs.declared.command_line.show.ShowForm.{ShowForm}
@@ -81,7 +82,7 @@ use Rattle.clap.specs.declared.error.Error.{Error as ClapError}
 use Rattle.clap.specs.declared.error.kind.ErrorKind.{ErrorKind}
 use Rattle.clap.specs.declared.error.kind.ErrorKind.TheVariants as error_kind
 use Rattle.clap.specs.declared.parser.matches.ArgMatches.{ArgMatches}
-use Rattle.bootimg.specs.Program.{program_app}
+use Rattle.bootimg.specs.Program.{IsAmongNames, program_app}
 
 -- What the arguments of the program request (profile of this project).
 
@@ -241,6 +242,41 @@ IsImageSource None Standard = ⊤
 IsImageSource None (File name) = ⊥
 IsImageSource (Some argument) Standard = argument ≡ codes "-"
 IsImageSource (Some argument) (File name) = (name.now ≡ argument) × (argument ≢ codes "-")
+
+-- ---- several images
+
+-- The command of this name takes any number of images.
+abbrev pub TakesImages : List ℕ → Type 0
+TakesImages name =
+    IsAmongNames (codes "list" ∷ codes "verify" ∷ codes "check" ∷ codes "scan" ∷ []) name
+
+-- The arguments that name images.
+abbrev pub image_arguments : ArgMatches → List (List ℕ)
+image_arguments options = values_of options (codes "file")
+
+-- Several images are named, and the command takes them.
+pub record NamesImages (name : List ℕ) (options : ArgMatches) : Type 0 where
+  pub takes : TakesImages name
+  pub several : 2 ≤ length (image_arguments options)
+
+-- At most one image is named, if the command takes any number of them.
+abbrev pub NamesNoMore : List ℕ → ArgMatches → Type 0
+NamesNoMore name options = TakesImages name → length (image_arguments options) ≤ 1
+
+-- Each argument names an image.
+abbrev pub AreImageSources : List (List ℕ) → List ImageSource → Type 0
+AreImageSources arguments sources =
+    AllZip (λ argument. IsImageSource (Some argument)) arguments sources
+
+-- Whether an image is standard input.
+abbrev pub is_standard : ImageSource → Bool
+is_standard Standard = true
+is_standard (File name) = false
+
+-- The arguments name these images. At most one of them is standard input.
+pub record AreSources (arguments : List (List ℕ)) (sources : List ImageSource) : Type 0 where
+  pub each : AreImageSources arguments sources
+  pub one_input : count_by is_standard sources ≤ 1
 
 -- ---- compare
 
@@ -667,6 +703,7 @@ pub record IsImagePlan (name : List ℕ) (options : ArgMatches) (plan : ImagePla
   pub task : IsTask name options plan.task
   pub offset : IsNumber (given_offset options) plan.offset
   pub source : IsImageSource (option_of options (codes "file")) plan.source
+  pub no_more : NamesNoMore name options
 
 -- The command of this name, with its options, builds this.
 abbrev pub IsBuildPlan : List ℕ → ArgMatches → BuildPlan → Type 0
@@ -712,6 +749,24 @@ pub data IsTaskFailure (name : List ℕ) (options : ArgMatches) (failure : Failu
       → IsBadValue (IsExplained (option_of options (codes "cause"))) failure
       → IsTaskFailure name options failure
 
+-- The command of this name, with its options, is to be done with each of several images.
+pub record IsImagesRequest (name : List ℕ) (options : ArgMatches) (request : ImagesRequest) : Type 0
+  where
+    pub names : NamesImages name options
+    pub task : IsTask name options request.task
+    pub offset : IsNumber (given_offset options) request.offset
+    pub sources : AreSources (image_arguments options) request.sources.items
+    pub limits : IsLimits (limit_of options) request.limits
+    pub output : option_map (λ name. name.now) request.output ≡ option_of options (codes "output")
+
+-- Why the options of the command of this name, with several images, are not such a request.
+pub data IsImagesFailure (name : List ℕ) (options : ArgMatches) (failure : Failure) : Type 0 where
+  NoTaskForEach : IsTaskFailure name options failure → IsImagesFailure name options failure
+  TwoInputs : IsBadValue (AreSources (image_arguments options)) failure
+      → IsImagesFailure name options failure
+  NoLimitsForEach : IsBadValue (IsLimits (limit_of options)) failure
+      → IsImagesFailure name options failure
+
 -- ---- the arguments
 
 -- clap accepts the arguments, and they give this command these options.
@@ -727,12 +782,16 @@ pub data IsOutcomeOf (error : ClapError) (given : NoRequest) : Type 0 where
       → IsOutcomeOf error given
 
 -- Why the arguments request nothing, though clap accepts them: the options of the command are not a
--- job or are not limits, or those of `extract --all` are not a request, or memory ran out.
+-- job or are not limits, or those for several images or of `extract --all` are not a request, or
+-- memory ran out.
 pub data IsRejected (arguments : List (List ℕ)) (failure : Failure) : Type 0 where
   NoJob : (name : List ℕ) (options : ArgMatches) → Gives arguments name options
       → IsTaskFailure name options failure → IsRejected arguments failure
   NoLimits : (name : List ℕ) (options : ArgMatches) (job : Job) → Gives arguments name options
       → IsJob name options job → IsBadValue (IsLimits (limit_of options)) failure
+      → IsRejected arguments failure
+  NotEach : (name : List ℕ) (options : ArgMatches) → Gives arguments name options
+      → NamesImages name options → IsImagesFailure name options failure
       → IsRejected arguments failure
   NotAll : (options : ArgMatches) → Gives arguments (codes "extract") options
       → SelectsAll options true → IsAllFailure options failure → IsRejected arguments failure
@@ -765,17 +824,27 @@ pub record IsAllRequested (arguments : List (List ℕ)) (request : AllRequest) :
   pub none : IsNoneGiven options
   pub is : IsAllRequest options request
 
+-- The arguments request that something is done with each of several images.
+pub record IsImagesRequested (arguments : List (List ℕ)) (request : ImagesRequest) : Type 0 where
+  pub name : List ℕ
+  pub options : ArgMatches
+  pub given : Gives arguments name options
+  pub is : IsImagesRequest name options request
+
 -- The arguments request this.
 abbrev pub IsOrder : List (List ℕ) → Order → Type 0
 IsOrder arguments (order.Do request) = IsRequest arguments request
+IsOrder arguments (order.DoEach request) = IsImagesRequested arguments request
 IsOrder arguments (order.ExtractAll request) = IsAllRequested arguments request
 
 -- If a flattened image tree is to be built, there are as many lengths or files as images.
 abbrev pub HasOrderLengths : Order → Type 0
 HasOrderLengths (order.Do request) = HasJobLengths request.job
+HasOrderLengths (order.DoEach request) = ⊤
 HasOrderLengths (order.ExtractAll request) = ⊤
 
 -- A tree may have 64 levels.
 abbrev pub HasOrderDepth : Order → Type 0
 HasOrderDepth (order.Do request) = request.limits.depth ≡ 64
+HasOrderDepth (order.DoEach request) = request.limits.depth ≡ 64
 HasOrderDepth (order.ExtractAll request) = request.limits.depth ≡ 64

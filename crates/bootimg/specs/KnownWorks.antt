@@ -31,7 +31,8 @@ use Rattle.bootimg.specs.declared.explanations.Topic.TheVariants as topic
 use Rattle.bootimg.specs.Failures.{failure_to_save}
 use Rattle.bootimg.specs.KnownInputs.{one_file, two_files, without_files}
 use Rattle.bootimg.specs.Runs.{ArePartsRead, AreFirstRead, IsAllWork, IsExplainWork, IsHeldFailure}
-use Rattle.bootimg.specs.Runs.{IsImageWork, IsOutputRun, IsPart, IsPartNotRead, IsPlainRun, Inputs}
+use Rattle.bootimg.specs.Runs.{IsImageWork, IsOutputRun, IsPart, IsPartNotRead, Inputs}
+use Rattle.bootimg.specs.ProgramRuns.{IsPlainRun}
 use Rattle.bootimg.specs.Runs.{Run, Work, failure_in_memory, no_input, plan_of_options}
 use Rattle.bootimg.specs.Runs.{source_failure}
 use Rattle.bootimg.specs.Selections.{select_of}

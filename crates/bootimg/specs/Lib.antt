@@ -13,6 +13,8 @@ pub mod Offsets
 pub mod ReadParts
 pub mod Tasks
 pub mod Runs
+pub mod SeveralImages
+pub mod ProgramRuns
 pub mod Selections
 pub mod Explanations
 pub mod ErrorLines

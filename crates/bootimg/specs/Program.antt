@@ -92,6 +92,10 @@ offset = option_with_default (codes "offset") (codes "0")
 abbrev pub file : Rule
 file = positional (codes "file")
 
+-- The files of any number of images.
+abbrev pub files : Rule
+files = positionals (codes "file")
+
 -- ---- commands
 
 -- A command of this name with these options.
@@ -116,7 +120,7 @@ show = command (codes "show")
 
 -- `list`.
 abbrev pub list : Shape
-list = command (codes "list") (json ∷ offset ∷ limit ∷ output ∷ file ∷ [])
+list = command (codes "list") (json ∷ offset ∷ limit ∷ output ∷ files ∷ [])
 
 -- `describe`.
 abbrev pub describe : Shape
@@ -133,17 +137,17 @@ compare =
 
 -- `verify`.
 abbrev pub verify : Shape
-verify = command (codes "verify") (json ∷ offset ∷ limit ∷ output ∷ file ∷ [])
+verify = command (codes "verify") (json ∷ offset ∷ limit ∷ output ∷ files ∷ [])
 
 -- `check`.
 abbrev pub check : Shape
 check = command (codes "check")
     (value_option (codes "allow") ∷ flag_option (codes "signed") ∷ json ∷ offset ∷ limit ∷ output
-    ∷ file ∷ [])
+    ∷ files ∷ [])
 
 -- `scan`.
 abbrev pub scan : Shape
-scan = command (codes "scan") (json ∷ offset ∷ limit ∷ output ∷ file ∷ [])
+scan = command (codes "scan") (json ∷ offset ∷ limit ∷ output ∷ files ∷ [])
 
 -- `update`.
 abbrev pub update : Shape

@@ -9,7 +9,7 @@ ghost use Rattle.bootimg.specs.declared.command_line.source.ImageSource.TheVaria
 ghost use Rattle.bootimg.specs.declared.failure.Failure.TheVariants.{Call};
 ghost use Rattle.bootimg.specs.Runs.{IsComparedWork, IsCompareWork, IsFileNotRead, IsFileRead};
 ghost use Rattle.bootimg.specs.Runs.{IsExplainWork, IsImageNotRead, IsImageRead};
-ghost use Rattle.bootimg.specs.Runs.{IsImageWork, IsJobWork, IsNotRead};
+ghost use Rattle.bootimg.specs.Runs.{IsImageWork, IsJobWork, IsNotRead, IsPlanWork};
 ghost use Rattle.bootimg.specs.Runs.{source_failure};
 ghost use Rattle.bi_base.specs.Reading.{IsInputRead};
 ghost use Rattle.bi_base.specs.Traces.{ReadTrace};
@@ -18,9 +18,9 @@ use crate::builds::build_image;
 use crate::command_line::{ComparePlan, ImagePlan, ImageSource, Job};
 use crate::explanations::{Topic, explanation};
 use crate::failure::Failure;
-use crate::tasks::Done;
+use crate::tasks::{Done, PlacedTask};
 use bi_base::{
-    Cause, Error, Limits, TracedRead, TracedWrite, pipe, read_all_traced, write_and_flush,
+    Cause, Command, Error, Limits, TracedRead, TracedWrite, pipe, read_all_traced, write_and_flush,
 };
 use bi_commands::compare::{CompareError, Comparison, compare, compare_json, have_same_meaning};
 use bi_commands::format::Format;
@@ -97,7 +97,7 @@ fn run_on_image<'a, S: TracedRead, T: TracedWrite, F: FileSystem>(
     input: &mut S,
     output: &mut T,
 ) -> Result<Done, SourceFailure<'a>>
-    ensures work { IsImageWork (F.known files.old) plan.now limits
+    ensures work { IsPlanWork (F.known files.old) plan.now limits
         (record {
           input = S.trace input.old;
           new_input = S.trace input.new;
@@ -108,21 +108,58 @@ fn run_on_image<'a, S: TracedRead, T: TracedWrite, F: FileSystem>(
         (F.steps files.old) (F.steps files.new) }
     ensures same_files { F.known files.new ≡ F.known files.old }
 {
-    match plan.source {
-        ImageSource::Standard => match pipe(alloc, plan, input, output, limits) {
+    let task = PlacedTask {
+        task: &plan.task,
+        offset: plan.offset,
+    };
+    run_on_source(alloc, &task, plan.source, limits, files, input, output)
+}
+
+/// Runs a command on the image from this source, and returns how it ended. Requires: the command
+/// may be run.
+pub fn run_on_source<
+    'a,
+    C: Command<Value = Done, Failure = Failure<'a>>,
+    S: TracedRead,
+    T: TracedWrite,
+    F: FileSystem,
+>(
+    alloc: Global,
+    command: &C,
+    source: ImageSource<'a>,
+    limits: Limits,
+    files: &mut F,
+    input: &mut S,
+    output: &mut T,
+) -> Result<Done, SourceFailure<'a>>
+    requires can_run { C.can_run command.now }
+    ensures work { IsImageWork (F.known files.old) (C.promise command.now limits) source.entry
+        limits
+        (record {
+          input = S.trace input.old;
+          new_input = S.trace input.new;
+          output = T.trace output.old;
+          new_output = T.trace output.new;
+          outcome = result;
+        })
+        (F.steps files.old) (F.steps files.new) }
+    ensures same_files { F.known files.new ≡ F.known files.old }
+{
+    match source {
+        ImageSource::Standard => match pipe(alloc, command, input, output, limits) {
             Ok(done) => Ok(done),
-            Err(failure) => job_failed(plan.source, failure),
+            Err(failure) => job_failed(source, failure),
         },
         ImageSource::File(name) => match files.open(name) {
             Some(mut image) => {
-                let outcome = pipe(alloc, plan, &mut image, output, limits);
+                let outcome = pipe(alloc, command, &mut image, output, limits);
                 files.close_reader(name, image);
                 match outcome {
                     Ok(done) => Ok(done),
-                    Err(failure) => job_failed(plan.source, failure),
+                    Err(failure) => job_failed(source, failure),
                 }
             }
-            None => job_failed(plan.source, Failure::CannotOpen),
+            None => job_failed(source, Failure::CannotOpen),
         },
     }
 }

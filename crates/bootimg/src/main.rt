@@ -8,6 +8,7 @@ mod error_line;
 mod explanations;
 mod extractions;
 mod failure;
+mod images;
 mod jobs;
 mod known_requests;
 mod known_runs;

@@ -1,8 +1,10 @@
 //! The images that the arguments name, and the command `compare`.
 
-ghost use Rattle.std.specs.Prelude.{IfOk, IfErr};
+ghost use Rattle.std.specs.Prelude.{◌≡◌, IfOk, IfErr, Some};
+ghost use Rattle.bi_common.specs.Shown.{shown_text};
 ghost use Rattle.bootimg.specs.CommandLine.{option_of, IsBadValue, IsComparePlan};
-ghost use Rattle.bootimg.specs.CommandLine.{IsImageSource};
+ghost use Rattle.bootimg.specs.CommandLine.{IsImageSource, is_standard as is_standard_of};
+ghost use Rattle.bootimg.specs.SeveralImages.{source_text};
 
 use crate::command_line::options::{flag, format};
 use crate::failure::Failure;
@@ -16,6 +18,29 @@ pub enum ImageSource<'a> {
     Standard,
     /// The file of this name.
     File(&'a str),
+}
+
+impl<'a> ImageSource<'a> {
+    /// Returns whether the image is read from standard input.
+    pub fn is_standard(&self) -> bool
+        ensures { result ≡ is_standard_of self.now }
+    {
+        match self {
+            ImageSource::Standard => true,
+            ImageSource::File(_) => false,
+        }
+    }
+
+    /// Returns the name of the image: that of its file, or no byte for standard input. Both are
+    /// printed as names are.
+    pub fn name(self) -> &'a [u8]
+        ensures { shown_text result.now ≡ source_text self.entry }
+    {
+        match self {
+            ImageSource::Standard => b"",
+            ImageSource::File(name) => name.as_bytes(),
+        }
+    }
 }
 
 /// What `compare` compares.
@@ -37,8 +62,18 @@ pub fn source<'a>(options: &ArgMatches<'a>, id: &str) -> ImageSource<'a>
     ensures { IsImageSource (option_of options.now id.now) result }
 {
     match options.get_str(id) {
-        None | Some("-") => ImageSource::Standard,
-        Some(name) => ImageSource::File(name),
+        None => ImageSource::Standard,
+        Some(argument) => named_source(argument),
+    }
+}
+
+/// Returns the image that an argument names: standard input if it is `-`.
+pub fn named_source(argument: &str) -> ImageSource<'_>
+    ensures { IsImageSource (Some argument.now) result }
+{
+    match argument {
+        "-" => ImageSource::Standard,
+        _ => ImageSource::File(argument),
     }
 }
 

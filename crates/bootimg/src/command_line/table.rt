@@ -222,6 +222,12 @@ const FILE: OptionText = OptionText {
     form: OptionForm::Positional,
 };
 
+const FILES: OptionText = OptionText {
+    help: "Each image: a file, or standard input if it is -. Without IMAGE, standard input is read",
+    form: OptionForm::Positionals,
+    ..FILE
+};
+
 const REQUIRED_FILE: OptionText = OptionText {
     help: "The image: a file, or standard input if it is -",
     form: OptionForm::RequiredPositional,
@@ -553,7 +559,7 @@ static READING_COMMANDS: [CommandText; 4] = [
         name: "list",
         aliases: &[],
         about: "List what an image holds",
-        usage: "bootimg list [OPTIONS] [IMAGE]",
+        usage: "bootimg list [OPTIONS] [IMAGE]...",
         after_help: "\
                  Reads an image, and writes to standard output what it holds. Of a legacy image:\n\
                  its fields, the size and offset of each part, and the number of bytes after the\n\
@@ -561,7 +567,7 @@ static READING_COMMANDS: [CommandText; 4] = [
                  payload, and what each configuration lists, but not where loaders put it:\n\
                  describe does. Sizes and offsets are in bytes.\n\n\
                  Example: bootimg list kernel.uimage",
-        options: &[JSON, OFFSET, LIMIT, OUTPUT, FILE],
+        options: &[JSON, OFFSET, LIMIT, OUTPUT, FILES],
     },
     CommandText {
         name: "describe",
@@ -599,7 +605,7 @@ static CHECKING_COMMANDS: [CommandText; 4] = [
         name: "verify",
         aliases: &[],
         about: "Check the checksums and digests of an image",
-        usage: "bootimg verify [OPTIONS] [IMAGE]",
+        usage: "bootimg verify [OPTIONS] [IMAGE]...",
         after_help: "\
                  Reads an image, and writes to standard output a verdict on each checksum of a\n\
                  legacy image, or on each hash node of a FIT. Signatures are not checked.\n\n\
@@ -607,13 +613,13 @@ static CHECKING_COMMANDS: [CommandText; 4] = [
                  if a FIT has no hash node, so that nothing is checked: bootimg check finds what\n\
                  is not protected.\n\n\
                  Example: bootimg verify kernel.itb",
-        options: &[JSON, OFFSET, LIMIT, OUTPUT, FILE],
+        options: &[JSON, OFFSET, LIMIT, OUTPUT, FILES],
     },
     CommandText {
         name: "check",
         aliases: &[],
         about: "Find what is not protected in an image",
-        usage: "bootimg check [OPTIONS] [IMAGE]",
+        usage: "bootimg check [OPTIONS] [IMAGE]...",
         after_help: "\
                  Reads an image, and writes to standard output a line for each thing in it that\n\
                  is not protected: nothing if all is. The first word of a line is its kind:\n\n\
@@ -640,13 +646,13 @@ static CHECKING_COMMANDS: [CommandText; 4] = [
                  The exit status is 0 if nothing was found, and 1 if something was.\n\n\
                  Example: bootimg check --allow weak-hash,trailing kernel.itb\n\
                  Example: bootimg check --signed kernel.itb",
-        options: &[ALLOW, SIGNED, JSON, OFFSET, LIMIT, OUTPUT, FILE],
+        options: &[ALLOW, SIGNED, JSON, OFFSET, LIMIT, OUTPUT, FILES],
     },
     CommandText {
         name: "scan",
         aliases: &[],
         about: "Find the images inside a file",
-        usage: "bootimg scan [OPTIONS] [IMAGE]",
+        usage: "bootimg scan [OPTIONS] [IMAGE]...",
         after_help: "\
                  Reads a file, such as what a flash chip holds, and writes to standard output a\n\
                  line for each image in it, even one that is inside another: the offset of its\n\
@@ -656,7 +662,7 @@ static CHECKING_COMMANDS: [CommandText; 4] = [
                  --limit also bounds the bytes that the headers inside the file name together.\n\n\
                  The exit status is 0 if an image was found, and 1 if none was.\n\n\
                  Example: bootimg scan flash.bin",
-        options: &[JSON, OFFSET, LIMIT, OUTPUT, FILE],
+        options: &[JSON, OFFSET, LIMIT, OUTPUT, FILES],
     },
 ];
 

@@ -4,7 +4,7 @@ use Rattle.bootimg.specs.CommandLine.{texts_of, HasOrderLengths, IsNoRequest, Is
 use Rattle.bootimg.specs.declared.command_line.Order.TheVariants as order
 use Rattle.bootimg.specs.declared.command_line.NoRequest.TheVariants as outcome
 use Rattle.bootimg.specs.declared.failure.Failure.TheVariants.{Call}
-use Rattle.bootimg.specs.Runs.{ExtractedAll, RanJob, Rejected, WroteText}
+use Rattle.bootimg.specs.ProgramRuns.{ExtractedAll, RanJob, Rejected, WroteText}
 use Rattle.bootimg.proofs.ImageRuns.{to_file, to_standard_output}
 use Rattle.bootimg.proofs.RunFacts.{run_is_rejected}
 use Rattle.bootimg.proofs.run.run_traced.Goals as goal
