@@ -1537,6 +1537,10 @@ COMMANDS = {
 }
 
 
+# The commands that take several images.
+SEVERAL = ("list", "verify", "check", "scan")
+
+
 def split_arguments(name, options, arguments):
     """The texts of the options that are given, and the other words."""
     given, words, arguments = {}, [], list(arguments)
@@ -1556,7 +1560,7 @@ def split_arguments(name, options, arguments):
         given[option] = given.get(option, []) + [text] if is_repeated else text
     if name == "compare" and len(words) != 2 or name == "get" and len(words) < 2:
         raise Unusable("wrong number of arguments")
-    if len(words) > 1 and not name.startswith(("build-", "compare", "get")):
+    if len(words) > 1 and name not in SEVERAL and not name.startswith(("build-", "compare", "get")):
         raise Unusable("wrong number of arguments")
     return given, words
 
@@ -1575,7 +1579,7 @@ def parse(arguments):
         raise Refused("usage: give one of --part, --image, --config")
     if name == "update" and not {"time", "hashes"} & set(given):
         raise Refused("usage: give --time or --hashes")
-    if name == "compare" and words == ["-", "-"]:
+    if name in ("compare", *SEVERAL) and words.count("-") > 1:
         raise Refused("usage: bad value")
     values = {"words": words}
     for option, how in options.items():
@@ -1602,17 +1606,42 @@ def parse(arguments):
     return command, values
 
 
+def run(command, files, options):
+    """The exit status, the output and the text on standard error."""
+    try:
+        result = command(files, options)
+    except Refused as line:
+        return 2, b"", f"bootimg: {line}\n".encode()
+    return result if isinstance(result, tuple) else (0, result, b"")
+
+
+def labelled(word, text, is_json):
+    """The text about one of several images, with the name of the image in each line."""
+    name = "-" if word == "-" else shown(word.encode())
+    before, after = (f'{{"file":{json.dumps(name)},"result":', "}\n") if is_json else (f"{name}: ", "\n")
+    return b"".join(before.encode() + line + after.encode() for line in text.split(b"\n")[:-1])
+
+
+def run_each(command, files, options):
+    """The same of a command on several images, one after another: the status is the greatest."""
+    runs = []
+    for word in options["words"]:
+        status, output, errors = run(command, files, options | {"words": [word]})
+        runs.append((status, labelled(word, output, options["json"]), errors))
+    return max(status for status, _, _ in runs), b"".join(output for _, output, _ in runs), b"".join(errors for _, _, errors in runs)
+
+
 def main(arguments, file, bytes_of=lambda name: None):
     """The exit status, the output and the text on standard error. `file` is standard input, and `bytes_of` returns the bytes of the
     file of a name, or None if it cannot be opened."""
     try:
         command, options = parse(arguments)
-        result = command(Files(file, bytes_of), options)
     except Refused as line:
         return 2, b"", f"bootimg: {line}\n".encode()
     except Unusable as text:
         return 2, b"", f"error: {text}\n".encode()
-    return result if isinstance(result, tuple) else (0, result, b"")
+    is_for_each = arguments[0] in SEVERAL and len(options["words"]) > 1
+    return (run_each if is_for_each else run)(command, Files(file, bytes_of), options)
 
 
 def bytes_of_path(name):
