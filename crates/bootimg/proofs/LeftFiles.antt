@@ -22,7 +22,7 @@ use Rattle.bi_files.specs.Files.{FileStep, KnownFiles, Names, Opened, NotOpened,
 use Rattle.clap.specs.declared.error.kind.ErrorKind.{ErrorKind}
 use Rattle.bi_files.specs.FilesAfter.{after_steps, AreSameNames, HasDirectory, HasFile, HaveContents}
 use Rattle.bootimg.specs.LeftFiles.{LeavesFiles, DirectoryIsThere, OutputIsThere, NoFileIsNamed, NothingIsRequested, HasFailed}
-use Rattle.bootimg.specs.Runs.{Inputs, Run, Work, IsFileRead, IsFileNotRead, CouldNotOpen, OpenedNotRead, IsImageRead, InputRead, FileRead}
+use Rattle.bootimg.specs.Runs.{Inputs, Promise, Run, Work, IsFileRead, IsFileNotRead, CouldNotOpen, OpenedNotRead, IsImageRead, InputRead, FileRead}
 use Rattle.bootimg.specs.Runs.{IsImageNotRead, InputNotRead, FileNotRead, IsPart, ArePartsRead, IsImageWork, DoneOnInput, DoneOnFile}
 use Rattle.bootimg.specs.Runs.{FileNotOpened, IsCompareWork, BothRead, OneNotRead, OtherNotRead, IsBuildWork, BuiltWithInput, BuiltOfFiles}
 use Rattle.bootimg.specs.Runs.{PartNotRead, NoRoom, IsJobWork, IsSavedWork, OutputSaved, OutputNotSaved, NoOutput, IsOutputRun}
@@ -86,12 +86,12 @@ parts_keep base files limits (s ∷ sources) (p ∷ parts) old new are =
     keeps_in_turn base old are.0 new (part_keeps base files limits s p old are.0 are.1)
     (parts_keep base files limits sources parts are.0 new are.2)
 
-image_work_keeps : (base : Names) (files : KnownFiles) (plan : ImagePlan) (limits : Limits) (work : Work)
-    (old new : Option (List FileStep)) → IsImageWork files plan limits work old new → KeepsNames base old new
-image_work_keeps base files plan limits work old new (DoneOnInput standard done same) = keeps_same base old new same
-image_work_keeps base files plan limits work old new (DoneOnFile name file opened end is done same) =
+image_work_keeps : (base : Names) (files : KnownFiles) (promise : Promise) (source : ImageSource) (limits : Limits) (work : Work)
+    (old new : Option (List FileStep)) → IsImageWork files promise source limits work old new → KeepsNames base old new
+image_work_keeps base files promise source limits work old new (DoneOnInput standard done same) = keeps_same base old new same
+image_work_keeps base files promise source limits work old new (DoneOnFile name file opened end is done same) =
     opened_keeps base files name.now opened end old new is
-image_work_keeps base files plan limits work old new (FileNotOpened name file none failed same) =
+image_work_keeps base files promise source limits work old new (FileNotOpened name file none failed same) =
     not_opened_keeps base files name.now old new none
 
 compare_work_keeps : (base : Names) (files : KnownFiles) (plan : ComparePlan) (limits : Limits) (work : Work)
@@ -119,7 +119,7 @@ build_work_keeps base files plan limits work old new (NoRoom first is same) =
 
 job_work_keeps_names : (base : Names) (files : KnownFiles) (job : Job) (limits : Limits) (work : Work) (old new : Option (List FileStep))
     → IsJobWork files job limits work old new → KeepsNames base old new
-job_work_keeps_names base files (RunTask plan) limits work old new done = image_work_keeps base files plan limits work old new done
+job_work_keeps_names base files (RunTask plan) limits work old new done = image_work_keeps base files _ plan.source limits work old new done
 job_work_keeps_names base files (Compare plan) limits work old new done = compare_work_keeps base files plan limits work old new done
 job_work_keeps_names base files (Explain cause) limits work old new done = keeps_same base old new done.1
 job_work_keeps_names base files (Build plan) limits work old new done = build_work_keeps base files plan limits work old new done

@@ -53,7 +53,7 @@ use Rattle.bootimg.specs.Program.{program_app}
 use Rattle.bootimg.specs.Runs.{ArePartsRead, AreFirstRead, DoneOnFile, DoneOnInput, EndsWell, EndsWithFailure, ExplanationNotWritten}
 use Rattle.bootimg.specs.Runs.{FileNotOpened, HasFailed, HasNone, HasSome, Inputs, IsAllWork, IsEnd, IsExplainWork}
 use Rattle.bootimg.specs.ProgramRuns.{ExtractedAll}
-use Rattle.bootimg.specs.Runs.{IsFileNotRead, CouldNotOpen, OpenedNotRead, IsHeldFailure, IsHeldWork, IsImageWork, IsJobWork, IsOutputRun}
+use Rattle.bootimg.specs.Runs.{IsFileNotRead, CouldNotOpen, OpenedNotRead, IsHeldFailure, IsHeldWork, IsJobWork, IsPlanWork, IsOutputRun}
 use Rattle.bootimg.specs.Runs.{IsPart, IsPartNotRead, IsSavedWork, IsTaskWork, NoMemoryForExplanation, NoOutput, NotExtracted, Notes}
 use Rattle.bootimg.specs.ProgramRuns.{IsRun}
 use Rattle.bootimg.specs.Runs.{NothingRead, OutputNotSaved, OutputSaved, PayloadsNotSaved, PayloadsSaved, Run, Succeeded}
@@ -341,14 +341,14 @@ normalised source old new output new_output done piped has =
     let normal = subst (λ input. IsNormalForm widest Embedded input moved.output) (sym input) moved.is_output.holds.0.output.normal in
     subst (λ bytes. Writes output bytes new_output) (kernel_output moved.output normal) moved.written
 
-task_done : (source : ImageSource) (work : Work) (done : Done) → IsTaskWork (normalising source) widest work → work.outcome ≡ Ok done →
+task_done : (source : ImageSource) (work : Work) (done : Done) → IsTaskWork (plan_promise (normalising source) widest) source widest work → work.outcome ≡ Ok done →
     work.input.remaining ≡ Some kernel_file_with_rest → Writes work.output kernel_file work.new_output
 task_done source work done (Succeeded other piped is) good has =
     normalised source work.input work.new_input work.output work.new_output other piped has
 task_done source work done (HasFailed failure piped is) good has = absurd (not_failed work.outcome good is)
 
 of_input : (work : Work) (done : Done) (old new : Option (List FileStep)) →
-    IsImageWork without_files (normalising Standard) widest work old new → work.input.remaining ≡ Some kernel_file_with_rest →
+    IsPlanWork without_files (normalising Standard) widest work old new → work.input.remaining ≡ Some kernel_file_with_rest →
     work.outcome ≡ Ok done → Writes work.output kernel_file work.new_output × (new ≡ old)
 of_input work done old new (DoneOnInput source did same) has good = (task_done Standard work done did good has, same)
 of_input work done old new (DoneOnFile name source opened end was did same) has good = absurd cc
@@ -358,7 +358,7 @@ of_input work done old new (FileNotOpened name source was failed same) has good 
 is_in : (name : Bor (List ℕ)) → file_in ≡ File name → lent (codes "in") ≡ name
 is_in name same = cc
 
-of_file : (work : Work) (done : Done) (old new : Option (List FileStep)) → IsImageWork only_in in_plan widest work old new →
+of_file : (work : Work) (done : Done) (old new : Option (List FileStep)) → IsPlanWork only_in in_plan widest work old new →
     work.outcome ≡ Ok done → Writes work.output kernel_file work.new_output × (work.new_input ≡ work.input)
 of_file work done old new (DoneOnInput source did same) good = absurd cc
 of_file work done old new (DoneOnFile name source opened end was did same) good =
@@ -366,7 +366,7 @@ of_file work done old new (DoneOnFile name source opened end was did same) good 
     (task_done file_in (with_input work opened end) done did good opens.is_open.is_file, same)
 of_file work done old new (FileNotOpened name source was failed same) good = absurd (not_failed work.outcome good failed.outcome)
 
-no_file : (work : Work) (new : Option (List FileStep)) → IsImageWork without_files in_plan widest work (Some []) new →
+no_file : (work : Work) (new : Option (List FileStep)) → IsPlanWork without_files in_plan widest work (Some []) new →
     (work.outcome ≡ Err (source_failure file_in CannotOpen)) × (work.new_output ≡ work.output) × (work.new_input ≡ work.input)
     × IfSome new (λ steps. steps ≡ NotOpened (codes "in") ∷ [])
 no_file work new (DoneOnInput source did same) = absurd cc
@@ -429,7 +429,7 @@ not_held before after failed is =
       failure = (is.failure ∙ ap (λ (f : SourceFailure). failure_in_memory f.failure) cause) i;
     }
   where
-    in_memory_fails : {work : Work} {old new : Option (List FileStep)} → IsImageWork without_files in_plan widest work old new →
+    in_memory_fails : {work : Work} {old new : Option (List FileStep)} → IsPlanWork without_files in_plan widest work old new →
         work.outcome ≡ Err (source_failure file_in CannotOpen)
     in_memory_fails (DoneOnInput source did same) = absurd cc
     in_memory_fails (DoneOnFile name source opened end was did same) = absurd was.is_open.is_file
