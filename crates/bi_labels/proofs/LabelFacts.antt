@@ -1,12 +1,11 @@
-use Rattle.std.proofs.Common.{◌≡◌, ◌==◌, ◌≤◌, ◌<◌, ℕ, Bool, true, false, List, [], ◌∷◌, ◌++◌}
+use Rattle.std.proofs.Common.{◌≡◌, ◌==◌, ℕ, Bool, true, false, List, [], ◌∷◌, ◌++◌}
 use Rattle.std.proofs.Common.{append_assoc, append-nil, ap, arith, flat_map, refl, ◌∙◌}
-use Rattle.std.specs.List.{AllByRecursion, list_any, onto_first}
+use Rattle.std.specs.List.{AllByRecursion, onto_first}
 use Rattle.std.proofs.lemmas.Bool.{ne_eqb}
-use Rattle.bi_common.specs.declared.format.Format.{Format}
 use Rattle.bi_common.specs.declared.format.Format.TheVariants as form
-use Rattle.bi_common.specs.Json.{Json as Value, json_line, json_text, string_text}
+use Rattle.bi_common.specs.Json.{json_text}
 use Rattle.bi_common.proofs.PrintedTexts.{ArePrinted, json_printed}
-use Rattle.bi_labels.specs.LabelledTexts.{labelled_line, labelled_text, lines_in}
+use Rattle.bi_labels.specs.LabelledTexts.{labelled_line, lines_in}
 use Rattle.bi_labels.specs.LabelLaws.{IsOneLine, LinesAreLabelled, ValuesAreLabelled}
 
 -- The lines of texts of whole lines.

@@ -1,4 +1,4 @@
-use Rattle.std.specs.Prelude.{◌≡◌, ℕ, List, [], ◌∷◌, ◌++◌, codes}
+use Rattle.std.specs.Prelude.{◌≡◌, [], ◌∷◌, ◌++◌, codes}
 use Rattle.bi_common.specs.declared.format.Format.TheVariants.{Json, Lines}
 use Rattle.bi_common.specs.Shown.{shown_text}
 use Rattle.bi_labels.specs.LabelledTexts.{labelled_text, lines_in}

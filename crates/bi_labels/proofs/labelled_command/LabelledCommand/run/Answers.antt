@@ -1,9 +1,8 @@
-use Rattle.std.proofs.Common.{rules, ◌≡◌, ◌∙◌, sym, ap}
+use Rattle.std.proofs.Common.{rules, ◌≡◌, ap}
 use Rattle.std.proofs.lemmas.Result.{err_from_is_err_and}
 use Rattle.bi_base.specs.Commands.{SinkFailed}
 use Rattle.bi_common.specs.Shown.{shown_text}
 use Rattle.bi_labels.specs.LabelledTexts.{labelled_text}
-use Rattle.bi_labels.specs.LabelledCommands.{labelled_laws, labelled_promise}
 use Rattle.bi_labels.proofs.labelled_command.LabelledCommand.run.Goals as goal
 
 pub returns-in_err-result-clause-failed : goal.returns-in_err-result-clause-failed
