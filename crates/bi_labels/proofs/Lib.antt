@@ -1,2 +1,3 @@
 mod LinesInTexts
+pub mod DoneInTurn
 mod LabelFacts
