@@ -12,6 +12,7 @@ pub mod RunFacts
 pub mod ImageRuns
 pub mod BuildRuns
 pub mod ErrorLines
+pub mod DoneImages
 pub mod SameStreams
 pub mod SelectionNames
 pub mod ProgramFacts

@@ -27,8 +27,9 @@ use Rattle.bootimg.specs.Runs.{WasNotBuilt, IsBuildWork, BuiltWithInput, BuiltOf
 use Rattle.bootimg.specs.Runs.{IsSavedWork, OutputSaved, OutputNotSaved, NoOutput, IsOutputRun, ToStandardOutput, ToFile, IsEnd, EndsWell}
 use Rattle.bootimg.specs.Runs.{EndsWithFailure, IsRequestRun, IsTextRun, IsWritten, IsNotWritten, IsUsage}
 use Rattle.bootimg.specs.declared.command_line.images.ImagesRequest.{ImagesRequest}
-use Rattle.bootimg.specs.SeveralImages.{AllDone, AreDoneInTurn, AreHeld, AreSaved, IsImageDone, LastDone, NextDone, OneHasFailed, Streams}
-use Rattle.bootimg.specs.SeveralImages.{TextsNotSaved, TextsSaved}
+use Rattle.bootimg.specs.SeveralImages.{AreHeld, AreSaved, IsImageDone, OneHasFailed, Streams, TextsNotSaved, TextsSaved}
+use Rattle.bootimg.specs.SeveralImages.{is_last}
+use Rattle.bi_labels.specs.InTurn.{AllDone, AreDoneInTurn, LastDone, NextDone}
 use Rattle.bootimg.specs.ProgramRuns.{EachToFile, EachToStandardOutput, IsImagesRun, RanEach, streams_after, streams_before}
 use Rattle.bootimg.specs.ProgramRuns.{IsRun, RanJob, Rejected}
 use Rattle.bootimg.specs.Runs.{IsAllRun, IsAllWork, PayloadsSaved, PayloadsNotSaved, NotExtracted, NothingRead}
@@ -237,7 +238,7 @@ image_done_keeps files request in_memory source outcome old new is =
     record { reader = keeps.reader; writer = keeps.writer; log = end_keeps _ _ _ _ is.end }
 
 pub done_in_turn_keeps : (files : KnownFiles) (request : ImagesRequest) (in_memory : Bool) (sources : List ImageSource)
-    (outcomes : List (Result Done SourceFailure)) (old new : Streams) → AreDoneInTurn files request in_memory sources outcomes old new
+    (outcomes : List (Result Done SourceFailure)) (old new : Streams) → AreDoneInTurn (IsImageDone files request in_memory) is_last sources outcomes old new
     → AreSameStreams old new
 done_in_turn_keeps files request in_memory sources outcomes old new (AllDone streams) = record { reader = refl; writer = refl; log = refl }
 done_in_turn_keeps files request in_memory sources outcomes old new (NextDone source later outcome others first middle last done not rest) =

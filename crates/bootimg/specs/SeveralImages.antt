@@ -9,6 +9,7 @@ use Rattle.bi_common.specs.declared.format.Format.TheVariants.{Lines}
 use Rattle.bi_common.specs.Shown.{shown_text}
 use Rattle.bi_files.specs.declared.saving.SaveError.{SaveError}
 use Rattle.bi_files.specs.Files.{FileStep, KnownFiles, IsSaved, IsNotSaved}
+use Rattle.bi_labels.specs.InTurn.{AreDoneInTurn}
 use Rattle.bi_labels.specs.LabelledCommands.{labelled_promise}
 use Rattle.bootimg.specs.declared.command_line.Task.{Task}
 use Rattle.bootimg.specs.declared.command_line.Task.TheVariants as task
@@ -115,36 +116,18 @@ pub record IsImageEnd (files : KnownFiles) (request : ImagesRequest) (in_memory 
     pub status : end.status ≡ status_of_outcome outcome
     pub last : end.is_last ≡ is_last outcome
 
--- These images were done in turn, with these outcomes. All were done, or none follows after one
--- whose outcome is the last.
-pub data AreDoneInTurn (files : KnownFiles) (request : ImagesRequest) (in_memory : Bool)
-    : (sources : List ImageSource) → (outcomes : List (Result Done SourceFailure))
-    → (old new : Streams) → Type 0
-  where
-    AllDone : (streams : Streams) → AreDoneInTurn files request in_memory [] [] streams streams
-    NextDone : (source : ImageSource) (later : List ImageSource)
-        (outcome : Result Done SourceFailure) (outcomes : List (Result Done SourceFailure))
-        (old middle new : Streams)
-        → IsImageDone files request in_memory source outcome old middle
-        → IsFalse (is_last outcome)
-        → AreDoneInTurn files request in_memory later outcomes middle new
-        → AreDoneInTurn files request in_memory (source ∷ later) (outcome ∷ outcomes) old new
-    LastDone : (source : ImageSource) (later : List ImageSource)
-        (outcome : Result Done SourceFailure) (old new : Streams)
-        → IsImageDone files request in_memory source outcome old new → IsTrue (is_last outcome)
-        → AreDoneInTurn files request in_memory (source ∷ later) (outcome ∷ []) old new
-
 -- The greatest status.
 abbrev pub greatest_status : List (Result Done SourceFailure) → ℕ
 greatest_status [] = 0
 greatest_status (outcome ∷ later) = max (status_of_outcome outcome) (greatest_status later)
 
--- All images of a request were done so, and the status is the greatest.
+-- The images of a request were done in turn, and the status is the greatest.
 pub record AreDone (files : KnownFiles) (request : ImagesRequest) (in_memory : Bool)
     (old new : Streams) (status : ℕ) : Type 0
   where
     pub outcomes : List (Result Done SourceFailure)
-    pub in_turn : AreDoneInTurn files request in_memory request.sources.items outcomes old new
+    pub in_turn : AreDoneInTurn (IsImageDone files request in_memory) is_last
+        request.sources.items outcomes old new
     pub is_greatest : status ≡ greatest_status outcomes
 
 -- ---- an output in a file
