@@ -7,7 +7,8 @@ use Rattle.clap.specs.Simple.{subcommand_of}
 use Rattle.clap.specs.Walk.{Row, Text}
 use Rattle.clap.specs.declared.parser.matches.ArgMatches.{ArgMatches}
 use Rattle.clap.proofs.OnLiterals.{clap_on_literals}
-use Rattle.bootimg.specs.CommandLine.{Gives, IsJob, IsLimits, IsTaskFailure, NoJob, NoLimits, NoMemory}
+use Rattle.bootimg.specs.CommandLine.{Gives, IsJob, IsLimits, IsTaskFailure, NoJob, NoLimits, NoLimitsForEach, NoMemory, NoTaskForEach}
+use Rattle.bootimg.specs.CommandLine.{NotEach, TakesImages, TwoInputs}
 use Rattle.bootimg.specs.CommandLine.{NotAll, NotAllowed, NotChanged, NotCompared, NotExplained, NotFit, NotFormed, NotFormedChanged}
 use Rattle.bootimg.specs.CommandLine.{NotLegacy, NotLimited, NotNamed, NotPlaced, NotSelected, NotShown, all_flag, hashes_flag, limit_of}
 use Rattle.bootimg.specs.CommandLine.{option_of}
@@ -75,6 +76,14 @@ requests_are_known = record {
 
 -- ---- rejections
 
+-- `update` and `extract` take one image.
+update_takes_one : ¬ (TakesImages (codes "update"))
+update_takes_one (inl is) = other_bytes (codes "update") (codes "list") refl is
+update_takes_one (inr (inl is)) = other_bytes (codes "update") (codes "verify") refl is
+update_takes_one (inr (inr (inl is))) = other_bytes (codes "update") (codes "check") refl is
+update_takes_one (inr (inr (inr (inl is)))) = other_bytes (codes "update") (codes "scan") refl is
+update_takes_one (inr (inr (inr (inr no)))) = no
+
 -- The failure of `update` without a change. The names of all commands but this one differ.
 update_rejected : (line : List ℕ) →
     option_map (λ (command : Text × List Row). command.0) (subcommand_of program_app (words_of_line line)) ≡ Some (codes "update") →
@@ -89,6 +98,8 @@ update_rejected line name only none failure (NoJob other options is fails) =
 update_rejected line name only none failure (NoLimits other options job is is_job bad) =
     let same = command_is line other options is (codes "update") name in
     absurd (none options (subst (λ n. Gives (words_of_line line) n options) same is) job (subst (λ n. IsJob n options job) same is_job))
+update_rejected line name only none failure (NotEach other options is names fails) =
+    absurd (update_takes_one (subst TakesImages (command_is line other options is (codes "update") name) names.takes))
 update_rejected line name only none failure (NotAll options is all fails) =
     absurd (other_bytes (codes "extract") (codes "update") refl (command_is line (codes "extract") options is (codes "update") name))
 update_rejected line name only none failure (NoMemory is) = inr is
@@ -124,6 +135,11 @@ scan_rejected failure (NoJob name options is fails) =
     inl (scan_failure options failure
     (subst (λ n. IsTaskFailure n options failure) (command_is (codes "scan --limit 1") name options is (codes "scan") refl) fails))
 scan_rejected failure (NoLimits name options job is is_job bad) = inl bad.0
+scan_rejected failure (NotEach name options is names (NoTaskForEach fails)) =
+    inl (scan_failure options failure
+    (subst (λ n. IsTaskFailure n options failure) (command_is (codes "scan --limit 1") name options is (codes "scan") refl) fails))
+scan_rejected failure (NotEach name options is names (TwoInputs bad)) = inl bad.0
+scan_rejected failure (NotEach name options is names (NoLimitsForEach bad)) = inl bad.0
 scan_rejected failure (NotAll options is all fails) =
     absurd (other_bytes (codes "extract") (codes "scan") refl
     (command_is (codes "scan --limit 1") (codes "extract") options is (codes "scan") refl))
@@ -155,6 +171,14 @@ all_rejected failure (NoJob name options is fails) =
     inl (all_failure options (flag_is line (codes "extract") options gives (codes "all") ∙ refl) failure
     (subst (λ n. IsTaskFailure n options failure) same fails))
 all_rejected failure (NoLimits name options job is is_job bad) = inl bad.0
+all_rejected failure (NotEach name options is names (NoTaskForEach fails)) =
+    let line = codes "extract --all in" in
+    let same = command_is line name options is (codes "extract") refl in
+    let gives = subst (λ n. Gives (words_of_line line) n options) same is in
+    inl (all_failure options (flag_is line (codes "extract") options gives (codes "all") ∙ refl) failure
+    (subst (λ n. IsTaskFailure n options failure) same fails))
+all_rejected failure (NotEach name options is names (TwoInputs bad)) = inl bad.0
+all_rejected failure (NotEach name options is names (NoLimitsForEach bad)) = inl bad.0
 all_rejected failure (NotAll options is all fails) = inl ((all_requests_are_known.no_directory options is).1 failure fails)
 all_rejected failure (NoMemory is) = inr is
 

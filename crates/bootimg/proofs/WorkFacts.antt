@@ -42,7 +42,7 @@ use Rattle.bi_norm.proofs.ComparisonFacts.{kernel_with_rest_means, no_magic_is_e
 use Rattle.bi_norm.proofs.KindLaws.{one_file_fault}
 use Rattle.clap.specs.declared.parser.matches.ArgMatches.{ArgMatches}
 use Rattle.clap.proofs.OnLiterals.{clap_on_literals}
-use Rattle.bootimg.specs.CommandLine.{Gives, IsExplained, IsJob}
+use Rattle.bootimg.specs.CommandLine.{Gives, IsExplained, IsJob, TakesImages}
 use Rattle.bootimg.specs.Explanations.{explain_text}
 use Rattle.bootimg.specs.Failures.{failure_of}
 use Rattle.bootimg.specs.KnownInputs.{two_files, without_files}
@@ -52,7 +52,7 @@ use Rattle.bootimg.specs.KnownWorks.{all_of_in, bytes_in_part, explanation, file
 use Rattle.bootimg.specs.Program.{program_app}
 use Rattle.bootimg.specs.Runs.{ArePartsRead, AreFirstRead, DoneOnFile, DoneOnInput, EndsWell, EndsWithFailure, ExplanationNotWritten}
 use Rattle.bootimg.specs.Runs.{FileNotOpened, HasFailed, HasNone, HasSome, Inputs, IsAllWork, IsEnd, IsExplainWork}
-use Rattle.bootimg.specs.ProgramRuns.{ExtractedAll}
+use Rattle.bootimg.specs.ProgramRuns.{ExtractedAll, RanEach}
 use Rattle.bootimg.specs.Runs.{IsFileNotRead, CouldNotOpen, OpenedNotRead, IsHeldFailure, IsHeldWork, IsJobWork, IsPlanWork, IsOutputRun}
 use Rattle.bootimg.specs.Runs.{IsPart, IsPartNotRead, IsSavedWork, IsTaskWork, NoMemoryForExplanation, NoOutput, NotExtracted, Notes}
 use Rattle.bootimg.specs.ProgramRuns.{IsRun}
@@ -251,6 +251,14 @@ standard_output : (files : KnownFiles) (job : Job) (limits : Limits) (run : Run)
 standard_output files job limits run outcome output none (ToStandardOutput work) = work
 standard_output files job limits run outcome output none (ToFile name saved same) = absurd cc
 
+-- `explain` takes no image.
+explain_takes_none : ¬ (TakesImages (codes "explain"))
+explain_takes_none (inl is) = other_bytes (codes "explain") (codes "list") refl is
+explain_takes_none (inr (inl is)) = other_bytes (codes "explain") (codes "verify") refl is
+explain_takes_none (inr (inr (inl is))) = other_bytes (codes "explain") (codes "check") refl is
+explain_takes_none (inr (inr (inr (inl is)))) = other_bytes (codes "explain") (codes "scan") refl is
+explain_takes_none (inr (inr (inr (inr no)))) = no
+
 -- What was done is the explanation of all causes, and how the run ends.
 explain_run : (run : Run) → IsRun (words_of_line explain_line) without_files run →
     ((outcome : Result Done SourceFailure) × IsExplainWork None (work_of run outcome) × (run.new_steps ≡ run.steps)
@@ -265,6 +273,8 @@ explain_run run (RanJob request is lengths ran) =
     let work = standard_output without_files request.job request.limits run ran.outcome request.output none ran.done in
     let explains = subst (λ job. IsJobWork without_files job request.limits (work_of run ran.outcome) run.steps run.new_steps) job work in
     inl (ran.outcome, explains.0, explains.1, ran.end)
+explain_run run (RanEach request is ran) =
+    absurd (explain_takes_none (subst TakesImages (command_is explain_line is.name is.options is.given (codes "explain") refl) is.is.names.takes))
 explain_run run (ExtractedAll request is ran) =
     absurd (other_bytes (codes "extract") (codes "explain") refl (command_is explain_line (codes "extract") is.options is.given
     (codes "explain") refl))

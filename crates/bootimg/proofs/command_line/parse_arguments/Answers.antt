@@ -17,6 +17,15 @@ unreachable-requires c =
     let bad : false ≡ true = c.in_default.ensures.variant ∙ there in
     cc
 
+pub images_request-requires : goal.images_request-requires
+images_request-requires c = c.if-names_images.ensures.several refl
+
+pub returns-in_err-images_request-clause-failure : goal.returns-in_err-images_request-clause-failure
+returns-in_err-images_request-clause-failure c = ?
+
+pub returns-then-names_images-clause-order : goal.returns-then-names_images-clause-order
+returns-then-names_images-clause-order c = ?
+
 pub parse_job-requires-clause-command : goal.parse_job-requires-clause-command
 parse_job-requires-clause-command c =
     given_is_command (texts_of c.args.arguments.now) c.in-Some.name.now c.in-Some.options.now
