@@ -89,9 +89,10 @@ complete -c bootimg -n '__bootimg_is normalise normalize update build-fit' -l al
 complete -c bootimg -n '__bootimg_is normalise normalize show list describe verify check scan update get extract convert' -l offset -x -d 'Where the image begins in the input'
 complete -c bootimg -n '__bootimg_is normalise normalize show list describe compare diff verify check scan update get extract convert build-legacy build-fit' -l limit -x -d 'Refuse an image of more than N bytes'
 complete -c bootimg -n '__bootimg_is normalise normalize show list describe compare diff verify check scan update get extract convert build-legacy build-fit explain' -s o -l output -r -F -d 'Write the output to FILE'
-complete -c bootimg -n '__bootimg_is normalise normalize show list describe verify check scan update extract convert' -F
+complete -c bootimg -n '__bootimg_is normalise normalize show describe update extract convert' -F
 complete -c bootimg -n '__bootimg_is show' -l layout -d 'Also show the regions of the file by their offsets'
 complete -c bootimg -n '__bootimg_is show list describe compare diff verify check scan' -l json -d 'Write JSON instead of lines'
+complete -c bootimg -n '__bootimg_is list verify check scan' -F
 complete -c bootimg -n '__bootimg_is compare diff' -l quiet -d 'Write nothing'
 complete -c bootimg -n '__bootimg_is compare diff' -F
 complete -c bootimg -n '__bootimg_is compare diff' -F
