@@ -5,7 +5,7 @@ use Rattle.bi_files.specs.Files.{KnownFiles}
 use Rattle.bi_labels.proofs.DoneInTurn.{AreDoneSoFar, all_done, last_done, none_done, one_more_done}
 use Rattle.bootimg.specs.declared.command_line.images.ImagesRequest.{ImagesRequest}
 use Rattle.bootimg.specs.declared.command_line.source.ImageSource.{ImageSource}
-use Rattle.bootimg.specs.declared.images.ImageEnd.{ImageEnd}
+use Rattle.bootimg.specs.declared.several.ImageEnd.{ImageEnd}
 use Rattle.bootimg.specs.declared.jobs.SourceFailure.{SourceFailure}
 use Rattle.bootimg.specs.declared.tasks.Done.{Done}
 use Rattle.bootimg.specs.Runs.{EndsWell, EndsWithFailure, IsEnd}

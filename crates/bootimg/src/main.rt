@@ -8,7 +8,6 @@ mod error_line;
 mod explanations;
 mod extractions;
 mod failure;
-mod images;
 mod jobs;
 mod known_requests;
 mod known_runs;
@@ -18,6 +17,7 @@ mod numbers;
 mod reports;
 mod requests;
 mod run;
+mod several;
 mod tasks;
 
 use bi_files::SystemFiles;

@@ -13,10 +13,10 @@ ghost use Rattle.clap.specs.declared.error.kind.ErrorKind.{ErrorKind};
 use crate::command_line::{ImageSource, NoRequest, Order, parse_arguments};
 use crate::extractions::extract_to_directory;
 use crate::failure::Failure;
-use crate::images::do_images;
 use crate::jobs::do_job;
 use crate::reports::{FAILED, report_failure};
 use crate::requests::{conclude, do_job_to_file};
+use crate::several::do_images;
 use crate::tasks::SUCCESS;
 use bi_base::{
     Error, TracedRead, TracedReader, TracedWrite, TracedWriter, write_all, write_and_flush,

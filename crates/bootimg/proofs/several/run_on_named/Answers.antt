@@ -3,7 +3,7 @@ use Rattle.bi_files.specs.Files.{FileStep}
 use Rattle.bi_labels.specs.LabelledCommands.{labelled_promise}
 use Rattle.bootimg.specs.Runs.{IsImageWork, Promise}
 use Rattle.bootimg.specs.Tasks.{placed_promise}
-use Rattle.bootimg.proofs.images.run_on_named.Goals as goal
+use Rattle.bootimg.proofs.several.run_on_named.Goals as goal
 
 pub returns-clause-work : goal.returns-clause-work
 returns-clause-work g c =

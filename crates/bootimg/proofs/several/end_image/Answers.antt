@@ -2,7 +2,7 @@ use Rattle.std.proofs.Common.{subst}
 use Rattle.bootimg.specs.Runs.{IsEnd}
 use Rattle.bootimg.specs.SeveralImages.{reported}
 use Rattle.bootimg.proofs.DoneImages.{status_of_end}
-use Rattle.bootimg.proofs.images.end_image.Goals as goal
+use Rattle.bootimg.proofs.several.end_image.Goals as goal
 
 pub returns-clause-end : goal.returns-clause-end
 returns-clause-end g c =

@@ -1,4 +1,4 @@
-use Rattle.bootimg.proofs.images.do_image.Goals as goal
+use Rattle.bootimg.proofs.several.do_image.Goals as goal
 
 pub returns-clause-end : goal.returns-clause-end
 returns-clause-end g c = record {

@@ -1,6 +1,6 @@
 use Rattle.std.proofs.Common.{Some, ◌∙◌, ap, rules, sym}
 use Rattle.bootimg.proofs.SameStreams.{done_in_turn_keeps}
-use Rattle.bootimg.proofs.images.do_each_in_memory.Goals as goal
+use Rattle.bootimg.proofs.several.do_each_in_memory.Goals as goal
 
 pub returns-clause-held : goal.returns-clause-held
 returns-clause-held g c =

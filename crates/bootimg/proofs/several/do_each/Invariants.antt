@@ -1,6 +1,6 @@
 use Rattle.std.proofs.Common.{◌≡◌, take}
 use Rattle.bootimg.proofs.DoneImages.{HaveBeenDone}
-use Rattle.bootimg.proofs.images.do_each.Given as goal
+use Rattle.bootimg.proofs.several.do_each.Given as goal
 
 -- The images so far were done, and the status is the greatest.
 abbrev pub invariant-loop-source : goal.invariant-loop-source

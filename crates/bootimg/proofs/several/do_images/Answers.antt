@@ -1,6 +1,6 @@
 use Rattle.std.proofs.Common.{refl}
 use Rattle.bootimg.specs.ProgramRuns.{EachToFile, EachToStandardOutput}
-use Rattle.bootimg.proofs.images.do_images.Goals as goal
+use Rattle.bootimg.proofs.several.do_images.Goals as goal
 
 pub returns-in-None : goal.returns-in-None
 returns-in-None g c = rw c.in-None.is (EachToStandardOutput c.do_each.ensures.done)

@@ -1,1 +1,0 @@
-use Rattle.bootimg.proofs.images.do_each_to_file.Goals as goal
