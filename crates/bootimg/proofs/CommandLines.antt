@@ -20,7 +20,8 @@ use Rattle.clap.specs.declared.parser.matches.MatchedArg.{MatchedArg}
 use Rattle.bootimg.specs.CommandLine.{given_count, list_of, option_of, texts_of, AreEscaped, AreGiven, AreImages, ArePartSources}
 use Rattle.bootimg.specs.Words.{parts_of}
 use Rattle.bootimg.specs.CommandLine.{IsAllFailure, IsAllRequest, IsNoneGiven, IsFailureOutcome, IsEntry, IsFirstBad, IsSelection}
-use Rattle.bootimg.specs.CommandLine.{IsSelectionFailure}
+use Rattle.bootimg.specs.CommandLine.{AreImageSources, IsImageSource, IsSelectionFailure}
+use Rattle.bootimg.specs.declared.command_line.source.ImageSource.{ImageSource}
 use Rattle.bootimg.specs.CommandLine.{IsAddress, IsBadValue, IsImage, IsImageText, IsNameOf, IsPartSource, NoneIs, SelectsDefault}
 use Rattle.bootimg.specs.Numbers.{IsNumber}
 use Rattle.bootimg.specs.declared.codes.CodeField.TheVariants.{Os, Arch, ImageType, Compression}
@@ -285,6 +286,16 @@ pub parts_next : (arguments : List (Bor (List ℕ))) (index : ℕ) (d : Bor (Lis
 parts_next arguments index d parts next part within are is one =
     rw (texts_push arguments index d within, is)
     (zip_push IsPartSource (texts_of (take index arguments)) parts (get_or arguments index d).now part are one)
+
+-- The images of `list` and others so far, and one more.
+pub sources_next : (arguments : List (Bor (List ℕ))) (index : ℕ) (d : Bor (List ℕ)) (sources next : List ImageSource)
+    (source : ImageSource) → index < length arguments → AreImageSources (texts_of (take index arguments)) sources
+    → next ≡ sources ++ source ∷ [] → IsImageSource (Some (get_or arguments index d).now) source
+    → AreImageSources (texts_of (take (index + 1) arguments)) next
+sources_next arguments index d sources next source within are is one =
+    rw (texts_push arguments index d within, is)
+    (zip_push (λ argument. IsImageSource (Some argument)) (texts_of (take index arguments)) sources (get_or arguments index d).now source
+    are one)
 
 -- The images so far, and one more.
 pub images_next : (arguments : List (Bor (List ℕ))) (index : ℕ) (d : Bor (List ℕ)) (images more : List ImageSpec)

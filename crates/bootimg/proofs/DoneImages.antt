@@ -1,16 +1,24 @@
-use Rattle.std.proofs.Common.{◌≡◌, ◌∙◌, ◌+◌, ◌<◌, ◌≤◌, ℕ, max, Bool, true, false, List, [], ◌∷◌, ◌++◌, Result, Ok, Err}
+use Rattle.std.proofs.Common.{◌≡◌, ◌≢◌, ◌∙◌, ◌+◌, ◌<◌, ◌≤◌, ℕ, max, Bool, true, false, Bor, List, [], ◌∷◌, ◌++◌, Option, Some, Result, Ok, Err}
 use Rattle.std.proofs.Common.{ap, arith, get_or, length, refl, subst, sym, take}
+use Rattle.std.specs.Ordering.{ord_max}
+use Rattle.std.proofs.Common.{nat_cmp}
+use Rattle.std.proofs.lemmas.Grind.{common_steps}
 use Rattle.bi_base.specs.Traces.{WriteTrace}
-use Rattle.bi_files.specs.Files.{KnownFiles}
+use Rattle.bi_files.specs.declared.saving.SaveError.{SaveError}
+use Rattle.bi_files.specs.Files.{FileStep, IsNotSaved, IsSaved, KnownFiles}
+use Rattle.bi_labels.specs.InTurn.{AreDoneInTurn}
 use Rattle.bi_labels.proofs.DoneInTurn.{AreDoneSoFar, all_done, last_done, none_done, one_more_done}
 use Rattle.bootimg.specs.declared.command_line.images.ImagesRequest.{ImagesRequest}
 use Rattle.bootimg.specs.declared.command_line.source.ImageSource.{ImageSource}
+use Rattle.bootimg.specs.declared.command_line.source.ImageSource.TheVariants.{File}
+use Rattle.bootimg.specs.declared.failure.Failure.{Failure}
 use Rattle.bootimg.specs.declared.several.ImageEnd.{ImageEnd}
 use Rattle.bootimg.specs.declared.jobs.SourceFailure.{SourceFailure}
 use Rattle.bootimg.specs.declared.tasks.Done.{Done}
-use Rattle.bootimg.specs.Runs.{EndsWell, EndsWithFailure, IsEnd}
-use Rattle.bootimg.specs.SeveralImages.{AreDone, IsImageDone, IsImageEnd, Streams, greatest_status}
-use Rattle.bootimg.specs.SeveralImages.{is_last, reported, status_of_outcome}
+use Rattle.bootimg.specs.Failures.{failure_to_save}
+use Rattle.bootimg.specs.Runs.{EndsWell, EndsWithFailure, Inputs, IsEnd, Reports}
+use Rattle.bootimg.specs.SeveralImages.{AreDone, AreHeld, AreSaved, IsImageDone, IsImageEnd, Streams, greatest_status}
+use Rattle.bootimg.specs.SeveralImages.{TextsNotSaved, TextsSaved, is_last, reported, status_of_outcome}
 use Rattle.bootimg.specs.Tasks.{status_of}
 
 -- Images that were done in turn.
@@ -35,6 +43,10 @@ greatest_status-snoc [] outcome = omega arith
 greatest_status-snoc (first ∷ outcomes) outcome =
     let rest = greatest_status-snoc outcomes outcome in
     omega (arith, rest)
+
+-- The greater of two, as the code computes it.
+pub greater_of_two : (one other : ℕ) → ord_max nat_cmp one other ≡ max one other
+greater_of_two one other = grind (arith, common_steps)
 
 -- ---- the images so far
 
@@ -65,25 +77,75 @@ one_more files later request is_held sources i d old middle new status greatest 
       ∙ sym (greatest_status-snoc so_far.outcomes is.outcome);
 }
 
-pub up_to_last : (files later : KnownFiles) (request : ImagesRequest) (is_held : Bool) (i : ℕ) (d : ImageSource)
-    (old middle new : Streams) (status greatest : ℕ) (end : ImageEnd) → i < length request.sources.items
-    → HaveBeenDone files request is_held (take i request.sources.items) old middle status → later ≡ files
-    → IsImageEnd later request is_held (get_or request.sources.items i d) middle new end → end.is_last ≡ true
-    → greatest ≡ max status end.status → AreDone files request is_held old new greatest
-up_to_last files later request is_held i d old middle new status greatest end within so_far same is last greater = record {
+pub up_to_last : (files later : KnownFiles) (request : ImagesRequest) (is_held : Bool) (sources : List ImageSource) (i : ℕ) (d : ImageSource)
+    (old middle new : Streams) (status greatest : ℕ) (end : ImageEnd) → sources ≡ request.sources.items → i < length sources
+    → HaveBeenDone files request is_held (take i sources) old middle status → later ≡ files
+    → IsImageEnd later request is_held (get_or sources i d) middle new end → end.is_last ≡ true → greatest ≡ max status end.status
+    → AreDone files request is_held old new greatest
+up_to_last files later request is_held sources i d old middle new status greatest end names within so_far same is last greater = record {
   outcomes = so_far.outcomes ++ is.outcome ∷ [];
-  in_turn = last_done (IsImageDone files request is_held) is_last request.sources.items i d so_far.outcomes is.outcome old middle new within
-      so_far.so_far (subst (λ f. IsImageDone f request is_held (get_or request.sources.items i d) is.outcome middle new) same is.done)
-      (sym is.last ∙ last);
+  in_turn = subst (λ all. AreDoneInTurn (IsImageDone files request is_held) is_last all (so_far.outcomes ++ is.outcome ∷ []) old new) names
+      (last_done (IsImageDone files request is_held) is_last sources i d so_far.outcomes is.outcome old middle new within so_far.so_far
+      (subst (λ f. IsImageDone f request is_held (get_or sources i d) is.outcome middle new) same is.done)
+      (sym is.last ∙ last));
   is_greatest = greater ∙ ap (λ s. max s end.status) so_far.is_greatest ∙ ap (max (greatest_status so_far.outcomes)) is.status
       ∙ sym (greatest_status-snoc so_far.outcomes is.outcome);
 }
 
-pub all_of_them : (files : KnownFiles) (request : ImagesRequest) (is_held : Bool) (i : ℕ) (old new : Streams) (status : ℕ)
-    → length request.sources.items ≤ i → HaveBeenDone files request is_held (take i request.sources.items) old new status
-    → AreDone files request is_held old new status
-all_of_them files request is_held i old new status past so_far = record {
+pub all_of_them : (files : KnownFiles) (request : ImagesRequest) (is_held : Bool) (sources : List ImageSource) (i : ℕ) (old new : Streams)
+    (status : ℕ) → sources ≡ request.sources.items → length sources ≤ i
+    → HaveBeenDone files request is_held (take i sources) old new status → AreDone files request is_held old new status
+all_of_them files request is_held sources i old new status names past so_far = record {
   outcomes = so_far.outcomes;
-  in_turn = all_done (IsImageDone files request is_held) is_last request.sources.items i so_far.outcomes old new past so_far.so_far;
+  in_turn = subst (λ all. AreDoneInTurn (IsImageDone files request is_held) is_last all so_far.outcomes old new) names
+      (all_done (IsImageDone files request is_held) is_last sources i so_far.outcomes old new past so_far.so_far);
   is_greatest = so_far.is_greatest;
 }
+
+-- ---- an output in a file
+
+-- A status other than 2 is 0 or 1.
+outcome_status : (outcome : Result Done SourceFailure) → status_of_outcome outcome ≤ 2
+outcome_status (Ok done) = by done.good where
+  by : (good : Bool) → status_of good ≤ 2
+  by true = omega arith
+  by false = omega arith
+outcome_status (Err failed) = omega arith
+
+greatest_is_status : (outcomes : List (Result Done SourceFailure)) → greatest_status outcomes ≤ 2
+greatest_is_status [] = omega arith
+greatest_is_status (outcome ∷ later) =
+    let first = outcome_status outcome in
+    let rest = greatest_is_status later in
+    omega (arith, first, rest)
+
+pub below_two : (files : KnownFiles) (request : ImagesRequest) (before after : Inputs) (errors new_errors : WriteTrace) (status : ℕ)
+    (held : Option (List ℕ)) → AreHeld files request before after errors new_errors status held → status ≢ 2 → status < 2
+below_two files request before after errors new_errors status held are not =
+    let most = greatest_is_status are.done.outcomes in
+    omega (arith, are.done.is_greatest, most, not)
+
+-- The images did not change what is known of the files.
+pub texts_saved : (files later : KnownFiles) (request : ImagesRequest) (name : Bor (List ℕ)) (before after : Inputs)
+    (worked : Option (List FileStep)) (errors new_errors : WriteTrace) (status : ℕ) (output saved : List ℕ)
+    → AreHeld files request before (record { input = after.input; steps = worked }) errors new_errors status (Some output)
+    → status ≢ 2 → later ≡ files → saved ≡ output → IsSaved later name.now saved worked after.steps
+    → AreSaved files request name before after errors new_errors status
+texts_saved files later request name before after worked errors new_errors status output saved held not same bytes is =
+    TextsSaved output worked held (below_two files request _ _ errors new_errors status _ held not)
+    (subst (λ f. IsSaved f name.now output worked after.steps) same
+    (subst (λ b. IsSaved later name.now b worked after.steps) bytes is))
+
+pub texts_not_saved : (files later : KnownFiles) (request : ImagesRequest) (name : Bor (List ℕ)) (before after : Inputs)
+    (worked : Option (List FileStep)) (errors middle new_errors : WriteTrace) (other status : ℕ) (output saved : List ℕ)
+    (error : SaveError) (failure : Failure)
+    → AreHeld files request before (record { input = after.input; steps = worked }) errors middle other (Some output)
+    → other ≢ 2 → later ≡ files → saved ≡ output → IsNotSaved later name.now saved error worked after.steps
+    → failure ≡ failure_to_save error → Reports (File name) failure middle new_errors → status ≡ 2
+    → AreSaved files request name before after errors new_errors status
+texts_not_saved files later request name before after worked errors middle new_errors other status output saved error failure held not same
+    bytes is why reports two =
+    TextsNotSaved output worked middle other held (below_two files request _ _ errors middle other _ held not) error
+    (subst (λ f. IsNotSaved f name.now output error worked after.steps) same
+    (subst (λ b. IsNotSaved later name.now b error worked after.steps) bytes is))
+    (subst (λ f. Reports (File name) f middle new_errors) why reports) two

@@ -24,6 +24,7 @@ pub mod KnownArguments
 pub mod KnownRequests
 pub mod KnownBuildRequests
 pub mod KnownRuns
+pub mod KnownImages
 pub mod KnownInputs
 pub mod KnownOrders
 pub mod KnownWorks

@@ -10,6 +10,7 @@ ghost use Rattle.bootimg.specs.KnownRequests.{PartWordsAreKnown};
 ghost use Rattle.bootimg.specs.KnownRequests.{AllowedWordsAreKnown, ChangesAreKnown};
 ghost use Rattle.bootimg.specs.KnownRequests.{AllRequestsAreKnown, SelectionsAreKnown};
 ghost use Rattle.bootimg.specs.KnownRequests.{GetPlansAreKnown, PlansAreKnown};
+ghost use Rattle.bootimg.specs.KnownImages.{ImageOutcomesAreKnown, NextImagesAreKnown};
 ghost use Rattle.bootimg.specs.KnownRuns.{StatusesAreKnown, FailureLinesAreKnown};
 ghost use Rattle.bootimg.specs.KnownRuns.{ExtractLinesAreKnown, CompareLinesAreKnown};
 ghost use Rattle.bootimg.specs.KnownRuns.{NotesAreKnown, ValueLinesAreKnown};
@@ -140,4 +141,15 @@ pub fn compare_lines_are_known()
 /// The notes on signature nodes, on an alignment and on fixed positions are known lines.
 pub fn notes_are_known()
     ensures { NotesAreKnown }
+{}
+
+/// One of several images has a known name, and its outcome a known status. No image follows after a
+/// failed write, or if memory ran out.
+pub fn image_outcomes_are_known()
+    ensures { ImageOutcomesAreKnown }
+{}
+
+/// It is known which of two images are done.
+pub fn next_images_are_known()
+    ensures { NextImagesAreKnown }
 {}
