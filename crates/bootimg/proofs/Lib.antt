@@ -29,6 +29,7 @@ pub mod TaskNames
 pub mod BuildRequestFacts
 pub mod FirstFailureFacts
 pub mod RunEnds
+pub mod ImageFacts
 pub mod InputFacts
 pub mod OrderFacts
 pub mod WorkFacts
