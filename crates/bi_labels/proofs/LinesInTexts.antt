@@ -63,5 +63,5 @@ first_line text end e =
     let same : end + 1 ≡ suc (end_of_line text) = omega (arith, here.1) in
     rw (all, same, sym here.1) (cut_line text within)
 
-pub only_line : (text : List ℕ) → 0 < length text → position (λ byte. byte == 10) text ≡ None → lines_in text ≡ text ∷ []
-only_line text some e = one_line text some (ltb-false _ _ (not_found _ _ e))
+pub last_line : (text : List ℕ) → 0 < length text → position (λ byte. byte == 10) text ≡ None → lines_in text ≡ text ∷ []
+last_line text some e = one_line text some (ltb-false _ _ (not_found _ _ e))

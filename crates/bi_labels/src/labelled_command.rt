@@ -10,7 +10,7 @@ use std::alloc::Global;
 
 /// A command whose output has the name of the image in each line, as `put_labelled` puts it.
 #[derive(Clone, Copy)]
-pub struct Labelled<'a, C> {
+pub struct LabelledCommand<'a, C> {
     /// The command.
     pub command: &'a C,
     /// The form of what the command writes.
@@ -19,7 +19,7 @@ pub struct Labelled<'a, C> {
     pub name: &'a [u8],
 }
 
-impl<'a, C: Command> Command for Labelled<'a, C> {
+impl<'a, C: Command> Command for LabelledCommand<'a, C> {
     type Value = C::Value;
 
     type Failure = C::Failure;

@@ -6,5 +6,5 @@ mod labelled_command;
 mod labelled_text;
 pub mod laws;
 
-pub use labelled_command::Labelled;
+pub use labelled_command::LabelledCommand;
 pub use labelled_text::put_labelled;

@@ -1,3 +1,4 @@
+use Rattle.std.proofs.Common.{cond, ◌≤◌}
 use Rattle.std.proofs.Common.{◌≡◌, ◌≢◌, ◌==◌, ◌∙◌, false, inl, inr, is_some, count_by, true, Bool, ◌+◌, zero, suc, take, get_or, map}
 use Rattle.std.proofs.Common.{option_map, unwrap_or, slice_get, codes, ◌<◌, ◌++◌, ℕ, Bor, List, [], ◌∷◌, Option, Some, None, Result, Ok}
 use Rattle.std.proofs.Common.{Err, IfNone, IfSome, IfErr, MatchOption, length, ap, sym, subst, refl, arith}
@@ -20,8 +21,10 @@ use Rattle.clap.specs.declared.parser.matches.MatchedArg.{MatchedArg}
 use Rattle.bootimg.specs.CommandLine.{given_count, list_of, option_of, texts_of, AreEscaped, AreGiven, AreImages, ArePartSources}
 use Rattle.bootimg.specs.Words.{parts_of}
 use Rattle.bootimg.specs.CommandLine.{IsAllFailure, IsAllRequest, IsNoneGiven, IsFailureOutcome, IsEntry, IsFirstBad, IsSelection}
-use Rattle.bootimg.specs.CommandLine.{AreImageSources, IsImageSource, IsSelectionFailure}
+use Rattle.bootimg.specs.CommandLine.{AreImageSources, AreSources, IsImageSource, IsSelectionFailure, is_standard}
 use Rattle.bootimg.specs.declared.command_line.source.ImageSource.{ImageSource}
+use Rattle.bootimg.specs.declared.command_line.source.ImageSource.TheVariants.{File, Standard}
+use Rattle.std.proofs.lemmas.List.Sums.{sum_by-cons}
 use Rattle.bootimg.specs.CommandLine.{IsAddress, IsBadValue, IsImage, IsImageText, IsNameOf, IsPartSource, NoneIs, SelectsDefault}
 use Rattle.bootimg.specs.Numbers.{IsNumber}
 use Rattle.bootimg.specs.declared.codes.CodeField.TheVariants.{Os, Arch, ImageType, Compression}
@@ -296,6 +299,31 @@ sources_next arguments index d sources next source within are is one =
     rw (texts_push arguments index d within, is)
     (zip_push (λ argument. IsImageSource (Some argument)) (texts_of (take index arguments)) sources (get_or arguments index d).now source
     are one)
+
+-- However arguments name images, as many are standard input.
+pub same_inputs : (arguments : List (List ℕ)) (one other : List ImageSource) → AreImageSources arguments one → AreImageSources arguments other
+    → count_by is_standard one ≡ count_by is_standard other
+same_inputs [] [] [] are also = refl
+same_inputs [] [] (source ∷ other) are also = absurd also
+same_inputs [] (source ∷ one) other are also = absurd are
+same_inputs (argument ∷ arguments) [] other are also = absurd are
+same_inputs (argument ∷ arguments) (source ∷ one) [] are also = absurd also
+same_inputs (argument ∷ arguments) (Standard ∷ one) (Standard ∷ other) are also =
+    sum_by-cons (λ source. cond (is_standard source) 1 0) Standard one ∙ ap (λ n. 1 + n) (same_inputs arguments one other are.1 also.1)
+    ∙ sym (sum_by-cons (λ source. cond (is_standard source) 1 0) Standard other)
+same_inputs (argument ∷ arguments) (File name ∷ one) (File another ∷ other) are also =
+    sum_by-cons (λ source. cond (is_standard source) 1 0) (File name) one ∙ ap (λ n. 0 + n) (same_inputs arguments one other are.1 also.1)
+    ∙ sym (sum_by-cons (λ source. cond (is_standard source) 1 0) (File another) other)
+same_inputs (argument ∷ arguments) (Standard ∷ one) (File name ∷ other) are also = absurd (also.0.1 are.0)
+same_inputs (argument ∷ arguments) (File name ∷ one) (Standard ∷ other) are also = absurd (are.0.1 also.0)
+
+-- No images are named by arguments of which two are standard input.
+pub two_inputs : (arguments : List (List ℕ)) (sources : List ImageSource) → AreImageSources arguments sources
+    → 1 < count_by is_standard sources → NoneIs (AreSources arguments)
+two_inputs arguments sources are two value named =
+    let same = same_inputs arguments value sources named.each are in
+    let most = named.one_input in
+    absurd (omega (arith, same, most, two))
 
 -- The images so far, and one more.
 pub images_next : (arguments : List (Bor (List ℕ))) (index : ℕ) (d : Bor (List ℕ)) (images more : List ImageSpec)

@@ -6,7 +6,10 @@ use Rattle.std.proofs.lemmas.Grind.{common_steps}
 use Rattle.bi_base.specs.Traces.{WriteTrace}
 use Rattle.bi_files.specs.declared.saving.SaveError.{SaveError}
 use Rattle.bi_files.specs.Files.{FileStep, IsNotSaved, IsSaved, KnownFiles}
+use Rattle.bi_common.specs.declared.format.Format.{Format}
+use Rattle.bi_base.specs.Limits.{Limits}
 use Rattle.bi_labels.specs.InTurn.{AreDoneInTurn}
+use Rattle.bi_labels.specs.LabelledCommands.{labelled_promise}
 use Rattle.bi_labels.proofs.DoneInTurn.{AreDoneSoFar, all_done, last_done, none_done, one_more_done}
 use Rattle.bootimg.specs.declared.command_line.images.ImagesRequest.{ImagesRequest}
 use Rattle.bootimg.specs.declared.command_line.source.ImageSource.{ImageSource}
@@ -16,9 +19,9 @@ use Rattle.bootimg.specs.declared.several.ImageEnd.{ImageEnd}
 use Rattle.bootimg.specs.declared.jobs.SourceFailure.{SourceFailure}
 use Rattle.bootimg.specs.declared.tasks.Done.{Done}
 use Rattle.bootimg.specs.Failures.{failure_to_save}
-use Rattle.bootimg.specs.Runs.{EndsWell, EndsWithFailure, Inputs, IsEnd, Reports}
+use Rattle.bootimg.specs.Runs.{EndsWell, EndsWithFailure, Inputs, IsEnd, IsImageWork, Promise, Reports, Work}
 use Rattle.bootimg.specs.SeveralImages.{AreDone, AreHeld, AreSaved, IsImageDone, IsImageEnd, Streams, greatest_status}
-use Rattle.bootimg.specs.SeveralImages.{TextsNotSaved, TextsSaved, is_last, reported, status_of_outcome}
+use Rattle.bootimg.specs.SeveralImages.{TextsNotSaved, TextsSaved, is_last, reported_outcome, status_of_outcome}
 use Rattle.bootimg.specs.Tasks.{status_of}
 
 -- Images that were done in turn.
@@ -27,12 +30,30 @@ use Rattle.bootimg.specs.Tasks.{status_of}
 
 -- The status is that of the outcome.
 pub status_of_end : (errors new_errors : WriteTrace) (status : ℕ) (is_held : Bool) (outcome : Result Done SourceFailure)
-    → IsEnd errors new_errors status (reported is_held outcome) → status ≡ status_of_outcome outcome
+    → IsEnd errors new_errors status (reported_outcome is_held outcome) → status ≡ status_of_outcome outcome
 status_of_end errors new_errors status is_held (Ok done) (EndsWell other same notes is) =
     let equal : other ≡ done = cc in is ∙ ap (λ d. status_of d.good) equal
 status_of_end errors new_errors status is_held (Ok done) (EndsWithFailure failed same reports is) = absurd cc
 status_of_end errors new_errors status is_held (Err failed) (EndsWell done same notes is) = absurd cc
 status_of_end errors new_errors status is_held (Err failed) (EndsWithFailure other same reports is) = is
+
+-- How the work ended, by the outcome as it was reported.
+pub image_ended : (errors new_errors : WriteTrace) (status : ℕ) (is_held : Bool) (outcome shown : Result Done SourceFailure)
+    → shown ≡ reported_outcome is_held outcome → IsEnd errors new_errors status shown
+    → IsEnd errors new_errors (status_of_outcome outcome) (reported_outcome is_held outcome) × (status ≡ status_of_outcome outcome)
+image_ended errors new_errors status is_held outcome shown is end =
+    let ends = subst (λ o. IsEnd errors new_errors status o) is end in
+    let same = status_of_end errors new_errors status is_held outcome ends in
+    (subst (λ s. IsEnd errors new_errors s (reported_outcome is_held outcome)) same ends, same)
+
+-- The work of a command with the form and the name of the image.
+pub named_work : (files : KnownFiles) (promise : Promise) (format other : Format) (label text : List ℕ) (source : ImageSource)
+    (limits : Limits) (work : Work) (old new : Option (List FileStep)) → format ≡ other → label ≡ text
+    → IsImageWork files (labelled_promise format label promise) source limits work old new
+    → IsImageWork files (labelled_promise other text promise) source limits work old new
+named_work files promise format other label text source limits work old new same named done =
+    subst (λ t. IsImageWork files (labelled_promise other t promise) source limits work old new) named
+    (subst (λ f. IsImageWork files (labelled_promise f label promise) source limits work old new) same done)
 
 -- ---- the greatest status
 
@@ -63,12 +84,12 @@ pub none_yet : (files : KnownFiles) (request : ImagesRequest) (is_held : Bool) (
 none_yet files request is_held streams status is =
     record { outcomes = []; so_far = none_done (IsImageDone files request is_held) is_last streams; is_greatest = is }
 
-pub one_more : (files later : KnownFiles) (request : ImagesRequest) (is_held : Bool) (sources : List ImageSource) (i : ℕ) (d : ImageSource)
+pub one_more_image : (files later : KnownFiles) (request : ImagesRequest) (is_held : Bool) (sources : List ImageSource) (i : ℕ) (d : ImageSource)
     (old middle new : Streams) (status greatest : ℕ) (end : ImageEnd) → i < length sources
     → HaveBeenDone files request is_held (take i sources) old middle status → later ≡ files
     → IsImageEnd later request is_held (get_or sources i d) middle new end → end.is_last ≡ false → greatest ≡ max status end.status
     → HaveBeenDone files request is_held (take (i + 1) sources) old new greatest
-one_more files later request is_held sources i d old middle new status greatest end within so_far same is more greater = record {
+one_more_image files later request is_held sources i d old middle new status greatest end within so_far same is more greater = record {
   outcomes = so_far.outcomes ++ is.outcome ∷ [];
   so_far = one_more_done (IsImageDone files request is_held) is_last sources i d so_far.outcomes is.outcome old middle new within
       so_far.so_far (subst (λ f. IsImageDone f request is_held (get_or sources i d) is.outcome middle new) same is.done)

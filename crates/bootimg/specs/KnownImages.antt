@@ -13,7 +13,7 @@ use Rattle.bootimg.specs.declared.jobs.SourceFailure.{SourceFailure}
 use Rattle.bootimg.specs.declared.tasks.Done.{Done}
 use Rattle.bootimg.specs.KnownRuns.{bad_magic, file_r1}
 use Rattle.bootimg.specs.Runs.{source_failure}
-use Rattle.bootimg.specs.SeveralImages.{IsImageDone, Streams, greatest_status, is_last, reported}
+use Rattle.bootimg.specs.SeveralImages.{IsImageDone, Streams, greatest_status, is_last, reported_outcome}
 use Rattle.bootimg.specs.SeveralImages.{source_text, status_of_outcome}
 
 -- Runs over several images, by which a reader can judge the definitions.
@@ -42,8 +42,8 @@ pub record ImageOutcomesAreKnown : Type 0 where
   pub after_missing_file : is_last (failed_r1 CannotOpen) ≡ false
   pub after_write : is_last (failed_r1 (Call WriteFailed)) ≡ true
   pub after_memory : is_last (failed_r1 (Call OutOfMemory)) ≡ true
-  pub held_write : reported true (failed_r1 (Call WriteFailed)) ≡ failed_r1 (Call OutOfMemory)
-  pub held_refusal : reported true (failed_r1 (Call (Refused bad_magic)))
+  pub held_write : reported_outcome true (failed_r1 (Call WriteFailed)) ≡ failed_r1 (Call OutOfMemory)
+  pub held_refusal : reported_outcome true (failed_r1 (Call (Refused bad_magic)))
       ≡ failed_r1 (Call (Refused bad_magic))
 
 -- Two images, of which the first has this outcome, were done in turn with these outcomes.

@@ -75,9 +75,10 @@ reported_failure false failure = failure
 reported_failure true failure = failure_in_memory failure
 
 -- The outcome as it is reported.
-abbrev pub reported : (in_memory : Bool) → Result Done SourceFailure → Result Done SourceFailure
-reported in_memory (Ok done) = Ok done
-reported in_memory (Err failed) =
+abbrev pub reported_outcome : (in_memory : Bool) → Result Done SourceFailure
+    → Result Done SourceFailure
+reported_outcome in_memory (Ok done) = Ok done
+reported_outcome in_memory (Err failed) =
     Err (source_failure failed.source (reported_failure in_memory failed.failure))
 
 -- The status for this outcome.
@@ -92,7 +93,8 @@ pub record IsImageDone (files : KnownFiles) (request : ImagesRequest) (in_memory
   where
     pub work : IsImageWork files (image_promise request source) source request.limits
         (work_between old new outcome) old.steps new.steps
-    pub end : IsEnd old.errors new.errors (status_of_outcome outcome) (reported in_memory outcome)
+    pub end : IsEnd old.errors new.errors (status_of_outcome outcome)
+        (reported_outcome in_memory outcome)
 
 -- ---- one after another
 

@@ -5,7 +5,7 @@ ghost use Rattle.bootimg.specs.ProgramRuns.{IsImagesRun};
 ghost use Rattle.bootimg.specs.Runs.{IsEnd, IsImageWork};
 ghost use Rattle.bootimg.specs.SeveralImages.{AreDone, AreHeld, AreSaved, IsImageEnd};
 ghost use Rattle.bootimg.specs.SeveralImages.{image_promise, is_last as is_last_of};
-ghost use Rattle.bootimg.specs.SeveralImages.{reported as reported_of, status_of_outcome};
+ghost use Rattle.bootimg.specs.SeveralImages.{reported_outcome as reported_of, status_of_outcome};
 
 use crate::command_line::{ImageSource, ImagesRequest};
 use crate::failure::Failure;
@@ -15,7 +15,7 @@ use crate::requests::{conclude, in_memory};
 use crate::tasks::{Done, PlacedTask, SUCCESS};
 use bi_base::{Error, TracedRead, TracedWrite, TracedWriter};
 use bi_files::{FileSystem, save};
-use bi_labels::Labelled;
+use bi_labels::LabelledCommand;
 use std::alloc::Global;
 
 /// How the work on one of several images ended.
@@ -204,7 +204,7 @@ fn run_on_named<'a, S: TracedRead, T: TracedWrite, F: FileSystem>(
         task: &request.task,
         offset: request.offset,
     };
-    let named = Labelled {
+    let named = LabelledCommand {
         command: &task,
         format: request.task.format(),
         name: source.name(),
@@ -224,13 +224,13 @@ fn end_image<E: TracedWrite>(
     ensures last { result.is_last ≡ is_last_of outcome.entry }
 {
     ImageEnd {
-        status: conclude(reported(outcome, is_held), errors),
+        status: conclude(reported_outcome(outcome, is_held), errors),
         is_last: is_last(outcome),
     }
 }
 
 /// Returns an outcome as it is reported: a failed write to memory means that memory ran out.
-fn reported<'a>(
+fn reported_outcome<'a>(
     outcome: Result<Done, SourceFailure<'a>>,
     is_held: bool,
 ) -> Result<Done, SourceFailure<'a>>

@@ -3,7 +3,7 @@
 ghost use Rattle.std.specs.Prelude.{◌≡◌, ◌↔◌, IfErr, IfOk, IsFalse, IsTrue, count_by};
 ghost use Rattle.bootimg.specs.CommandLine.{AreImageSources, AreSources, IsBadValue};
 ghost use Rattle.bootimg.specs.CommandLine.{IsFailureOutcome, NamesImages, NamesNoMore};
-ghost use Rattle.bootimg.specs.CommandLine.{TakesImages, image_arguments as image_arguments_of};
+ghost use Rattle.bootimg.specs.CommandLine.{TakesImages, image_arguments};
 ghost use Rattle.bootimg.specs.CommandLine.{is_standard, texts_of};
 
 use crate::command_line::source::{ImageSource, named_source};
@@ -33,7 +33,7 @@ pub fn names_images(name: &str, options: &ArgMatches<'_>) -> bool
     ensures several { IsTrue result → NamesImages name.now options.now }
     ensures no_more { IsFalse result → NamesNoMore name.now options.now }
 {
-    takes_images(name) && image_arguments(options).len() >= 2
+    takes_images(name) && options.get_strs("file").unwrap_or(&[]).len() >= 2
 }
 
 /// Returns whether the command of this name takes any number of images.
@@ -43,13 +43,6 @@ fn takes_images(name: &str) -> bool
     matches!(name, "list" | "verify" | "check" | "scan")
 }
 
-/// Returns the arguments that name images.
-fn image_arguments<'r, 'a>(options: &'r ArgMatches<'a>) -> &'r [&'a str]
-    ensures { texts_of result.now ≡ image_arguments_of options.entry.now }
-{
-    options.get_strs("file").unwrap_or(&[])
-}
-
 /// Returns the images that the options name. Fails with BadValue if more than one of them is
 /// standard input, or with OutOfMemory.
 pub fn image_sources<'a>(
@@ -57,11 +50,12 @@ pub fn image_sources<'a>(
     options: &ArgMatches<'a>,
 ) -> Result<Vec<ImageSource<'a>>, NoRequest>
     ensures sources { IfOk result (λ sources.
-        AreSources (image_arguments_of options.now) sources.items) }
+        AreSources (image_arguments options.now) sources.items) }
     ensures failure { IfErr result (IsFailureOutcome
-        (IsBadValue (AreSources (image_arguments_of options.now)))) }
+        (IsBadValue (AreSources (image_arguments options.now)))) }
 {
-    let sources = named_sources(alloc, image_arguments(options))?;
+    let arguments = options.get_strs("file").unwrap_or(&[]);
+    let sources = named_sources(alloc, arguments)?;
     if standard_inputs(&sources) > 1 {
         return Err(NoRequest::Failure(Failure::BadValue));
     }

@@ -1,5 +1,5 @@
 use Rattle.std.proofs.Common.{◌<◌, length, sym, ◌∙◌, rules}
-use Rattle.bi_labels.proofs.LinesInTexts.{first_line, only_line}
+use Rattle.bi_labels.proofs.LinesInTexts.{first_line, last_line}
 use Rattle.bi_labels.proofs.labelled_text.split_line.Goals as goal
 
 pub returns-in-Some-clause-some : goal.returns-in-Some-clause-some
@@ -8,4 +8,4 @@ returns-in-Some-clause-some c = first_line c.args.text.now c.in-Some.end (sym c.
 pub returns-in-None-clause-some : goal.returns-in-None-clause-some
 returns-in-None-clause-some c =
     let some : 0 < length c.args.text.now = search rules in
-    only_line c.args.text.now some (sym c.position_of_newline.ensures ∙ c.in-None.is)
+    last_line c.args.text.now some (sym c.position_of_newline.ensures ∙ c.in-None.is)

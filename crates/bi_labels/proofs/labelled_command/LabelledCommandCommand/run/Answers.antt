@@ -3,7 +3,7 @@ use Rattle.std.proofs.lemmas.Result.{err_from_is_err_and}
 use Rattle.bi_base.specs.Commands.{SinkFailed}
 use Rattle.bi_common.specs.Shown.{shown_text}
 use Rattle.bi_labels.specs.LabelledTexts.{labelled_text}
-use Rattle.bi_labels.proofs.labelled_command.LabelledCommand.run.Goals as goal
+use Rattle.bi_labels.proofs.labelled_command.LabelledCommandCommand.run.Goals as goal
 
 pub returns-in_err-result-clause-failed : goal.returns-in_err-result-clause-failed
 returns-in_err-result-clause-failed g c =
