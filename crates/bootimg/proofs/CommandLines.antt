@@ -301,8 +301,8 @@ sources_next arguments index d sources next source within are is one =
     are one)
 
 -- However arguments name images, as many are standard input.
-pub same_inputs : (arguments : List (List ℕ)) (one other : List ImageSource) → AreImageSources arguments one → AreImageSources arguments other
-    → count_by is_standard one ≡ count_by is_standard other
+pub same_inputs : (arguments : List (List ℕ)) (one other : List ImageSource) → AreImageSources arguments one
+    → AreImageSources arguments other → count_by is_standard one ≡ count_by is_standard other
 same_inputs [] [] [] are also = refl
 same_inputs [] [] (source ∷ other) are also = absurd also
 same_inputs [] (source ∷ one) other are also = absurd are

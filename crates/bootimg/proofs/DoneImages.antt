@@ -1,4 +1,5 @@
-use Rattle.std.proofs.Common.{◌≡◌, ◌≢◌, ◌∙◌, ◌+◌, ◌<◌, ◌≤◌, ℕ, max, Bool, true, false, Bor, List, [], ◌∷◌, ◌++◌, Option, Some, Result, Ok, Err}
+use Rattle.std.proofs.Common.{◌≡◌, ◌≢◌, ◌∙◌, ◌+◌, ◌<◌, ◌≤◌, ℕ, max, Bool, true, false, Bor, List, [], ◌∷◌, ◌++◌, Option, Some}
+use Rattle.std.proofs.Common.{Result, Ok, Err}
 use Rattle.std.proofs.Common.{ap, arith, get_or, length, refl, subst, sym, take}
 use Rattle.std.specs.Ordering.{ord_max}
 use Rattle.std.proofs.Common.{nat_cmp}
@@ -21,7 +22,7 @@ use Rattle.bootimg.specs.declared.tasks.Done.{Done}
 use Rattle.bootimg.specs.Failures.{failure_to_save}
 use Rattle.bootimg.specs.Runs.{EndsWell, EndsWithFailure, Inputs, IsEnd, IsImageWork, Promise, Reports, Work}
 use Rattle.bootimg.specs.SeveralImages.{AreDone, AreHeld, AreSaved, IsImageDone, IsImageEnd, Streams, greatest_status}
-use Rattle.bootimg.specs.SeveralImages.{TextsNotSaved, TextsSaved, is_last, reported_outcome, status_of_outcome}
+use Rattle.bootimg.specs.SeveralImages.{OneHasFailed, TextsNotSaved, TextsSaved, is_last, reported_outcome, status_of_outcome}
 use Rattle.bootimg.specs.Tasks.{status_of}
 
 -- Images that were done in turn.
@@ -84,12 +85,12 @@ pub none_yet : (files : KnownFiles) (request : ImagesRequest) (is_held : Bool) (
 none_yet files request is_held streams status is =
     record { outcomes = []; so_far = none_done (IsImageDone files request is_held) is_last streams; is_greatest = is }
 
-pub one_more_image : (files later : KnownFiles) (request : ImagesRequest) (is_held : Bool) (sources : List ImageSource) (i : ℕ) (d : ImageSource)
-    (old middle new : Streams) (status greatest : ℕ) (end : ImageEnd) → i < length sources
+pub next_image_done : (files later : KnownFiles) (request : ImagesRequest) (is_held : Bool) (sources : List ImageSource) (i : ℕ)
+    (d : ImageSource) (old middle new : Streams) (status greatest : ℕ) (end : ImageEnd) → i < length sources
     → HaveBeenDone files request is_held (take i sources) old middle status → later ≡ files
     → IsImageEnd later request is_held (get_or sources i d) middle new end → end.is_last ≡ false → greatest ≡ max status end.status
     → HaveBeenDone files request is_held (take (i + 1) sources) old new greatest
-one_more_image files later request is_held sources i d old middle new status greatest end within so_far same is more greater = record {
+next_image_done files later request is_held sources i d old middle new status greatest end within so_far same is more greater = record {
   outcomes = so_far.outcomes ++ is.outcome ∷ [];
   so_far = one_more_done (IsImageDone files request is_held) is_last sources i d so_far.outcomes is.outcome old middle new within
       so_far.so_far (subst (λ f. IsImageDone f request is_held (get_or sources i d) is.outcome middle new) same is.done)
@@ -98,8 +99,8 @@ one_more_image files later request is_held sources i d old middle new status gre
       ∙ sym (greatest_status-snoc so_far.outcomes is.outcome);
 }
 
-pub up_to_last : (files later : KnownFiles) (request : ImagesRequest) (is_held : Bool) (sources : List ImageSource) (i : ℕ) (d : ImageSource)
-    (old middle new : Streams) (status greatest : ℕ) (end : ImageEnd) → sources ≡ request.sources.items → i < length sources
+pub up_to_last : (files later : KnownFiles) (request : ImagesRequest) (is_held : Bool) (sources : List ImageSource) (i : ℕ)
+    (d : ImageSource) (old middle new : Streams) (status greatest : ℕ) (end : ImageEnd) → sources ≡ request.sources.items → i < length sources
     → HaveBeenDone files request is_held (take i sources) old middle status → later ≡ files
     → IsImageEnd later request is_held (get_or sources i d) middle new end → end.is_last ≡ true → greatest ≡ max status end.status
     → AreDone files request is_held old new greatest
@@ -170,3 +171,11 @@ texts_not_saved files later request name before after worked errors middle new_e
     (subst (λ f. IsNotSaved f name.now output error worked after.steps) same
     (subst (λ b. IsNotSaved later name.now b error worked after.steps) bytes is))
     (subst (λ f. Reports (File name) f middle new_errors) why reports) two
+
+-- An image was refused or failed, and nothing was saved.
+pub one_has_failed : (files : KnownFiles) (request : ImagesRequest) (name : Bor (List ℕ)) (before after : Inputs)
+    (errors new_errors : WriteTrace) (status : ℕ) (held : Option (List ℕ))
+    → AreHeld files request before after errors new_errors status held → status ≡ 2
+    → AreSaved files request name before after errors new_errors 2
+one_has_failed files request name before after errors new_errors status held are is =
+    OneHasFailed held (subst (λ s. AreHeld files request before after errors new_errors s held) is are) refl

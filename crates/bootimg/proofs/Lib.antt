@@ -17,6 +17,7 @@ pub mod SameStreams
 pub mod SelectionNames
 pub mod ProgramFacts
 pub mod NoRequests
+pub mod ImageCommands
 pub mod CauseLines
 pub mod LeftFiles
 pub mod MemoryRuns

@@ -238,7 +238,8 @@ image_done_keeps files request in_memory source outcome old new is =
     record { reader = keeps.reader; writer = keeps.writer; log = end_keeps _ _ _ _ is.end }
 
 pub done_in_turn_keeps : (files : KnownFiles) (request : ImagesRequest) (in_memory : Bool) (sources : List ImageSource)
-    (outcomes : List (Result Done SourceFailure)) (old new : Streams) → AreDoneInTurn (IsImageDone files request in_memory) is_last sources outcomes old new
+    (outcomes : List (Result Done SourceFailure)) (old new : Streams)
+    → AreDoneInTurn (IsImageDone files request in_memory) is_last sources outcomes old new
     → AreSameStreams old new
 done_in_turn_keeps files request in_memory sources outcomes old new (AllDone streams) = record { reader = refl; writer = refl; log = refl }
 done_in_turn_keeps files request in_memory sources outcomes old new (NextDone source later outcome others first middle last done not rest) =

@@ -51,7 +51,8 @@ list_task options flag (task.Extract selection) is = absurd (other_bytes (codes 
 list_task options flag task.Convert is = absurd (other_bytes (codes "list") (codes "convert") refl is.0)
 
 -- The task of `verify --json`.
-pub verify_task : (options : ArgMatches) → json_flag options ≡ Some (codes "true") → (given : Task) → IsTask (codes "verify") options given →
+pub verify_task : (options : ArgMatches) → json_flag options ≡ Some (codes "true") → (given : Task) →
+    IsTask (codes "verify") options given →
     given ≡ task.Verify Json
 verify_task options flag (task.Normalise form) is = absurd (other_bytes (codes "verify") (codes "normalise") refl is.0)
 verify_task options flag (task.Show how) is = absurd (other_bytes (codes "verify") (codes "show") refl is.0)

@@ -274,7 +274,8 @@ explain_run run (RanJob request is lengths ran) =
     let explains = subst (λ job. IsJobWork without_files job request.limits (work_of run ran.outcome) run.steps run.new_steps) job work in
     inl (ran.outcome, explains.0, explains.1, ran.end)
 explain_run run (RanEach request is ran) =
-    absurd (explain_takes_none (subst TakesImages (command_is explain_line is.name is.options is.given (codes "explain") refl) is.is.names.takes))
+    absurd (explain_takes_none
+    (subst TakesImages (command_is explain_line is.name is.options is.given (codes "explain") refl) is.is.names.takes))
 explain_run run (ExtractedAll request is ran) =
     absurd (other_bytes (codes "extract") (codes "explain") refl (command_is explain_line (codes "extract") is.options is.given
     (codes "explain") refl))
@@ -351,7 +352,8 @@ normalised source old new output new_output done piped has =
     let normal = subst (λ input. IsNormalForm widest Embedded input moved.output) (sym input) moved.is_output.holds.0.output.normal in
     subst (λ bytes. Writes output bytes new_output) (kernel_output moved.output normal) moved.written
 
-task_done : (source : ImageSource) (work : Work) (done : Done) → IsTaskWork (plan_promise (normalising source) widest) source widest work → work.outcome ≡ Ok done →
+task_done : (source : ImageSource) (work : Work) (done : Done) →
+    IsTaskWork (plan_promise (normalising source) widest) source widest work → work.outcome ≡ Ok done →
     work.input.remaining ≡ Some kernel_file_with_rest → Writes work.output kernel_file work.new_output
 task_done source work done (Succeeded other piped is) good has =
     normalised source work.input work.new_input work.output work.new_output other piped has

@@ -1,6 +1,6 @@
 use Rattle.std.proofs.Common.{◌∙◌, arith, refl, rules}
 use Rattle.bootimg.specs.declared.command_line.source.ImageSource.TheVariants.{Standard}
-use Rattle.bootimg.proofs.DoneImages.{all_of_them, greater_of_two, none_yet, one_more_image, up_to_last}
+use Rattle.bootimg.proofs.DoneImages.{all_of_them, greater_of_two, none_yet, next_image_done, up_to_last}
 use Rattle.bootimg.proofs.several.do_each.Goals as goal
 
 pub loop-source-init : goal.loop-source-init
@@ -14,7 +14,7 @@ returns-then-end-clause-done g c =
 
 pub loop-source-preserved : goal.loop-source-preserved
 loop-source-preserved g c = (
-  one_more_image _ _ c.args.request.now c.args.is_held c.as_slice-sources.result.now c.loop-source.source-index Standard _ _ _ c.loop-source.status
+  next_image_done _ _ c.args.request.now c.args.is_held c.as_slice-sources.result.now c.loop-source.source-index Standard _ _ _ c.loop-source.status
       c.max-status.result c.do_image-end.result (omega (arith, c.loop-source-test.true)) c.loop-source.invariant.0 c.loop-source.invariant.1
       c.do_image-end.ensures.end c.if-end.false (c.max-status.ensures ∙ greater_of_two c.loop-source.status c.do_image-end.result.status),
   c.do_image-end.ensures.same_files ∙ c.loop-source.invariant.1,

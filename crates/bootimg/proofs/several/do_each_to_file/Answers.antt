@@ -1,13 +1,16 @@
-use Rattle.std.proofs.Common.{Some, rules, ap, subst}
-use Rattle.bootimg.specs.SeveralImages.{OneHasFailed}
-use Rattle.bootimg.proofs.DoneImages.{below_two, texts_not_saved, texts_saved}
+use Rattle.bootimg.proofs.DoneImages.{one_has_failed, texts_not_saved, texts_saved}
 use Rattle.bootimg.proofs.several.do_each_to_file.Goals as goal
 
-pub returns-then-status : goal.returns-then-status
-returns-then-status g c = ?
+pub returns-then-status-eq2 : goal.returns-then-status-eq2
+returns-then-status-eq2 g c = one_has_failed _ c.args.request.now c.args.name _ _ _ _ _ _ c.do_each_in_memory.ensures.held c.if-status-eq2.true
 
 pub returns-in-Ok : goal.returns-in-Ok
-returns-in-Ok g c = ?
+returns-in-Ok g c =
+    texts_saved _ _ c.args.request.now c.args.name _ _ _ _ _ _ _ c.deref.result.now c.do_each_in_memory.ensures.held c.if-status-eq2.false
+    c.do_each_in_memory.ensures.same_files c.deref.ensures.value c.in-Ok.ensures.saved
 
 pub returns : goal.returns
-returns g c = ?
+returns g c =
+    texts_not_saved _ _ c.args.request.now c.args.name _ _ _ _ _ _ _ _ _ c.deref.result.now c.in-Err.error c.from.result
+    c.do_each_in_memory.ensures.held c.if-status-eq2.false c.do_each_in_memory.ensures.same_files c.deref.ensures.value
+    c.in-Err.ensures.failed c.from.ensures c.report_failure.ensures.line c.report_failure.ensures.status
