@@ -27,7 +27,8 @@ use Rattle.bootimg.specs.SeveralImages.{AreHeld, AreSaved, IsImageDone, OneHasFa
 use Rattle.bi_labels.specs.InTurn.{AllDone, AreDoneInTurn, LastDone, NextDone}
 use Rattle.bootimg.specs.ProgramRuns.{EachToFile, EachToStandardOutput, IsImagesRun, RanEach, streams_after, streams_before}
 use Rattle.bootimg.specs.declared.command_line.images.ImagesRequest.{ImagesRequest}
-use Rattle.bootimg.specs.Runs.{Inputs, Promise, Run, Work, IsFileRead, IsFileNotRead, CouldNotOpen, OpenedNotRead, IsImageRead, InputRead, FileRead}
+use Rattle.bootimg.specs.Runs.{Inputs, Promise, Run, Work, IsFileRead, IsFileNotRead, CouldNotOpen, OpenedNotRead, IsImageRead}
+use Rattle.bootimg.specs.Runs.{InputRead, FileRead}
 use Rattle.bootimg.specs.Runs.{IsImageNotRead, InputNotRead, FileNotRead, IsPart, ArePartsRead, IsImageWork, DoneOnInput, DoneOnFile}
 use Rattle.bootimg.specs.Runs.{FileNotOpened, IsCompareWork, BothRead, OneNotRead, OtherNotRead, IsBuildWork, BuiltWithInput, BuiltOfFiles}
 use Rattle.bootimg.specs.Runs.{PartNotRead, NoRoom, IsJobWork, IsSavedWork, OutputSaved, OutputNotSaved, NoOutput, IsOutputRun}
@@ -283,8 +284,8 @@ images_run_leaves base names arguments request run output is named are (EachToSt
     kept None keeps = tt
     kept (Some after) keeps = NoFileIsNamedForEach request is named (names_kept base names run.steps after are keeps)
 images_run_leaves base names arguments request run output is named are (EachToFile name saved same) contents =
-    saved_images_leave base names arguments request name (inputs_before run) (inputs_after run) run.errors run.new_errors run.status is named
-    are saved contents
+    saved_images_leave base names arguments request name (inputs_before run) (inputs_after run) run.errors run.new_errors run.status is
+    named are saved contents
 
 all_work_leaves : (base names : Names) (arguments : List (List ℕ)) (request : AllRequest) (before after : Inputs)
     (errors new_errors : WriteTrace) (status : ℕ) (outcome : Result Done SourceFailure) → IsAllRequested arguments request
