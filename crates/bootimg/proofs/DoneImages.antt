@@ -1,9 +1,6 @@
-use Rattle.std.proofs.Common.{◌≡◌, ◌≢◌, ◌∙◌, ◌+◌, ◌<◌, ◌≤◌, ℕ, max, Bool, true, false, Bor, List, [], ◌∷◌, ◌++◌, Option, Some}
+use Rattle.std.proofs.Common.{◌≡◌, ◌≢◌, ◌∙◌, ◌+◌, ◌<◌, ◌≤◌, ℕ, max, Bool, true, false, Bor, List, [], ◌∷◌, ◌++◌, Option, None, Some}
 use Rattle.std.proofs.Common.{Result, Ok, Err}
 use Rattle.std.proofs.Common.{ap, arith, get_or, length, refl, subst, sym, take}
-use Rattle.std.specs.Ordering.{ord_max}
-use Rattle.std.proofs.Common.{nat_cmp}
-use Rattle.std.proofs.lemmas.Grind.{common_steps}
 use Rattle.bi_base.specs.Traces.{WriteTrace}
 use Rattle.bi_files.specs.declared.saving.SaveError.{SaveError}
 use Rattle.bi_files.specs.Files.{FileStep, IsNotSaved, IsSaved, KnownFiles}
@@ -20,7 +17,9 @@ use Rattle.bootimg.specs.declared.several.ImageEnd.{ImageEnd}
 use Rattle.bootimg.specs.declared.jobs.SourceFailure.{SourceFailure}
 use Rattle.bootimg.specs.declared.tasks.Done.{Done}
 use Rattle.bootimg.specs.Failures.{failure_to_save}
-use Rattle.bootimg.specs.Runs.{EndsWell, EndsWithFailure, Inputs, IsEnd, IsImageWork, Promise, Reports, Work}
+use Rattle.bootimg.specs.ProgramRuns.{EachToFile, EachToStandardOutput, IsImagesRun, streams_after, streams_before}
+use Rattle.bootimg.specs.Runs.{EndsWell, EndsWithFailure, Inputs, IsEnd, IsImageWork, Promise, Reports, Run, Work, inputs_after}
+use Rattle.bootimg.specs.Runs.{inputs_before}
 use Rattle.bootimg.specs.SeveralImages.{AreDone, AreHeld, AreSaved, IsImageDone, IsImageEnd, Streams, greatest_status}
 use Rattle.bootimg.specs.SeveralImages.{OneHasFailed, TextsNotSaved, TextsSaved, is_last, reported_outcome, status_of_outcome}
 use Rattle.bootimg.specs.Tasks.{status_of}
@@ -65,10 +64,6 @@ greatest_status-snoc [] outcome = omega arith
 greatest_status-snoc (first ∷ outcomes) outcome =
     let rest = greatest_status-snoc outcomes outcome in
     omega (arith, rest)
-
--- The greater of two, as the code computes it.
-pub greater_of_two : (one other : ℕ) → ord_max nat_cmp one other ≡ max one other
-greater_of_two one other = grind (arith, common_steps)
 
 -- ---- the images so far
 
@@ -179,3 +174,14 @@ pub one_has_failed : (files : KnownFiles) (request : ImagesRequest) (name : Bor 
     → AreSaved files request name before after errors new_errors 2
 one_has_failed files request name before after errors new_errors status held are is =
     OneHasFailed held (subst (λ s. AreHeld files request before after errors new_errors s held) is are) refl
+
+-- ---- runs
+
+pub images_to_output : (files : KnownFiles) (request : ImagesRequest) (run : Run) → request.output ≡ None
+    → AreDone files request false (streams_before run) (streams_after run) run.status → IsImagesRun files request run request.output
+images_to_output files request run is done = subst (λ o. IsImagesRun files request run o) (sym is) (EachToStandardOutput done)
+
+pub images_to_file : (files : KnownFiles) (request : ImagesRequest) (run : Run) (name : Bor (List ℕ)) → request.output ≡ Some name
+    → AreSaved files request name (inputs_before run) (inputs_after run) run.errors run.new_errors run.status
+    → run.new_output ≡ run.output → IsImagesRun files request run request.output
+images_to_file files request run name is saved same = subst (λ o. IsImagesRun files request run o) (sym is) (EachToFile name saved same)
