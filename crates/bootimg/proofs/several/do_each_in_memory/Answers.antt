@@ -8,6 +8,8 @@ returns-clause-held g c =
     let keeps = done_in_turn_keeps _ c.args.request.now _ _ done.outcomes _ _ done.in_turn in
     let writer = sym c.new-memory.ensures.same_writer ∙ sym keeps.writer in
     record {
+      memory = _;
+      new_memory = _;
       empty = c.new-memory.ensures.contents ∙ ap (λ items. Some items) c.new-bytes.ensures.items;
       writes_well = c.new-memory.ensures.well;
       holds = search rules;
