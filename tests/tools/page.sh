@@ -26,7 +26,7 @@ has() {
 # dumps NAME CONDITION: opens the page NAME.html in Chromium, and there its example, and makes NAME.dom of what it shows as soon as the
 # condition holds, an expression of JavaScript. The browser reports no error.
 dumps() {
-    timeout 120 python3 "$root/tests/tools/page/chromium.py" "$work/profile" "$1.html" "$2" > "$1.dom" 2> errors || { cat errors; false; }
+    timeout 400 python3 "$root/tests/tools/page/chromium.py" "$work/profile" "$1.html" "$2" > "$1.dom" 2> errors || { cat errors; false; }
 }
 
 # opens NAME IMAGE: makes the page NAME.html with this example, and NAME.dom of what Chromium shows.

@@ -1,7 +1,7 @@
 """Opens a page in Chromium, waits until a condition holds, and prints the page as it is then, in HTML.
 
-chromium.py PROFILE PAGE CONDITION   the condition is an expression of JavaScript. Fails if it does not hold within a minute, or if
-                                     the page reports an error.
+chromium.py PROFILE PAGE CONDITION   the condition is an expression of JavaScript. Fails if it does not hold within five minutes,
+                                     or if the page reports an error.
 
 Chromium's own `--dump-dom` does not wait for what the page does after it was loaded: on a busy machine it prints an empty page.
 """
@@ -14,7 +14,7 @@ import time
 from pathlib import Path
 
 FLAGS = ["--headless", "--no-sandbox", "--disable-gpu", "--disable-dev-shm-usage", "--remote-debugging-pipe"]
-MOST_SECONDS = 60
+MOST_SECONDS = 300
 REPORTS = ["Runtime.exceptionThrown", "Runtime.consoleAPICalled", "Log.entryAdded"]
 
 
@@ -42,7 +42,7 @@ class Browser:
         return json.loads(message)
 
     def ask(self, method, **params):
-        """The answer to a request. What the page reports before that is kept."""
+        """The answer to a request, empty if there is none, as while a page is left. What the page reports before that is kept."""
         self.count += 1
         self.requests.write(json.dumps({"id": self.count, "method": method, "params": params, **self.session}).encode() + b"\0")
         self.requests.flush()
@@ -51,7 +51,7 @@ class Browser:
             if message.get("method") in REPORTS:
                 self.reports.append(message)
             if message.get("id") == self.count:
-                return message["result"]
+                return message.get("result", {})
 
     def open(self, page):
         target = self.ask("Target.createTarget", url="about:blank")["targetId"]
@@ -61,7 +61,7 @@ class Browser:
         self.ask("Page.navigate", url=page)
 
     def value_of(self, expression):
-        return self.ask("Runtime.evaluate", expression=expression, returnByValue=True)["result"].get("value")
+        return self.ask("Runtime.evaluate", expression=expression, returnByValue=True).get("result", {}).get("value")
 
 
 def main(profile, page, condition):
