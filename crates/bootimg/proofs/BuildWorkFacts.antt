@@ -91,6 +91,7 @@ legacy_of plan parts first known limits output is built =
 abbrev model_with : ImageFields → List ℕ → ImageSpecModel
 model_with fields payload = record {
   name = fields.name;
+  description = None;
   image_type = code_name type_names fields.image_type;
   arch = code_name arch_names fields.arch;
   os = code_name os_names fields.os;

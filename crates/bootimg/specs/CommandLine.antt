@@ -23,6 +23,8 @@ use Rattle.bi_norm.specs.declared.fit_building.ImageSpec.{ImageSpec}
 use Rattle.bi_norm.specs.declared.fit_building.ImageTexts.{ImageTexts}
 use Rattle.bootimg.specs.CodeWords.{IsCode, text_of_code, four_texts}
 use Rattle.bootimg.specs.ConfigurationWords.{AreConfigurations, AreHashes, IsDefault}
+use Rattle.bootimg.specs.ConfigurationWords.{name_of_word}
+use Rattle.bootimg.specs.OwnTexts.{AreDescriptions, AreNamedTexts}
 use Rattle.bootimg.specs.Explanations.{name_of_topic}
 use Rattle.bootimg.specs.declared.explanations.Topic.{Topic}
 use Rattle.bootimg.specs.ConfigurationWords.{IsFirstBadConfiguration}
@@ -49,6 +51,7 @@ use Rattle.bootimg.specs.declared.command_line.part.PartSource.{PartSource}
 use Rattle.bootimg.specs.declared.command_line.part.PartSource.TheVariants as part
 use Rattle.bootimg.specs.declared.command_line.show.ShowForm.{ShowForm}
 use Rattle.bootimg.specs.declared.command_line.show.ShowForm.TheVariants as show_form
+use Rattle.bootimg.specs.declared.command_line.texts.OwnTexts.{OwnTexts}
 use Rattle.bootimg.specs.declared.command_line.source.ComparePlan.{ComparePlan}
 use Rattle.bootimg.specs.declared.command_line.source.ImageSource.{ImageSource}
 use Rattle.bootimg.specs.declared.command_line.source.ImageSource.TheVariants.{Standard, File}
@@ -563,6 +566,17 @@ pub record AreImages (arguments : List (List ℕ)) (images : List ImageSpec)
   pub texts_are : texts ≡ map (λ (word : ImageWord). word.texts) words
   pub payloads_are : payloads ≡ map (λ (word : ImageWord). word.payload) words
 
+-- The options of `build-fit` that give a text to one image or one configuration give these: to a
+-- configuration of a word of `--config`, and to the image of an argument, each by what the word or
+-- the argument has before its first colon.
+pub record AreOwnTexts (options : ArgMatches) (texts : OwnTexts) : Type 0 where
+  pub compatibles : AreNamedTexts (map name_of_word (values_of options (codes "config")))
+      (values_of options (codes "compatible")) texts.compatibles.items
+  pub configurations : AreDescriptions (map name_of_word (values_of options (codes "config")))
+      (values_of options (codes "describe-config")) texts.configurations.items
+  pub images : AreDescriptions (map name_of_word (values_of options (codes "images")))
+      (values_of options (codes "describe-image")) texts.images.items
+
 -- The options of `build-fit` are this plan.
 pub record IsFitPlan (options : ArgMatches) (plan : FitPlan) : Type 0 where
   pub description : plan.head.description.now ≡ value_of options (codes "description") []
@@ -574,6 +588,7 @@ pub record IsFitPlan (options : ArgMatches) (plan : FitPlan) : Type 0 where
   pub default : IsDefault (values_of options (codes "config")) (option_of options (codes "default"))
       (option_map (λ name. name.now) plan.default)
   pub algorithms : AreHashes (option_of options (codes "hash")) plan.algorithms.items
+  pub own_texts : AreOwnTexts options plan.own_texts
   pub form : IsForm options plan.form
 
 -- The first argument that is not an image has this index.
@@ -595,7 +610,8 @@ IsBadConfiguration image_names words (BadConfiguration index) =
     IsFirstBadConfiguration image_names words index
 IsBadConfiguration image_names words failure = ⊥
 
--- The options of `build-fit` have good values: the time, the form, the default and the algorithms.
+-- The options of `build-fit` have good values: the time, the form, the default, the algorithms, and
+-- the texts of one image or one configuration.
 pub record HasFitValues (options : ArgMatches) : Type 0 where
   pub time : ℕ
   pub is_time : IsNumber (value_of options (codes "time") (codes "0")) time
@@ -606,6 +622,8 @@ pub record HasFitValues (options : ArgMatches) : Type 0 where
       (option_of options (codes "default")) default
   pub algorithms : List Algo
   pub are_algorithms : AreHashes (option_of options (codes "hash")) algorithms
+  pub own_texts : OwnTexts
+  pub are_own_texts : AreOwnTexts options own_texts
 
 -- The images of `build-fit` are good, and the first word that is not a configuration has this
 -- index.

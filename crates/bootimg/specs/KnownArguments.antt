@@ -116,6 +116,9 @@ pub record DefaultsAreKnown : Type 0 where
   pub build_fit : GivesValues (codes "build-fit") (codes "build-fit")
       (without_value (codes "config")
       ∷ without_value (codes "default")
+      ∷ without_value (codes "compatible")
+      ∷ without_value (codes "describe-config")
+      ∷ without_value (codes "describe-image")
       ∷ without_value (codes "hash")
       ∷ with_value (codes "external") (codes "false")
       ∷ without_value (codes "align")
@@ -231,10 +234,15 @@ pub record OptionsAreKnown : Type 0 where
       ∷ [])
   pub build_fit : GivesValues
       (codes "build-fit --config a:b --config c --default d --hash e --external --align 8 "
+      ++ codes "--compatible c:x --compatible a:y:z --describe-config a:p --describe-config c:q "
+      ++ codes "--describe-image a:r --describe-image c:s "
       ++ codes "--description d --time 1 --limit 64 -o out a:b c")
       (codes "build-fit")
       ((codes "config", codes "a:b" ∷ codes "c" ∷ [])
       ∷ with_value (codes "default") (codes "d")
+      ∷ (codes "compatible", codes "c:x" ∷ codes "a:y:z" ∷ [])
+      ∷ (codes "describe-config", codes "a:p" ∷ codes "c:q" ∷ [])
+      ∷ (codes "describe-image", codes "a:r" ∷ codes "c:s" ∷ [])
       ∷ with_value (codes "hash") (codes "e")
       ∷ with_value (codes "external") (codes "true")
       ∷ with_value (codes "align") (codes "8")

@@ -3,6 +3,7 @@ pub mod TextsOfWords
 pub mod ValueWords
 pub mod CommandLine
 pub mod ConfigurationWords
+pub mod OwnTexts
 pub mod Words
 pub mod Program
 pub mod Table

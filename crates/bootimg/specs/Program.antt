@@ -184,7 +184,8 @@ build_legacy = command (codes "build-legacy")
 abbrev pub build_fit : Shape
 build_fit = command (codes "build-fit")
     (repeated_option (codes "config") ∷ value_option (codes "default")
-    ∷ value_option (codes "hash") ∷ external ∷ align ∷ value_option (codes "description")
+    ∷ repeated_option (codes "compatible") ∷ repeated_option (codes "describe-config")
+    ∷ repeated_option (codes "describe-image") ∷ value_option (codes "hash") ∷ external ∷ align ∷ value_option (codes "description")
     ∷ option_with_default (codes "time") (codes "0") ∷ limit ∷ output
     ∷ positionals (codes "images") ∷ [])
 

@@ -16,7 +16,7 @@ use Rattle.bi_fit.specs.declared.kept.Kept.{Kept}
 use Rattle.bi_common.specs.Offsets.{input_from}
 use Rattle.bi_describe.specs.declared.compare.CompareError.{CompareError}
 use Rattle.bi_commands.specs.BuildCommands.{build_legacy_promise, build_fit_promise}
-use Rattle.bootimg.specs.ConfigurationWords.{configuration_models}
+use Rattle.bootimg.specs.OwnTexts.{planned_configurations, planned_descriptions}
 use Rattle.bi_norm.specs.FitBuilding.{PlanSpecModel, texts_models}
 use Rattle.bi_commands.specs.ExtractingAll.{AreAllPayloads, IsExtractAllError, PayloadFile}
 use Rattle.bi_commands.specs.declared.parts.Part.{Part}
@@ -313,10 +313,11 @@ pub record AreFirstRead (files : KnownFiles) (limits : Limits) (sources : List P
 -- The plan of a flattened image tree, as the options give it.
 abbrev pub plan_of_options : FitPlan → PlanSpecModel
 plan_of_options plan = record {
-  configurations = configuration_models plan.configurations.items;
+  configurations = planned_configurations plan.own_texts plan.configurations.items;
   default = option_map (λ name. name.now) plan.default;
   algorithms = plan.algorithms.items;
   texts = texts_models plan.texts.items;
+  descriptions = planned_descriptions plan.own_texts plan.images.items;
 }
 
 -- What building a flattened image tree with these payloads promises as a command.

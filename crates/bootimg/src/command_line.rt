@@ -13,6 +13,7 @@ mod part;
 mod show;
 mod source;
 mod table;
+mod texts;
 mod update;
 mod values;
 
@@ -51,6 +52,8 @@ pub use source::{ComparePlan, ImageSource};
 use source::{compare_plan, source};
 use std::alloc::{AllocError, AllocFailed, Global};
 use table::program;
+pub use texts::{NamedText, OwnTexts};
+pub use texts::{text_named, texts_named};
 use update::changes;
 pub use values::{GetPlan, ValueWords};
 

@@ -14,6 +14,7 @@ use crate::command_line::image::parse_image;
 use crate::command_line::options::{form, number, value};
 use crate::command_line::part::{PartSource, parse_part};
 use crate::command_line::table::NO_COMPRESSION;
+use crate::command_line::texts::{OwnTexts, own_texts};
 use crate::failure::Failure;
 use bi_hash::Algo;
 use bi_legacy::Fields;
@@ -45,6 +46,8 @@ pub struct FitPlan<'a> {
     pub default: Option<&'a [u8]>,
     /// The algorithms of the hash nodes of each image.
     pub algorithms: Vec<Algo>,
+    /// The texts that are for one image or one configuration.
+    pub own_texts: OwnTexts<'a>,
     /// Where the payload of each image comes from.
     pub payloads: Vec<PartSource<'a>>,
     /// Where the payloads are in the tree.
@@ -129,8 +132,8 @@ fn parse_parts<'a>(alloc: Global, arguments: &[&'a str]) -> Result<Vec<PartSourc
 /// Returns what `build-fit` builds.
 ///
 /// Errors, the first that applies: BadValue, if the time is not a number, there is no such form,
-/// the default names none of the configurations, or an algorithm is unknown or given twice;
-/// BadImage at the first argument that is not an image; BadConfiguration at the first word that is
+/// the default names none of the configurations, an algorithm is unknown or given twice, or a text
+/// for one image or one configuration is malformed or is for none of them; BadImage at the first argument that is not an image; BadConfiguration at the first word that is
 /// not a configuration, or one that cannot be built. Or OutOfMemory.
 pub fn fit_plan<'a>(alloc: Global, options: &ArgMatches<'a>) -> Result<FitPlan<'a>, NoRequest>
     ensures plan { IfOk result (IsFitPlan options.now) }
@@ -146,6 +149,7 @@ pub fn fit_plan<'a>(alloc: Global, options: &ArgMatches<'a>) -> Result<FitPlan<'
     let words = options.get_strs("config").unwrap_or(&[]);
     let default = default_name(options, words)?;
     let algorithms = algorithms(alloc, options)?;
+    let own_texts = own_texts(alloc, options)?;
     let arguments = options.get_strs("images").unwrap_or(&[]);
     let built = parse_images(alloc, arguments)?;
     let configurations = parse_configurations(alloc, words, &built.images)?;
@@ -156,6 +160,7 @@ pub fn fit_plan<'a>(alloc: Global, options: &ArgMatches<'a>) -> Result<FitPlan<'
         configurations,
         default,
         algorithms,
+        own_texts,
         payloads: built.payloads,
         form,
     })

@@ -490,6 +490,28 @@ const DEFAULT_NAME: OptionText = OptionText {
     form: OptionForm::Optional,
 };
 
+const COMPATIBLE: OptionText = OptionText {
+    name: "compatible",
+    value_name: "NAME:TEXT",
+    help: "A board that configuration NAME of --config is for, such as acme,one; may be given any \
+         number of times",
+    form: OptionForm::Repeated,
+};
+
+const DESCRIBE_CONFIGURATION: OptionText = OptionText {
+    name: "describe-config",
+    value_name: "NAME:TEXT",
+    help: "The description of configuration NAME of --config, once for each; else that of the tree",
+    form: OptionForm::Repeated,
+};
+
+const DESCRIBE_IMAGE: OptionText = OptionText {
+    name: "describe-image",
+    value_name: "NAME:TEXT",
+    help: "The description of image NAME, once for each; else that of the tree",
+    form: OptionForm::Repeated,
+};
+
 const HASH: OptionText = OptionText {
     name: "hash",
     value_name: "ALGO[,ALGO]..",
@@ -501,7 +523,7 @@ const HASH: OptionText = OptionText {
 const DESCRIPTION: OptionText = OptionText {
     name: "description",
     value_name: "TEXT",
-    help: "The description of the tree, of each image and of each configuration",
+    help: "The description of the tree, and of each image and configuration without its own",
     form: OptionForm::Optional,
 };
 
@@ -807,6 +829,9 @@ static BUILDING_COMMANDS: [CommandText; 2] = [
         options: &[
             CONFIGURATIONS,
             DEFAULT_NAME,
+            COMPATIBLE,
+            DESCRIBE_CONFIGURATION,
+            DESCRIBE_IMAGE,
             HASH,
             EXTERNAL_BUILT,
             ALIGN,
