@@ -304,7 +304,7 @@ models_of image_names words configurations are =
     )
 
 -- A configuration that lists the kernel `k`.
-abbrev vec_of : {X : Type 0} → (items : List X) → length items ≡ 1 → Vec X
+abbrev pub vec_of : {X : Type 0} → (items : List X) → length items ≡ 1 → Vec X
 vec_of items one = record {
   ptr = null_ptr;
   len = 1;

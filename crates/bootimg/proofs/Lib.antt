@@ -5,6 +5,7 @@ pub mod CommandLines
 pub mod ListedTexts
 pub mod KeyLists
 pub mod ConfigurationFacts
+pub mod NamedTexts
 pub mod AlgorithmFacts
 pub mod PlanFailures
 pub mod NotBegun
@@ -26,6 +27,7 @@ pub mod GetFacts
 pub mod GetWords
 pub mod TaskNames
 pub mod BuildRequestFacts
+pub mod OwnTextFacts
 pub mod FirstFailureFacts
 pub mod RunEnds
 pub mod InputFacts

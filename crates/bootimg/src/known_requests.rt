@@ -4,6 +4,8 @@
 
 ghost use Rattle.bootimg.specs.KnownBuildRequests.{HashOptionsAreKnown, ConfigurationsAreKnown};
 ghost use Rattle.bootimg.specs.KnownBuildRequests.{NodeTextsAreKnown, FirstFailuresAreKnown};
+ghost use Rattle.bootimg.specs.KnownBuildRequests.{NamedTextsAreKnown, OwnTextOptionsAreKnown};
+ghost use Rattle.bootimg.specs.KnownBuildRequests.{TextsOfNamesAreKnown};
 ghost use Rattle.bootimg.specs.KnownOrders.{RequestsAreKnown, RejectionsAreKnown};
 ghost use Rattle.bootimg.specs.KnownInputs.{ComparedInputsAreKnown, ImagesAtAreKnown};
 ghost use Rattle.bootimg.specs.KnownInputs.{ComparedOutputsAreKnown, ExplanationsAreKnown};
@@ -17,6 +19,14 @@ pub fn hash_options_are_known()
 /// index.
 pub fn configurations_are_known()
     ensures { ConfigurationsAreKnown }
+{}
+
+/// Small values of `--compatible`, `--describe-config` and `--describe-image` give known texts, or
+/// are bad, and each name has known texts of them.
+pub fn own_texts_are_known()
+    ensures words { NamedTextsAreKnown }
+    ensures options { OwnTextOptionsAreKnown }
+    ensures names { TextsOfNamesAreKnown }
 {}
 
 /// Small images of `build-fit` have known texts in their nodes, or none.

@@ -1,10 +1,6 @@
-use Rattle.std.proofs.Common.{◌∙◌, ap}
-use Rattle.bootimg.specs.ConfigurationWords.{configuration_model}
-use Rattle.bootimg.proofs.ConfigurationFacts.{configuration_lent_next}
+use Rattle.std.proofs.Common.{◌≡◌, ◌∙◌, Bor, List, ℕ, [], map, length, get_or, ap, sym, arith}
+use Rattle.std.proofs.lemmas.List.{length-map, get_or-map}
+use Rattle.bi_base.specs.Slices.{bytes_of}
+use Rattle.bootimg.specs.OwnTexts.{texts_named}
+use Rattle.bootimg.proofs.ConfigurationFacts.{configuration_lent_next, lent_configuration}
 use Rattle.bootimg.proofs.builds.lend_configurations.Goals as goal
-
-pub loop-word-preserved : goal.loop-word-preserved
-loop-word-preserved c =
-    configuration_lent_next c.args.words.now c.loop-word.word-index c.word-item.result c.loop-word.lent.items c.push.new.self.items
-    c.spec.result
-    c.loop-word-test.true c.loop-word.invariant c.in_ok-push.ensures.items (c.spec.ensures ∙ ap configuration_model c.word-item.is)

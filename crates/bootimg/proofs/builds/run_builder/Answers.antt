@@ -11,3 +11,17 @@ returns-in_err-lent-in-Fit g c =
     rw (c.in-Fit.is, p.1, p.2)
     (fit_not_begun c.in-Fit.plan c.args.parts.now c.args.limits (g.S.TracedRead.trace c.args.input.now)
     (g.T.TracedWrite.trace c.args.output.now))
+
+pub returns-in_err-compatibles-in-Fit : goal.returns-in_err-compatibles-in-Fit
+returns-in_err-compatibles-in-Fit g c =
+    let p = err_from_is_err_and c.from_residual.result c.from_residual.ensures.1 in
+    rw (c.in-Fit.is, p.1, p.2)
+    (fit_not_begun c.in-Fit.plan c.args.parts.now c.args.limits (g.S.TracedRead.trace c.args.input.now)
+    (g.T.TracedWrite.trace c.args.output.now))
+
+pub returns-in_err-descriptions-in-Fit : goal.returns-in_err-descriptions-in-Fit
+returns-in_err-descriptions-in-Fit g c =
+    let p = err_from_is_err_and c.from_residual.result c.from_residual.ensures.1 in
+    rw (c.in-Fit.is, p.1, p.2)
+    (fit_not_begun c.in-Fit.plan c.args.parts.now c.args.limits (g.S.TracedRead.trace c.args.input.now)
+    (g.T.TracedWrite.trace c.args.output.now))

@@ -1,10 +1,10 @@
 use Rattle.std.proofs.Common.{◌≡◌, codes, option_map, refl, subst, sym}
 use Rattle.bi_norm.specs.FitBuilding.{names_of_specs}
 use Rattle.bootimg.specs.CommandLine.{option_of, texts_of, values_of, AreImages, HasFitValues, IsBadConfiguration, IsBadImage}
-use Rattle.bootimg.specs.CommandLine.{IsFitPlanFailure}
+use Rattle.bootimg.specs.CommandLine.{AreOwnTexts, IsBadValue, IsFitPlanFailure}
 use Rattle.bootimg.specs.ConfigurationWords.{IsDefault}
 use Rattle.bootimg.proofs.CommandLines.{fails_with, outcome_weaker, words_are}
-use Rattle.bootimg.proofs.PlanFailures.{bad_configuration, bad_default, bad_form, bad_image, bad_time}
+use Rattle.bootimg.proofs.PlanFailures.{bad_configuration, bad_default, bad_form, bad_image, bad_own_texts, bad_time}
 use Rattle.bootimg.proofs.command_line.build.fit_plan.Goals as goal
 
 pub returns-in_err-number-clause-failure : goal.returns-in_err-number-clause-failure
@@ -29,6 +29,13 @@ returns-in_err-default-clause-failure c =
     c.from_residual-in_err-default.ensures.1
     (bad_default options (texts_of words) c.in_err-default.field-0.0 same c.in_err-default.ensures.bad)
 
+pub returns-in_err-own_texts-clause-failure : goal.returns-in_err-own_texts-clause-failure
+returns-in_err-own_texts-clause-failure c =
+    let options = c.args.options.now in
+    outcome_weaker (IsBadValue (AreOwnTexts options)) (IsFitPlanFailure options) c.from_residual-in_err-own_texts.result
+    c.in_err-own_texts.field-0.0 c.from_residual-in_err-own_texts.ensures.1 c.in_err-own_texts.ensures.failure
+    (λ failure bad. bad_own_texts options failure bad)
+
 pub returns-in_err-built-clause-failure : goal.returns-in_err-built-clause-failure
 returns-in_err-built-clause-failure c =
     let options = c.args.options.now in
@@ -48,6 +55,8 @@ returns-in_err-built-clause-failure c =
       is_default = subst (λ w. IsDefault w (option_of options (codes "default")) default) same c.in_ok-default.ensures.name;
       algorithms = c.in_ok-algorithms.algorithms.items;
       are_algorithms = c.in_ok-algorithms.ensures.algorithms;
+      own_texts = c.in_ok-own_texts.own_texts;
+      are_own_texts = c.in_ok-own_texts.ensures.texts;
     } in
     outcome_weaker (IsBadImage (texts_of arguments)) (IsFitPlanFailure options) c.from_residual-in_err-built.result
     c.in_err-built.field-0.0 c.from_residual-in_err-built.ensures.1 c.in_err-built.ensures.failure
@@ -72,6 +81,8 @@ returns-in_err-configurations-clause-failure c =
       is_default = subst (λ w. IsDefault w (option_of options (codes "default")) default) same c.in_ok-default.ensures.name;
       algorithms = c.in_ok-algorithms.algorithms.items;
       are_algorithms = c.in_ok-algorithms.ensures.algorithms;
+      own_texts = c.in_ok-own_texts.own_texts;
+      are_own_texts = c.in_ok-own_texts.ensures.texts;
     } in
     let built = c.in_ok-built.built in
     let images = c.deref.result.now in
