@@ -20,7 +20,7 @@ declare -gA _bootimg_options=(
     [extract]="--part= --image= --config= --default --all --key= --index= --escaped --offset= --limit= -o= --output="
     [convert]="--offset= --limit= -o= --output="
     [build-legacy]="--os= --arch= --type= --compression= --name= --time= --load= --entry= --limit= -o= --output="
-    [build-fit]="--config= --default= --hash= --external --align= --description= --time= --limit= -o= --output="
+    [build-fit]="--config= --default= --compatible= --describe-config= --describe-image= --hash= --external --align= --description= --time= --limit= -o= --output="
     [explain]="-o= --output="
     [help]=""
 )

@@ -519,7 +519,7 @@ def built_fit(description, time, images, options):
         node = Node(name)
         node.properties = {field.encode(): texts[field].encode() + b"\0" for field in FIELDS}
         node.properties |= {key: cell(value) for key, value in ((b"load", load), (b"entry", entry)) if value is not None}
-        node.properties[b"description"] = text
+        node.properties[b"description"] = options.get("describe-image", {}).get(name, description) + b"\0"
         for number, algorithm in enumerate(options.get("hash", [b"sha256"]), 1):
             hash_node = Node(b"hash-%d" % number)
             hash_node.properties = {b"algo": algorithm + b"\0", b"value": DIGESTS[algorithm](payload)}
@@ -530,7 +530,9 @@ def built_fit(description, time, images, options):
     for name, lists in plan:
         configuration = Node(name)
         configuration.properties = {key: b"".join(image + b"\0" for image in names) for key, names in lists.items()}
-        configuration.properties[b"description"] = text
+        configuration.properties[b"description"] = options.get("describe-config", {}).get(name, description) + b"\0"
+        if compatibles := [compatible for other, compatible in options.get("compatible", []) if other == name]:
+            configuration.properties[b"compatible"] = b"".join(compatible + b"\0" for compatible in compatibles)
         configurations.children.append(configuration)
     return fit_text(0, [], root, [payload for *_, payload in images], options)
 
@@ -1433,6 +1435,21 @@ def configuration(text):
     return name, lists or None
 
 
+def own_text(text):
+    """The name and the text of an argument that gives a text to one image or one configuration."""
+    name, colon, rest = text.encode().partition(b":")
+    if not rest:
+        raise Refused("usage: bad value")
+    return name, rest
+
+
+def check_own_texts(texts, names, is_once):
+    """Refuses texts for other names, and two for one name if each may have one only."""
+    given = [name for name, _ in texts]
+    if not set(given) <= set(names) or is_once and len(set(given)) < len(given):
+        raise Refused("usage: bad value")
+
+
 def check_configurations(configurations, images):
     """Refuses the first configuration that has another form, a name that it cannot have, or a name in a list that no image has."""
     for i, (name, lists) in enumerate(configurations):
@@ -1533,7 +1550,9 @@ COMMANDS = {
         "name": (str, ""), "time": (number, "0"), "load": (number, "0"), "entry": (number, "0")}),
     "build-fit": (build_fit, {
         **EXTERNAL, "description": (str, ""), "time": (number, "0"), "config": (lambda texts: [configuration(text) for text in texts], []),
-        "default": (str.encode, ()), "hash": (algorithms, "sha256")}),
+        "default": (str.encode, ()), "hash": (algorithms, "sha256"), "compatible": (lambda texts: [own_text(text) for text in texts], []),
+        "describe-config": (lambda texts: [own_text(text) for text in texts], []),
+        "describe-image": (lambda texts: [own_text(text) for text in texts], [])}),
 }
 
 
@@ -1597,6 +1616,10 @@ def parse(arguments):
     if name == "build-fit":
         if "default" in values and values["default"] not in [configured for configured, _ in values["config"]]:
             raise Refused("usage: bad value")
+        for option, is_once in (("compatible", False), ("describe-config", True)):
+            check_own_texts(values[option], [configured for configured, _ in values["config"]], is_once)
+        check_own_texts(values["describe-image"], [word.encode().partition(b":")[0] for word in words], True)
+        values |= {option: dict(values[option]) for option in ("describe-config", "describe-image")}
         values["words"] = [image_word(i, word) for i, word in enumerate(words)]
         check_configurations(values["config"], {image for image, *_ in values["words"]})
     return command, values

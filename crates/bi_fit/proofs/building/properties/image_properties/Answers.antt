@@ -20,7 +20,7 @@ returns c =
     ∙ addresses built_names image.load image.entry in
     let with_type = c.in_ok-insert.ensures in
     let with_os = c.in_ok-insert-2.ensures in
-    let with_description = c.in_ok-insert-3.ensures in
-    let with_compression = c.in_ok-insert-4.ensures in
-    let with_arch = c.in_ok-insert-5.ensures in
+    let with_description = c.in_ok-insert_description.ensures in
+    let with_compression = c.in_ok-insert-3.ensures in
+    let with_arch = c.in_ok-insert-4.ensures in
     search rules
