@@ -26,7 +26,7 @@ use Rattle.bi_norm.specs.FitBuilding.{own_texts_checks, own_texts_of_image, own_
 use Rattle.bi_norm.specs.FitBuilding.{BuildCheck}
 use Rattle.bi_norm.specs.FitBuilding.{HasDefault, HasKnownDefault, BuildPasses, build_fault, spec_checks, configuration_checks}
 use Rattle.bi_norm.specs.FitBuilding.{names_of_specs, early_checks, first_image_checks, IsBuildFaultAs, IsBuildErrorAs}
-use Rattle.bi_norm.specs.BuildChecks.{AllPass, IsFirstFailure, IsImagesError, IsPlainImage, IsPlainConfiguration, HasTexts}
+use Rattle.bi_norm.specs.BuildChecks.{AllPass, IsFirstFailure, IsImagesError, IsPlainImage, IsPlainConfiguration, HasTextValues}
 use Rattle.bi_norm.proofs.ImageChecks.{names_of_given, names-given_images}
 
 -- What passes the checks can be built, and an error of some checks is one of building, after the checks before them.
@@ -60,7 +60,7 @@ each_can_be_built (image ∷ later) plain texts = (
 
 -- and so can configurations.
 each_configuration : (image_names : List (List ℕ)) (configurations : List ConfigurationSpecModel) →
-    AllByRecursion (IsPlainConfiguration image_names) configurations → AllByRecursion HasTexts configurations →
+    AllByRecursion (IsPlainConfiguration image_names) configurations → AllByRecursion HasTextValues configurations →
     AllByRecursion (IsConfigurationSpec image_names) configurations
 each_configuration image_names [] plain texts = tt
 each_configuration image_names (configuration ∷ later) plain texts = (
@@ -103,7 +103,7 @@ whole_is_plan (first ∷ later) default algorithms images each distinct known fe
     record { each = each; distinct = distinct; default = default_is first later default algorithms images known; few = few }
 
 pub plan_is : (plan : PlanSpecModel) (images : List ImageSpec) →
-    AllByRecursion (IsPlainConfiguration (names_of_specs images)) plan.configurations → AllByRecursion HasTexts plan.configurations →
+    AllByRecursion (IsPlainConfiguration (names_of_specs images)) plan.configurations → AllByRecursion HasTextValues plan.configurations →
     AreDistinct (configuration_names plan.configurations) → HasKnownDefault plan.configurations plan.default →
     length plan.algorithms < 2 ^ 64 → IsPlanFor (names_of_images (spec_models plan images)) (plan_of_tree plan images)
 plan_is plan images plain texts distinct known few =

@@ -16,7 +16,7 @@ use Rattle.bi_norm.specs.declared.fit_building.ImageTexts.{ImageTexts}
 use Rattle.std.specs.Borrow.{Bor}
 use Rattle.bi_norm.specs.FitBuilding.{ImageTextsModel, image_texts_model, texts_models, descriptions_models, GivenImage, given_images, spec_model, BuildCheck}
 use Rattle.bi_norm.specs.FitBuilding.{HasFields, HasCodeNames, HasNewName, spec_checks, first_image_checks, names_of_specs}
-use Rattle.bi_norm.specs.BuildChecks.{AllPass, IsFirstFailure, IsPlainImage, at_index, given_image, given_by, fields_and_names}
+use Rattle.bi_norm.specs.BuildChecks.{AllPass, IsFirstFailure, IsPlainImage, at_index, given_image, given_for, fields_and_names}
 use Rattle.bi_norm.proofs.LeftChecks.{AreLeftChecks, fails_first, left_after}
 
 -- If the images before one pass their checks, a fault of its fields, codes or name is the first of all, and otherwise the images after it
@@ -85,7 +85,7 @@ found_at model (first ∷ given) (suc index) found is = found_at model given ind
 pub given_here : (texts : List (Option ImageTexts)) (descriptions : List (Option (Bor (List ℕ)))) (images : List ImageSpec) (index : ℕ)
     (found : Option ImageTexts) (description : Option (Bor (List ℕ))) → index < length images →
     found ≡ unwrap_or (slice_get texts index) None → description ≡ unwrap_or (slice_get descriptions index) None →
-    given_image (get_or images index no_spec) found description ≡ get_or (given_by texts descriptions images) index no_given
+    given_image (get_or images index no_spec) found description ≡ get_or (given_for texts descriptions images) index no_given
 given_here texts descriptions images index found description within is described =
     ap₂ (λ texts description. record { spec = get_or images index no_spec; texts = texts; description = description })
     (found_at image_texts_model texts index found is) (found_at (λ text. text.now) descriptions index description described)

@@ -62,9 +62,9 @@ given_image spec texts description = record {
 }
 
 -- The images with what a call gives for them.
-abbrev pub given_by : List (Option ImageTexts) → List (Option (Bor (List ℕ))) → List ImageSpec
+abbrev pub given_for : List (Option ImageTexts) → List (Option (Bor (List ℕ))) → List ImageSpec
     → List GivenImage
-given_by texts descriptions images =
+given_for texts descriptions images =
     given_images (texts_models texts) (descriptions_models descriptions) images
 
 -- An image that can be built without its own description, and a configuration that can be built
@@ -88,6 +88,6 @@ pub record TextsAreBytes (texts : ImageTextsModel) : Type 0 where
   pub compression : AreBytes texts.compression
 
 -- A configuration whose own texts can be values of properties.
-pub record HasTexts (configuration : ConfigurationSpecModel) : Type 0 where
+pub record HasTextValues (configuration : ConfigurationSpecModel) : Type 0 where
   pub description : IfSome configuration.description IsText
   pub compatible : AllByRecursion IsText configuration.compatible

@@ -18,7 +18,7 @@ use Rattle.bootimg.specs.CommandLine.{IsTaskFailure, NoneIs, NotAllowed, NotChan
 use Rattle.bootimg.specs.CommandLine.{NotFormedChanged, NotLegacy, NotLimited, NotNamed, NotPlaced, NotSelected, NotShown, align_option, external_flag}
 use Rattle.bootimg.specs.CommandLine.{given_offset, hashes_flag, limit_of, option_of, value_of, values_of}
 use Rattle.bootimg.specs.ConfigurationWords.{AreHashes, IsDefault, IsFirstBadConfiguration, name_of_word}
-use Rattle.bootimg.specs.KnownBuildRequests.{FirstFailuresAreKnown, IsTheOne, named_text}
+use Rattle.bootimg.specs.KnownBuildRequests.{FirstFailuresAreKnown, IsTheOne, text_for_name}
 use Rattle.bootimg.specs.Numbers.{IsNumber}
 use Rattle.bootimg.specs.OwnTexts.{AreDescriptions, AreNamedTexts}
 use Rattle.bootimg.specs.Program.{program_app}
@@ -181,7 +181,7 @@ without_texts options compatible configurations images = record {
 
 -- A description of the image `a` alone.
 abbrev description_of_a : Vec NamedText
-description_of_a = vec_of (named_text (codes "a") (codes "x") ∷ []) refl
+description_of_a = vec_of (text_for_name (codes "a") (codes "x") ∷ []) refl
 
 with_description : (options : ArgMatches) → values_of options (codes "compatible") ≡ [] →
     values_of options (codes "describe-config") ≡ [] → values_of options (codes "describe-image") ≡ codes "a:x" ∷ [] →
@@ -192,7 +192,7 @@ with_description options compatible configurations described images = record {
       (record { each = tt; known = tt });
   configurations = subst (λ words. AreDescriptions (map name_of_word (values_of options (codes "config"))) words [])
       (sym configurations) (record { texts = record { each = tt; known = tt }; distinct = tt });
-  images = subst₂ (λ images words. AreDescriptions (map name_of_word images) words (named_text (codes "a") (codes "x") ∷ []))
+  images = subst₂ (λ images words. AreDescriptions (map name_of_word images) words (text_for_name (codes "a") (codes "x") ∷ []))
       (sym images) (sym described) (record {
         texts = record { each = (record { name = refl; is = refl; some = λ e. absurd cc }, tt); known = (refl, tt) };
         distinct = (tt, tt);

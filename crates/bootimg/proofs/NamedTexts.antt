@@ -41,8 +41,8 @@ after_name : (name text : List ℕ) → drop (length name + 1) (name ++ (codes "
 after_name [] text = refl
 after_name (byte ∷ name) text = after_name name text
 
-pub text_of_word : (word : List ℕ) (named : NamedText) → IsNamedText word named → named.text.now ≡ after_first (λ byte. byte == 58) word
-text_of_word word named is =
+pub text_after_colon : (word : List ℕ) (named : NamedText) → IsNamedText word named → named.text.now ≡ after_first (λ byte. byte == 58) word
+text_after_colon word named is =
     let place = position_or_len (λ byte. byte == 58) word in
     let size : length named.name.now ≡ place =
     omega (arith, ap length is.name, length-take place word, ap length is.is, length-append named.name.now (codes ":" ++ named.text.now)) in

@@ -5,11 +5,11 @@ use Rattle.clap.proofs.OnLiterals.{clap_on_literals}
 use Rattle.bootimg.specs.CommandLine.{NoneIs, values_of}
 use Rattle.bootimg.specs.ConfigurationWords.{name_of_word}
 use Rattle.bootimg.specs.KnownBuildRequests.{NamedTextsAreKnown, OwnTextOptionsAreKnown, TextsOfNamesAreKnown}
-use Rattle.bootimg.specs.KnownBuildRequests.{named_text, pairs_of, two_names}
+use Rattle.bootimg.specs.KnownBuildRequests.{text_for_name, pairs_of, two_names}
 use Rattle.bootimg.specs.OwnTexts.{AreDescriptions, AreNamedTexts, IsNamedText}
 use Rattle.bootimg.specs.Program.{program_app}
 use Rattle.bootimg.specs.declared.command_line.texts.NamedText.{NamedText}
-use Rattle.bootimg.proofs.NamedTexts.{no_colon, nothing_after_colon, text_of_word}
+use Rattle.bootimg.proofs.NamedTexts.{no_colon, nothing_after_colon, text_after_colon}
 use Rattle.bootimg.proofs.OptionFacts.{found_values}
 
 -- What small words give to one image or one configuration is known.
@@ -21,7 +21,7 @@ abbrev pair_in : List ℕ → List ℕ × List ℕ
 pair_in word = (name_of_word word, after_first (λ byte. byte == 58) word)
 
 pair_of : (word : List ℕ) (named : NamedText) → IsNamedText word named → (named.name.now, named.text.now) ≡ pair_in word
-pair_of word named is = λ i. (is.name i, text_of_word word named is i)
+pair_of word named is = λ i. (is.name i, text_after_colon word named is i)
 
 pairs_are : (words : List (List ℕ)) (texts : List NamedText) → AllZip IsNamedText words texts → pairs_of texts ≡ map pair_in words
 pairs_are [] [] are = refl
@@ -46,7 +46,7 @@ no_second names word other later none (named ∷ next ∷ texts) are = none next
 
 -- A word that is a text.
 named_word : (word name text : List ℕ) → name ≡ name_of_word word → word ≡ name ++ (codes ":" ++ text) → text ≢ [] →
-    IsNamedText word (named_text name text)
+    IsNamedText word (text_for_name name text)
 named_word word name text same is some = record { name = same; is = is; some = some }
 
 pub named_texts_are_known : NamedTextsAreKnown
@@ -54,7 +54,7 @@ named_texts_are_known = record {
   none = (([], record { each = tt; known = tt }), λ texts are. pairs_are [] texts are.each);
   in_order = (
     (
-      named_text (codes "b") (codes "x") ∷ named_text (codes "a") (codes "acme,one") ∷ named_text (codes "b") (codes "y:z") ∷ [],
+      text_for_name (codes "b") (codes "x") ∷ text_for_name (codes "a") (codes "acme,one") ∷ text_for_name (codes "b") (codes "y:z") ∷ [],
       record {
         each = (
           named_word (codes "b:x") (codes "b") (codes "x") refl refl (λ e. absurd cc),
@@ -70,7 +70,7 @@ named_texts_are_known = record {
   );
   descriptions = (
     (
-      named_text (codes "b") (codes "x") ∷ named_text (codes "a") (codes ": ") ∷ [],
+      text_for_name (codes "b") (codes "x") ∷ text_for_name (codes "a") (codes ": ") ∷ [],
       record {
         texts = record {
           each = (

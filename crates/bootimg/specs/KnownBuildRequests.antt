@@ -176,14 +176,14 @@ pub record OwnTextOptionsAreKnown : Type 0 where
   pub image_twice : HasBadTexts (codes "build-fit --describe-image k:x --describe-image k:y k:z")
 
 -- A text for a name.
-abbrev pub named_text : (name text : List ℕ) → NamedText
-named_text name text = record { name = lent name; text = lent text }
+abbrev pub text_for_name : (name text : List ℕ) → NamedText
+text_for_name name text = record { name = lent name; text = lent text }
 
 -- Texts for `a` and for `b`.
 abbrev pub some_texts : List NamedText
 some_texts =
-    named_text (codes "b") (codes "x") ∷ named_text (codes "a") (codes "y")
-    ∷ named_text (codes "b") (codes "z") ∷ []
+    text_for_name (codes "b") (codes "x") ∷ text_for_name (codes "a") (codes "y")
+    ∷ text_for_name (codes "b") (codes "z") ∷ []
 
 -- Each name has its own texts, in their order, and as a description the first of them.
 pub record TextsOfNamesAreKnown : Type 0 where

@@ -13,7 +13,7 @@ ghost use Rattle.bi_norm.specs.FitBuilding.{names_of_codes as names_for_codes, n
 ghost use Rattle.bi_norm.specs.FitBuilding.{spec_checks, HasTypeOrTexts, AreTexts, HasNames};
 ghost use Rattle.bi_norm.specs.FitBuilding.{HasNamesIfNeeded};
 ghost use Rattle.bi_norm.specs.BuildChecks.{AllPass, IsFirstFailure, IsImagesError};
-ghost use Rattle.bi_norm.specs.BuildChecks.{fields_and_names, given_image, given_by};
+ghost use Rattle.bi_norm.specs.BuildChecks.{fields_and_names, given_image, given_for};
 ghost use Rattle.bi_norm.specs.BuildChecks.{IsPlainImage, TextsAreBytes};
 
 use crate::fit_building::{ImageSpec, ImageTexts};
@@ -46,16 +46,16 @@ pub(super) fn check_images<'a>(
     descriptions: &[Option<&'a [u8]>],
 ) -> Result<CheckedImages<'a>, Error>
     requires { length images.now < 2 ^ 32 }
-    ensures passed { let given = given_by texts.now descriptions.now images.now in
+    ensures passed { let given = given_for texts.now descriptions.now images.now in
         OnOk result (AllPass (spec_checks 0 [] given)) }
-    ensures can { let given = given_by texts.now descriptions.now images.now in
+    ensures can { let given = given_for texts.now descriptions.now images.now in
         OnOk result (AllByRecursion IsPlainImage (map spec_model given)) }
     ensures distinct { OnOk result (AreDistinct (names_of_specs images.now)) }
-    ensures named { let given = given_by texts.now descriptions.now images.now in
+    ensures named { let given = given_for texts.now descriptions.now images.now in
         IfOk result (λ checked. named_models checked.named.items ≡ map spec_model given) }
     ensures names { IfOk result (λ checked.
         HoldsNames checked.names (names_of_specs images.now)) }
-    ensures failed { let given = given_by texts.now descriptions.now images.now in
+    ensures failed { let given = given_for texts.now descriptions.now images.now in
         IfErr result (IsImagesError given) }
 {
     let mut names = BTreeSet::new(alloc);

@@ -10,7 +10,7 @@ ghost use Rattle.bi_fit.specs.Building.{IsText};
 ghost use Rattle.bi_fit.specs.NamedImages.{named_models, configuration_spec_models};
 ghost use Rattle.bi_norm.specs.FitBuilding.{own_texts_checks, own_texts_of_image};
 ghost use Rattle.bi_norm.specs.FitBuilding.{own_texts_of_configuration};
-ghost use Rattle.bi_norm.specs.BuildChecks.{AllPass, IsFirstFailure, HasTexts};
+ghost use Rattle.bi_norm.specs.BuildChecks.{AllPass, IsFirstFailure, HasTextValues};
 
 use crate::fit_building::images::has_no_zero;
 use bi_base::{Cause, Fault, are_bytes, refuse};
@@ -45,7 +45,7 @@ pub(super) fn check_configuration_texts(
     ensures passed { let models = configuration_spec_models configurations.now in
         OnOk result (AllPass (own_texts_checks 0 (map own_texts_of_configuration models))) }
     ensures texts { let models = configuration_spec_models configurations.now in
-        OnOk result (AllByRecursion HasTexts models) }
+        OnOk result (AllByRecursion HasTextValues models) }
     ensures fault { let models = configuration_spec_models configurations.now in
         IfErr result
         (IsFirstFailure (own_texts_checks 0 (map own_texts_of_configuration models))) }

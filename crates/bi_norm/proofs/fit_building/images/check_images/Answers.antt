@@ -11,7 +11,7 @@ use Rattle.bi_fit.specs.declared.building.NamedImage.{NamedImage}
 use Rattle.bi_fit.specs.NamedImages.{named_models}
 use Rattle.bi_norm.specs.declared.fit_building.ImageSpec.{ImageSpec}
 use Rattle.bi_norm.specs.declared.fit_building.ImageTexts.{ImageTexts}
-use Rattle.bi_norm.specs.BuildChecks.{AllPass, IsFirstFailure, IsPlainImage, given_by, fields_and_names}
+use Rattle.bi_norm.specs.BuildChecks.{AllPass, IsFirstFailure, IsPlainImage, given_for, fields_and_names}
 use Rattle.std.specs.Borrow.{Bor}
 use Rattle.bi_norm.specs.FitBuilding.{GivenImage, texts_models, descriptions_models, spec_model}
 use Rattle.bi_norm.proofs.ImageChecks.{names_of_given, names-given_images, length-given_images, no_spec, no_given, given_here}
@@ -21,20 +21,20 @@ use Rattle.bi_norm.proofs.fit_building.images.check_images.Goals as goal
 
 -- An index of an image is one of them,
 within_given : (texts : List (Option ImageTexts)) (descriptions : List (Option (Bor (List ℕ)))) (images : List ImageSpec) (index : ℕ) →
-    index < length images → index < length (given_by texts descriptions images)
+    index < length images → index < length (given_for texts descriptions images)
 within_given texts descriptions images index within =
     omega (arith, length-given_images (texts_models texts) (descriptions_models descriptions) images, within)
 
 -- and an index past the images is past them.
 past_given : (texts : List (Option ImageTexts)) (descriptions : List (Option (Bor (List ℕ)))) (images : List ImageSpec) (index : ℕ) →
-    length images ≤ index → length (given_by texts descriptions images) ≤ index
+    length images ≤ index → length (given_for texts descriptions images) ≤ index
 past_given texts descriptions images index past =
     omega (arith, length-given_images (texts_models texts) (descriptions_models descriptions) images, past)
 
 all_given : (texts : List (Option ImageTexts)) (descriptions : List (Option (Bor (List ℕ)))) (images : List ImageSpec) (index : ℕ) →
-    length images ≤ index → take index (given_by texts descriptions images) ≡ given_by texts descriptions images
+    length images ≤ index → take index (given_for texts descriptions images) ≡ given_for texts descriptions images
 all_given texts descriptions images index past =
-    take_all index (given_by texts descriptions images) (past_given texts descriptions images index past)
+    take_all index (given_for texts descriptions images) (past_given texts descriptions images index past)
 
 pub returns-in_err-next-clause-failed : goal.returns-in_err-next-clause-failed
 returns-in_err-next-clause-failed c =
@@ -46,7 +46,7 @@ returns-in_err-next-clause-failed c =
     c.element_at-2.ensures c.element_at-description.ensures in
     let p = err_from_is_err_and c.from_residual.result c.from_residual.ensures.1 in
     rw (p.1, p.2)
-    (image_fails (given_by texts descriptions images) index no_given (within_given texts descriptions images index c.loop-index-test.true)
+    (image_fails (given_for texts descriptions images) index no_given (within_given texts descriptions images index c.loop-index-test.true)
     c.loop-index.invariant.passed c.in_err-next.field-0.0
     (subst (λ (image : GivenImage). IsFirstFailure (fields_and_names index image) c.in_err-next.field-0.0) here
     c.in_err-next.ensures.fault))
@@ -61,7 +61,7 @@ returns-in_err-insert-clause-failed c =
     c.element_at-2.ensures c.element_at-description.ensures in
     let p = err_from_is_err_and c.from_residual-in_err-insert.result c.from_residual-in_err-insert.ensures.1 in
     rw (p.1, p.2)
-    (first_passed (given_by texts descriptions images) index no_given (within_given texts descriptions images index c.loop-index-test.true)
+    (first_passed (given_for texts descriptions images) index no_given (within_given texts descriptions images index c.loop-index-test.true)
     c.loop-index.invariant.passed (subst (λ (image : GivenImage). AllPass (fields_and_names index image)) here c.in_ok-next.ensures.passed))
 
 pub returns-then-not-branch-clause-failed : goal.returns-then-not-branch-clause-failed
@@ -70,7 +70,7 @@ returns-then-not-branch-clause-failed c =
     let descriptions = c.args.descriptions.now in
     let images = c.args.images.now in
     let index = c.loop-index.index in
-    let given = given_by texts descriptions images in
+    let given = given_for texts descriptions images in
     let here = given_here texts descriptions images index c.element_at-2.result c.element_at-description.result c.loop-index-test.true
     c.element_at-2.ensures c.element_at-description.ensures in
     let has = not-false _ (sym c.in_ok-insert.ensures.added ∙ c.if-not-branch.true) in
@@ -87,7 +87,7 @@ loop-index-preserved c =
     let descriptions = c.args.descriptions.now in
     let images = c.args.images.now in
     let index = c.loop-index.index in
-    let given = given_by texts descriptions images in
+    let given = given_for texts descriptions images in
     let within = within_given texts descriptions images index c.loop-index-test.true in
     let here = given_here texts descriptions images index c.element_at-2.result c.element_at-description.result c.loop-index-test.true
     c.element_at-2.ensures c.element_at-description.ensures in
@@ -122,7 +122,7 @@ returns-in_err-push-clause-failed c =
     c.element_at-2.ensures c.element_at-description.ensures in
     let p = err_from_is_err_and c.from_residual-in_err-push.result c.from_residual-in_err-push.ensures.1 in
     rw (p.1, p.2)
-    (first_passed (given_by texts descriptions images) index no_given (within_given texts descriptions images index c.loop-index-test.true)
+    (first_passed (given_for texts descriptions images) index no_given (within_given texts descriptions images index c.loop-index-test.true)
     c.loop-index.invariant.passed (subst (λ (image : GivenImage). AllPass (fields_and_names index image)) here c.in_ok-next.ensures.passed))
 
 pub returns-clause-passed : goal.returns-clause-passed
@@ -131,14 +131,14 @@ returns-clause-passed c =
     let descriptions = c.args.descriptions.now in
     let images = c.args.images.now in
     c.loop-index.invariant.passed.left.passes
-    (passed_all (given_by texts descriptions images) c.loop-index.index (past_given texts descriptions images c.loop-index.index c.loop-index-test.false))
+    (passed_all (given_for texts descriptions images) c.loop-index.index (past_given texts descriptions images c.loop-index.index c.loop-index-test.false))
 
 pub returns-clause-can : goal.returns-clause-can
 returns-clause-can c =
     let texts = c.args.texts.now in
     let descriptions = c.args.descriptions.now in
     let images = c.args.images.now in
-    let given = given_by texts descriptions images in
+    let given = given_for texts descriptions images in
     let index = c.loop-index.index in
     each-map IsPlainImage spec_model given
     (c.loop-index.invariant.passed.can (can_all given index (past_given texts descriptions images index c.loop-index-test.false)))
