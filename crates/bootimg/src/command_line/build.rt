@@ -11,7 +11,7 @@ use crate::command_line::NoRequest;
 use crate::command_line::configurations::{ConfigurationWord, default_name, parse_configurations};
 use crate::command_line::hashes::algorithms;
 use crate::command_line::image::parse_image;
-use crate::command_line::options::{form, number, value};
+use crate::command_line::options::{all_values, form, number, value};
 use crate::command_line::part::{PartSource, parse_part};
 use crate::command_line::table::NO_COMPRESSION;
 use crate::command_line::texts::{OwnTexts, own_texts};
@@ -82,7 +82,7 @@ pub fn legacy_plan<'a>(alloc: Global, options: &ArgMatches<'a>) -> Result<Legacy
     ensures failure { IfErr result (IsFailureOutcome (IsBadValue (IsLegacyPlan options.now))) }
 {
     let fields = fields(options)?;
-    let arguments = options.get_strs("lengths").unwrap_or(&[]);
+    let arguments = all_values(options, "lengths");
     let parts = parse_parts(alloc, arguments)?;
     Ok(LegacyPlan { fields, parts })
 }
@@ -146,11 +146,11 @@ pub fn fit_plan<'a>(alloc: Global, options: &ArgMatches<'a>) -> Result<FitPlan<'
         time: number(options, "time")?,
     };
     let form = form(options)?;
-    let words = options.get_strs("config").unwrap_or(&[]);
+    let words = all_values(options, "config");
     let default = default_name(options, words)?;
     let algorithms = algorithms(alloc, options)?;
     let own_texts = own_texts(alloc, options)?;
-    let arguments = options.get_strs("images").unwrap_or(&[]);
+    let arguments = all_values(options, "images");
     let built = parse_images(alloc, arguments)?;
     let configurations = parse_configurations(alloc, words, &built.images)?;
     Ok(FitPlan {

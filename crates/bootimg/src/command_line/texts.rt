@@ -13,6 +13,7 @@ ghost use Rattle.bootimg.specs.OwnTexts.{text_named as text_for, texts_named as 
 
 use crate::command_line::NoRequest;
 use crate::command_line::configurations::name_of_word;
+use crate::command_line::options::all_values;
 use crate::failure::Failure;
 use clap::ArgMatches;
 use std::alloc::{AllocError, Global};
@@ -47,15 +48,16 @@ pub fn own_texts<'a>(alloc: Global, options: &ArgMatches<'a>) -> Result<OwnTexts
     ensures texts { IfOk result (AreOwnTexts options.now) }
     ensures failure { IfErr result (IsFailureOutcome (IsBadValue (AreOwnTexts options.now))) }
 {
-    let configurations = names_of_words(alloc, options.get_strs("config").unwrap_or(&[]))?;
-    let images = names_of_words(alloc, options.get_strs("images").unwrap_or(&[]))?;
-    let compatibles = options.get_strs("compatible").unwrap_or(&[]);
-    let of_configurations = options.get_strs("describe-config").unwrap_or(&[]);
-    let of_images = options.get_strs("describe-image").unwrap_or(&[]);
+    let configurations = names_of_words(alloc, all_values(options, "config"))?;
+    let images = names_of_words(alloc, all_values(options, "images"))?;
     Ok(OwnTexts {
-        compatibles: parse_texts(alloc, compatibles, &configurations)?,
-        configurations: parse_descriptions(alloc, of_configurations, &configurations)?,
-        images: parse_descriptions(alloc, of_images, &images)?,
+        compatibles: parse_texts(alloc, all_values(options, "compatible"), &configurations)?,
+        configurations: parse_descriptions(
+            alloc,
+            all_values(options, "describe-config"),
+            &configurations,
+        )?,
+        images: parse_descriptions(alloc, all_values(options, "describe-image"), &images)?,
     })
 }
 
