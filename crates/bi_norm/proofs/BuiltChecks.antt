@@ -211,12 +211,18 @@ module _ (limits : Limits) (form : Form) (head : Head) (plan : PlanSpecModel) (i
           -- The fault of the descriptions of images.
           pub image_text_fault : (fault : Fault) → IsFirstFailure of_image_texts fault → IsBuildFaultAs limits form head plan images fault
           image_text_fault fault first =
-              last_fault fault (inr (known, IsFirstFault-front Passes (build_fault limits plan) of_image_texts of_configuration_texts fault
-              (first limits form head plan images)))
+              last_fault fault (inr (
+                known,
+                IsFirstFault-front Passes (build_fault limits plan) of_image_texts of_configuration_texts fault
+                    (first limits form head plan images),
+              ))
 
           -- The fault of the texts of configurations.
           pub configuration_text_fault : (fault : Fault) → AllPass of_image_texts → IsFirstFailure of_configuration_texts fault →
               IsBuildFaultAs limits form head plan images fault
           configuration_text_fault fault texts_pass first =
-              last_fault fault (inr (known, IsFirstFault-after Passes (build_fault limits plan) of_image_texts of_configuration_texts fault
-              (texts_pass limits form head plan images) (first limits form head plan images)))
+              last_fault fault (inr (
+                known,
+                IsFirstFault-after Passes (build_fault limits plan) of_image_texts of_configuration_texts fault
+                    (texts_pass limits form head plan images) (first limits form head plan images),
+              ))

@@ -1,5 +1,7 @@
 use Rattle.std.proofs.Common.{◌≡◌, ℕ, ◌+◌, ◌<◌, ◌≤◌, List, [], ◌∷◌, ◌++◌, Option, None, Some, map, take, drop, get_or, length, refl, sym}
-use Rattle.std.proofs.Common.{ap, subst, ◌∙◌, inl, arith}
+use Rattle.std.proofs.Common.{zero, suc, ap, subst, ◌∙◌, inl, arith}
+use Rattle.std.specs.Borrow.{Bor}
+use Rattle.bi_base.specs.Slices.{bytes_of}
 use Rattle.std.specs.Prelude.{IfSome, option_to_list}
 use Rattle.std.specs.List.{AllByRecursion}
 use Rattle.std.proofs.lemmas.List.{drop_more, drop_all, take_more, map-append, length-map, get_or-map}
@@ -107,3 +109,10 @@ no_named_image = record {
   entry = None;
   payload = record { ref_ptr = (0, 0); now = [] };
 }
+
+-- What holds of each text holds of the one at an index.
+pub text_here : (P : List ℕ → Type 0) (texts : List (Bor (List ℕ))) (index : ℕ) (d : Bor (List ℕ)) → index < length texts →
+    AllByRecursion P (bytes_of texts) → P (get_or texts index d).now
+text_here P [] index d within each = absurd (omega (arith, within))
+text_here P (text ∷ later) zero d within each = each.0
+text_here P (text ∷ later) (suc index) d within each = text_here P later index d (omega (arith, within)) each.1

@@ -1,10 +1,10 @@
 use Rattle.std.proofs.Common.{◌≡◌, ◌≢◌, ◌∙◌, ◌+◌, ◌<◌, ℕ, suc, zero, Bor, List, [], ◌∷◌, ◌++◌, length, take, get_or}
-use Rattle.std.proofs.Common.{map, ap, sym, subst, refl}
+use Rattle.std.proofs.Common.{map, ap, sym, subst, refl, arith}
 use Rattle.std.proofs.Common.{Bool, true, false, true≢false, bytes_eq, Option, None, Some, option_map}
 use Rattle.bi_base.specs.Slices.{bytes_of}
 use Rattle.std.specs.Prelude.{◌||◌}
 use Rattle.std.specs.List.{AllByRecursion, AllZip, list_any}
-use Rattle.std.proofs.lemmas.List.{map-append, take_more}
+use Rattle.std.proofs.lemmas.List.{map-append, take_more, length-map, get_or-map}
 use Rattle.bi_blob.specs.Layout.{is_among}
 use Rattle.bi_base.proofs.ListMembers.{each-append}
 use Rattle.bi_blob.specs.Tree.{AreDistinct, IsChildName, IsNew}
@@ -192,6 +192,25 @@ configuration_lent_next texts words index d lent next spec within are more same 
     ap configuration_spec_models more ∙ map-append configuration_spec_model lent (spec ∷ []) ∙ (λ i. are i ++ same i ∷ [])
     ∙ sym (ap (planned_configurations texts) (take_more words index d within)
     ∙ map-append (planned_configuration texts) (take index words) (get_or words index d ∷ []))
+
+-- The texts at the index of a configuration are its own.
+pub compatibles_at : {V : Type 0} (bytes : V → List (List ℕ)) (all : List V) (texts : OwnTexts) (words : List ConfigurationWord)
+    (index : ℕ) (one : V) (d : ConfigurationWord) →
+    map bytes all ≡ map (λ word. texts_named texts.compatibles.items word.name.now) words → index < length words →
+    one ≡ get_or all index one → bytes one ≡ texts_named texts.compatibles.items (get_or words index d).name.now
+compatibles_at bytes all texts words index one d same within is =
+    let below : index < length all =
+    omega (
+      arith,
+      within,
+      ap length same,
+      length-map all bytes,
+      length-map words (λ (word : ConfigurationWord). texts_named texts.compatibles.items word.name.now),
+    ) in
+    ap bytes is
+    ∙ sym (get_or-map bytes all index one [] below)
+    ∙ ap (λ l. get_or l index []) same
+    ∙ get_or-map (λ (word : ConfigurationWord). texts_named texts.compatibles.items word.name.now) words index d [] within
 
 -- The configuration with these texts of its own.
 pub lent_configuration : (texts : OwnTexts) (word : ConfigurationWord) (spec lent : ConfigurationSpec)

@@ -33,8 +33,15 @@ nothing_after_colon word within none named is =
     let name : length named.name.now ≡ position_or_len (λ byte. byte == 58) word =
     ap length is.name ∙ length-take (position_or_len (λ byte. byte == 58) word) word in
     is.some (no_bytes named.text.now
-    (omega (arith, name, within, none, ap length is.is, length-append named.name.now (codes ":" ++ named.text.now),
-    length-drop (position_or_len (λ byte. byte == 58) word + 1) word)))
+    (omega (
+      arith,
+      name,
+      within,
+      none,
+      ap length is.is,
+      length-append named.name.now (codes ":" ++ named.text.now),
+      length-drop (position_or_len (λ byte. byte == 58) word + 1) word,
+    )))
 
 -- The text of a word is what it has after its first colon.
 after_name : (name text : List ℕ) → drop (length name + 1) (name ++ (codes ":" ++ text)) ≡ text

@@ -19,8 +19,8 @@ ghost use Rattle.bootimg.specs.declared.command_line.source.ImageSource.TheVaria
 ghost use Rattle.bootimg.specs.declared.failure.Failure.TheVariants.{Call};
 
 use crate::command_line::{
-    BuildPlan, ConfigurationWord, FitPlan, ImageSource, NamedText, OwnTexts, PartSource, text_named,
-    texts_named,
+    BuildPlan, ConfigurationWord, FitPlan, ImageSource, NamedText, OwnTexts, PartSource,
+    text_named, texts_named,
 };
 use crate::failure::Failure;
 use crate::jobs::{SourceFailure, read_file};
@@ -223,7 +223,16 @@ fn run_builder<S: TracedRead, T: TracedWrite>(
             let compatibles = compatibles_of(alloc, &plan.configurations, &texts.compatibles)?;
             let lent = lend_configurations(alloc, &plan.configurations, texts, &compatibles)?;
             let descriptions = descriptions_of(alloc, &plan.images, &texts.images)?;
-            run_fit_builder(alloc, plan, &lent, &descriptions, parts, limits, input, output)
+            run_fit_builder(
+                alloc,
+                plan,
+                &lent,
+                &descriptions,
+                parts,
+                limits,
+                input,
+                output,
+            )
         }
     }
 }

@@ -52,8 +52,7 @@ pub use source::{ComparePlan, ImageSource};
 use source::{compare_plan, source};
 use std::alloc::{AllocError, AllocFailed, Global};
 use table::program;
-pub use texts::{NamedText, OwnTexts};
-pub use texts::{text_named, texts_named};
+pub use texts::{NamedText, OwnTexts, text_named, texts_named};
 use update::changes;
 pub use values::{GetPlan, ValueWords};
 

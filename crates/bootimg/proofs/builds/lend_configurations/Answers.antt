@@ -1,10 +1,10 @@
-use Rattle.std.proofs.Common.{◌≡◌, ◌∙◌, Bor, List, ℕ, [], map, length, get_or, ap, sym, arith}
-use Rattle.std.proofs.lemmas.List.{length-map, get_or-map}
+use Rattle.std.proofs.Common.{◌∙◌, length, get_or, ap, refl, arith}
+use Rattle.std.proofs.lemmas.List.{length-map}
 use Rattle.bi_base.specs.Slices.{bytes_of}
 use Rattle.bootimg.specs.ConfigurationWords.{configuration_model}
 use Rattle.bootimg.specs.OwnTexts.{texts_named}
 use Rattle.bootimg.specs.declared.command_line.configurations.ConfigurationWord.{ConfigurationWord}
-use Rattle.bootimg.proofs.ConfigurationFacts.{configuration_lent_next, lent_configuration}
+use Rattle.bootimg.proofs.ConfigurationFacts.{compatibles_at, configuration_lent_next, lent_configuration}
 use Rattle.bootimg.proofs.builds.lend_configurations.Goals as goal
 
 pub bounds-compatibles-index : goal.bounds-compatibles-index
@@ -17,3 +17,18 @@ bounds-compatibles-index c =
       length-map c.args.words.now
           (λ (word : ConfigurationWord). texts_named c.args.texts.now.compatibles.items word.name.now),
     )
+
+pub loop-index-preserved : goal.loop-index-preserved
+loop-index-preserved c =
+    let texts = c.args.texts.now in
+    let words = c.args.words.now in
+    let index = c.loop-index.index in
+    let word = c.word-item.result in
+    configuration_lent_next texts words index word c.loop-index.lent.items c.push.new.self.items _ c.loop-index-test.true
+    c.loop-index.invariant c.in_ok-push.ensures.items
+    (lent_configuration texts (get_or words index word) c.spec.result _ c.text_named.result c.deref-2.result
+    (c.spec.ensures ∙ ap configuration_model c.word-item.is) c.text_named.ensures
+    (ap bytes_of c.deref-2.ensures.value
+    ∙ compatibles_at (λ each. bytes_of each.items) c.args.compatibles.now texts words index c.index-compatibles-index.result word
+    c.requires c.loop-index-test.true c.index-compatibles-index.is)
+    refl)

@@ -42,8 +42,8 @@ returns-in_err-next-clause-failed c =
     let descriptions = c.args.descriptions.now in
     let images = c.args.images.now in
     let index = c.loop-index.index in
-    let here = given_here texts descriptions images index c.element_at-2.result c.element_at-description.result c.loop-index-test.true
-    c.element_at-2.ensures c.element_at-description.ensures in
+    let here = given_here texts descriptions images index c.element_at.result c.element_at-description.result c.loop-index-test.true
+    c.element_at.ensures c.element_at-description.ensures in
     let p = err_from_is_err_and c.from_residual.result c.from_residual.ensures.1 in
     rw (p.1, p.2)
     (image_fails (given_for texts descriptions images) index no_given (within_given texts descriptions images index c.loop-index-test.true)
@@ -57,8 +57,8 @@ returns-in_err-insert-clause-failed c =
     let descriptions = c.args.descriptions.now in
     let images = c.args.images.now in
     let index = c.loop-index.index in
-    let here = given_here texts descriptions images index c.element_at-2.result c.element_at-description.result c.loop-index-test.true
-    c.element_at-2.ensures c.element_at-description.ensures in
+    let here = given_here texts descriptions images index c.element_at.result c.element_at-description.result c.loop-index-test.true
+    c.element_at.ensures c.element_at-description.ensures in
     let p = err_from_is_err_and c.from_residual-in_err-insert.result c.from_residual-in_err-insert.ensures.1 in
     rw (p.1, p.2)
     (first_passed (given_for texts descriptions images) index no_given (within_given texts descriptions images index c.loop-index-test.true)
@@ -71,8 +71,8 @@ returns-then-not-branch-clause-failed c =
     let images = c.args.images.now in
     let index = c.loop-index.index in
     let given = given_for texts descriptions images in
-    let here = given_here texts descriptions images index c.element_at-2.result c.element_at-description.result c.loop-index-test.true
-    c.element_at-2.ensures c.element_at-description.ensures in
+    let here = given_here texts descriptions images index c.element_at.result c.element_at-description.result c.loop-index-test.true
+    c.element_at.ensures c.element_at-description.ensures in
     let has = not-false _ (sym c.in_ok-insert.ensures.added ∙ c.if-not-branch.true) in
     let held = HoldsNames-held c.loop-index.names (get_or images index no_spec).name
     (names_of_given (take index given)) c.loop-index.invariant.names has in
@@ -89,8 +89,8 @@ loop-index-preserved c =
     let index = c.loop-index.index in
     let given = given_for texts descriptions images in
     let within = within_given texts descriptions images index c.loop-index-test.true in
-    let here = given_here texts descriptions images index c.element_at-2.result c.element_at-description.result c.loop-index-test.true
-    c.element_at-2.ensures c.element_at-description.ensures in
+    let here = given_here texts descriptions images index c.element_at.result c.element_at-description.result c.loop-index-test.true
+    c.element_at.ensures c.element_at-description.ensures in
     let name = (get_or images index no_spec).name in
     let lacks = not-true _ (sym c.in_ok-insert.ensures.added ∙ c.if-not-branch.false) in
     let new = HoldsNames-new c.loop-index.names name (names_of_given (take index given)) c.loop-index.invariant.names lacks in
@@ -118,8 +118,8 @@ returns-in_err-push-clause-failed c =
     let descriptions = c.args.descriptions.now in
     let images = c.args.images.now in
     let index = c.loop-index.index in
-    let here = given_here texts descriptions images index c.element_at-2.result c.element_at-description.result c.loop-index-test.true
-    c.element_at-2.ensures c.element_at-description.ensures in
+    let here = given_here texts descriptions images index c.element_at.result c.element_at-description.result c.loop-index-test.true
+    c.element_at.ensures c.element_at-description.ensures in
     let p = err_from_is_err_and c.from_residual-in_err-push.result c.from_residual-in_err-push.ensures.1 in
     rw (p.1, p.2)
     (first_passed (given_for texts descriptions images) index no_given (within_given texts descriptions images index c.loop-index-test.true)

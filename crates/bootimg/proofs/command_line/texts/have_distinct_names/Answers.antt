@@ -20,10 +20,11 @@ returns-then-not-branch c =
     let names = map name_of_word (texts_of (take index words)) in
     let has = not-false _ (sym c.in_ok-insert.ensures.added ∙ c.if-not-branch.true) in
     let held = HoldsNames-held c.loop-word.names c.as_bytes.result names c.loop-word.invariant.names has in
-    let is = c.as_bytes.ensures.value ∙ c.name_of_word.ensures in
-    (λ yes. absurd (true≢false (sym yes)),
-    λ distinct. absurd (held (subst (λ name. IsNew name names) (sym is)
-    (new_word_name words index no_word c.loop-word-test.true distinct))))
+    let is = c.as_bytes.ensures.value ∙ c.name_of_word.ensures in (
+      λ yes. absurd (true≢false (sym yes)),
+      λ distinct. absurd (held (subst (λ name. IsNew name names) (sym is)
+          (new_word_name words index no_word c.loop-word-test.true distinct))),
+    )
 
 pub loop-word-preserved : goal.loop-word-preserved
 loop-word-preserved c =
@@ -43,7 +44,8 @@ loop-word-preserved c =
 
 pub returns : goal.returns
 returns c =
-    let words = c.args.words.now in
-    (λ yes. subst (λ words. AreDistinct (map name_of_word (texts_of words)))
-    (take_all c.loop-word.word-index words c.loop-word-test.false) c.loop-word.invariant.distinct,
-    λ distinct. refl)
+    let words = c.args.words.now in (
+      λ yes. subst (λ words. AreDistinct (map name_of_word (texts_of words)))
+          (take_all c.loop-word.word-index words c.loop-word-test.false) c.loop-word.invariant.distinct,
+      λ distinct. refl,
+    )

@@ -12,9 +12,12 @@ returns-in_err-parse_texts-clause-failure c =
     outcome_weaker (IsBadValue (AreNamedTexts names words)) (IsBadValue (AreOwnTexts c.args.options.now))
     c.from_residual-in_err-parse_texts.result c.in_err-parse_texts.field-0.0 c.from_residual-in_err-parse_texts.ensures.1
     (c.in_err-parse_texts.ensures.failure names c.in_ok-configurations.ensures)
-    (λ failure bad. (bad.0, λ texts are. bad.1 texts.compatibles.items
-    (subst₂ (λ (given words : List (List ℕ)). AreNamedTexts (map name_of_word given) words texts.compatibles.items)
-    (sym c.all_values.ensures) (sym c.all_values-3.ensures) are.compatibles)))
+    (λ failure bad. (
+      bad.0,
+      λ texts are. bad.1 texts.compatibles.items
+          (subst₂ (λ (given words : List (List ℕ)). AreNamedTexts (map name_of_word given) words texts.compatibles.items)
+          (sym c.all_values.ensures) (sym c.all_values-3.ensures) are.compatibles),
+    ))
 
 pub returns-in_err-parse_descriptions-clause-failure : goal.returns-in_err-parse_descriptions-clause-failure
 returns-in_err-parse_descriptions-clause-failure c =
@@ -24,9 +27,12 @@ returns-in_err-parse_descriptions-clause-failure c =
     c.from_residual-in_err-parse_descriptions.result c.in_err-parse_descriptions.field-0.0
     c.from_residual-in_err-parse_descriptions.ensures.1
     (c.in_err-parse_descriptions.ensures.failure names c.in_ok-configurations.ensures)
-    (λ failure bad. (bad.0, λ texts are. bad.1 texts.configurations.items
-    (subst₂ (λ (given words : List (List ℕ)). AreDescriptions (map name_of_word given) words texts.configurations.items)
-    (sym c.all_values.ensures) (sym c.all_values-4.ensures) are.configurations)))
+    (λ failure bad. (
+      bad.0,
+      λ texts are. bad.1 texts.configurations.items
+          (subst₂ (λ (given words : List (List ℕ)). AreDescriptions (map name_of_word given) words texts.configurations.items)
+          (sym c.all_values.ensures) (sym c.all_values-4.ensures) are.configurations),
+    ))
 
 pub returns-in_err-parse_descriptions-2-clause-failure : goal.returns-in_err-parse_descriptions-2-clause-failure
 returns-in_err-parse_descriptions-2-clause-failure c =
@@ -36,9 +42,12 @@ returns-in_err-parse_descriptions-2-clause-failure c =
     c.from_residual-in_err-parse_descriptions-2.result c.in_err-parse_descriptions-2.field-0.0
     c.from_residual-in_err-parse_descriptions-2.ensures.1
     (c.in_err-parse_descriptions-2.ensures.failure names c.in_ok-images.ensures)
-    (λ failure bad. (bad.0, λ texts are. bad.1 texts.images.items
-    (subst₂ (λ (given words : List (List ℕ)). AreDescriptions (map name_of_word given) words texts.images.items)
-    (sym c.all_values-2.ensures) (sym c.all_values-5.ensures) are.images)))
+    (λ failure bad. (
+      bad.0,
+      λ texts are. bad.1 texts.images.items
+          (subst₂ (λ (given words : List (List ℕ)). AreDescriptions (map name_of_word given) words texts.images.items)
+          (sym c.all_values-2.ensures) (sym c.all_values-5.ensures) are.images),
+    ))
 
 pub returns-clause-texts : goal.returns-clause-texts
 returns-clause-texts c =

@@ -13,5 +13,8 @@ returns-in_err-texts-clause-failure c = λ held holds.
 
 pub returns-then-not-branch-clause-failure : goal.returns-then-not-branch-clause-failure
 returns-then-not-branch-clause-failure c = λ held holds.
-    inl (refl, λ texts are.
-    true≢false (sym (c.in_ok-have_distinct_names.ensures.1 are.distinct) ∙ c.if-not-branch.true))
+    inl (
+      refl,
+      λ texts are.
+          true≢false (sym (c.in_ok-have_distinct_names.ensures.1 are.distinct) ∙ c.if-not-branch.true),
+    )

@@ -31,10 +31,13 @@ returns-then-not-contains-clause-failure c = λ held holds.
     let word = (get_or words index no_word).now in
     let is = ok_or_is (IsNamedText word) c.parse_text.result BadValue c.ok_or.result c.in_ok-ok_or.named c.ok_or.ensures.value
     c.in_ok-ok_or.was c.parse_text.ensures.some in
-    inl (refl, λ texts are.
-    let known = each_word (λ word. is_among (name_of_word word) held ≡ true) words index no_word c.loop-word-test.true are.known in
-    true≢false (sym known ∙ ap (λ name. is_among name held) (sym is.name) ∙ holds.each c.in_ok-ok_or.named.name
-    ∙ sym c.contains.ensures ∙ c.if-not-contains.true))
+    inl (
+      refl,
+      λ texts are.
+          let known = each_word (λ word. is_among (name_of_word word) held ≡ true) words index no_word c.loop-word-test.true are.known in
+          true≢false (sym known ∙ ap (λ name. is_among name held) (sym is.name) ∙ holds.each c.in_ok-ok_or.named.name
+          ∙ sym c.contains.ensures ∙ c.if-not-contains.true),
+    )
 
 pub loop-word-preserved : goal.loop-word-preserved
 loop-word-preserved c = λ held holds.
