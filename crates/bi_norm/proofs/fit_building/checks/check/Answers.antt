@@ -14,7 +14,6 @@ use Rattle.bi_norm.proofs.BuiltChecks.{can_be_built, plan_is, early_pass, image_
 use Rattle.bi_norm.proofs.BuiltChecks.{image_text_fault, configuration_text_fault}
 use Rattle.bi_norm.proofs.ImageChecks.{length-given_images}
 use Rattle.bi_norm.proofs.fit_building.checks.check.Goals as goal
-use Rattle.bi_norm.proofs.fit_building.checks.check.Goals.{In_ok-checked}
 
 pub returns-in_err-checked-clause-failed : goal.returns-in_err-checked-clause-failed
 returns-in_err-checked-clause-failed c form =
@@ -76,10 +75,6 @@ check_image_texts-requires c =
       c.file-limit.ensures.value,
     )
 
--- What the checks of texts see are the images to be built.
-models_are : (c : In_ok-checked) → named_models c.deref.result.now ≡ spec_models (plan_spec_model c.args.plan) c.args.images.now
-models_are c = ap named_models c.deref.ensures.value ∙ c.in_ok-checked.ensures.named
-
 pub returns-in_err-check_image_texts-clause-failed : goal.returns-in_err-check_image_texts-clause-failed
 returns-in_err-check_image_texts-clause-failed c form =
     let plan = plan_spec_model c.args.plan in
@@ -94,7 +89,7 @@ returns-in_err-check_image_texts-clause-failed c form =
     (c.in_ok-check_configurations.ensures.passed (names_of_specs images) c.in_ok-checked.ensures.names)
     c.in_ok-check_default.ensures.ok c.in_err-check_image_texts.field-0.0
     (subst (λ models. IsFirstFailure (own_texts_checks 0 (map own_texts_of_image models)) c.in_err-check_image_texts.field-0.0)
-    (models_are c) c.in_err-check_image_texts.ensures.fault))
+    (ap named_models c.deref.ensures.value ∙ c.in_ok-checked.ensures.named) c.in_err-check_image_texts.ensures.fault))
 
 pub returns-in_err-check_configuration_texts-clause-failed : goal.returns-in_err-check_configuration_texts-clause-failed
 returns-in_err-check_configuration_texts-clause-failed c form =
@@ -110,7 +105,7 @@ returns-in_err-check_configuration_texts-clause-failed c form =
     c.in_ok-check_description.ensures.ok.no_zero c.in_ok-checked.ensures.passed
     (c.in_ok-check_configurations.ensures.passed (names_of_specs images) c.in_ok-checked.ensures.names)
     c.in_ok-check_default.ensures.ok c.in_err-check_configuration_texts.field-0.0
-    (subst (λ models. AllPass (own_texts_checks 0 (map own_texts_of_image models))) (models_are c)
+    (subst (λ models. AllPass (own_texts_checks 0 (map own_texts_of_image models))) (ap named_models c.deref.ensures.value ∙ c.in_ok-checked.ensures.named)
     c.in_ok-check_image_texts.ensures.passed)
     c.in_err-check_configuration_texts.ensures.fault)
 
@@ -124,7 +119,7 @@ returns-clause-passed c form =
     early_pass c.args.limits form c.args.head plan images few few_configurations c.in_ok-check_description.ensures.ok.no_zero
     c.in_ok-checked.ensures.passed
     (c.in_ok-check_configurations.ensures.passed (names_of_specs images) c.in_ok-checked.ensures.names) c.in_ok-check_default.ensures.ok
-    (subst (λ models. AllPass (own_texts_checks 0 (map own_texts_of_image models))) (models_are c)
+    (subst (λ models. AllPass (own_texts_checks 0 (map own_texts_of_image models))) (ap named_models c.deref.ensures.value ∙ c.in_ok-checked.ensures.named)
     c.in_ok-check_image_texts.ensures.passed)
     c.in_ok-check_configuration_texts.ensures.passed
 
@@ -132,7 +127,7 @@ pub returns-clause-can : goal.returns-clause-can
 returns-clause-can c =
     can_be_built c.args.head (plan_spec_model c.args.plan) c.args.images.now c.in_ok-check_description.ensures.ok
     c.in_ok-checked.ensures.can
-    (subst (AllByRecursion (λ image. IfSome image.description IsText)) (models_are c) c.in_ok-check_image_texts.ensures.texts)
+    (subst (AllByRecursion (λ image. IfSome image.description IsText)) (ap named_models c.deref.ensures.value ∙ c.in_ok-checked.ensures.named) c.in_ok-check_image_texts.ensures.texts)
     c.in_ok-checked.ensures.distinct
 
 pub returns-clause-is_plan : goal.returns-clause-is_plan
