@@ -172,8 +172,8 @@ pub fn build_fit_into<S: Sink>(
 ///
 /// Each configuration has its description, its texts under `compatible`, if there are any, and for
 /// each key with at least one name, these names in their order. An image or a configuration without
-/// a description of its own has that of the tree. Each image has a hash node for each algorithm, in their order, even if an algorithm
-/// occurs twice: `hash-1`, `hash-2`, and so on.
+/// a description of its own has that of the tree. Each image has a hash node for each algorithm, in
+/// their order, even if an algorithm occurs twice: `hash-1`, `hash-2`, and so on.
 ///
 /// Fails with the first of these errors that applies:
 ///

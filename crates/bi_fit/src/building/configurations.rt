@@ -35,13 +35,7 @@ pub(super) fn configuration_leaves<'a, 'b>(
     for (index, configuration) in configurations.iter().enumerate() {
         leaves.push(Leaf {
             name: configuration.name,
-            properties: configuration_properties(
-                alloc,
-                names,
-                head,
-                configuration,
-                &lists[index],
-            )?,
+            properties: configuration_properties(alloc, names, head, configuration, &lists[index])?,
         })?;
     }
     Ok(leaves)

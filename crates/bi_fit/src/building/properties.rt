@@ -90,8 +90,8 @@ pub(super) fn default_properties<'a, 'b>(
     Ok(properties)
 }
 
-/// Returns the properties of a configuration. Requires: the names are those of a built tree, and the
-/// lists are those of the configuration.
+/// Returns the properties of a configuration. Requires: the names are those of a built tree, and
+/// the lists are those of the configuration.
 pub(super) fn configuration_properties<'a, 'b>(
     alloc: Global,
     names: &'b PropertyNames<'a>,
@@ -174,8 +174,8 @@ fn insert_cell<'a>(
     }
 }
 
-/// Adds the description of an image or a configuration: its own, or else that of the tree. Requires:
-/// the names of the properties are those of a built tree.
+/// Adds the description of an image or a configuration: its own, or else that of the tree.
+/// Requires: the names of the properties are those of a built tree.
 fn insert_description<'a>(
     properties: &mut PropertyMap<'a, '_>,
     head: Head<'a>,

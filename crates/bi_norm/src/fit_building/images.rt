@@ -33,8 +33,9 @@ pub(super) struct CheckedImages<'a> {
     pub(super) names: BTreeSet<&'a [u8]>,
 }
 
-/// Makes the checks of each image in turn, except that of its own description, and returns the images
-/// with the texts of their nodes and their descriptions. Requires: there are fewer than 2^32 images.
+/// Makes the checks of each image in turn, except that of its own description, and returns the
+/// images with the texts of their nodes and their descriptions. Requires: there are fewer than 2^32
+/// images.
 ///
 /// Errors, at the index of the image: those of `check_image`; DuplicateNode, if an earlier image
 /// has its name. Or OutOfMemory, which occurs only after those checks of the first image that look
@@ -82,8 +83,8 @@ fn element_at<T: Copy>(list: &[Option<T>], index: usize) -> Option<T>
     }
 }
 
-/// Makes the checks of an image that look at no other image, except that of its own description, and
-/// returns it with the texts of its node and its description.
+/// Makes the checks of an image that look at no other image, except that of its own description,
+/// and returns it with the texts of its node and its description.
 ///
 /// Errors: BadField at its index, if a node may not have its name, or one of its texts has a zero
 /// byte, or it has no texts and its type is multi; else NoCodeName at its index, if it has no texts

@@ -105,7 +105,8 @@ returns-in_err-check_configuration_texts-clause-failed c form =
     c.in_ok-check_description.ensures.ok.no_zero c.in_ok-checked.ensures.passed
     (c.in_ok-check_configurations.ensures.passed (names_of_specs images) c.in_ok-checked.ensures.names)
     c.in_ok-check_default.ensures.ok c.in_err-check_configuration_texts.field-0.0
-    (subst (λ models. AllPass (own_texts_checks 0 (map own_texts_of_image models))) (ap named_models c.deref.ensures.value ∙ c.in_ok-checked.ensures.named)
+    (subst (λ models. AllPass (own_texts_checks 0 (map own_texts_of_image models)))
+    (ap named_models c.deref.ensures.value ∙ c.in_ok-checked.ensures.named)
     c.in_ok-check_image_texts.ensures.passed)
     c.in_err-check_configuration_texts.ensures.fault)
 
@@ -119,7 +120,8 @@ returns-clause-passed c form =
     early_pass c.args.limits form c.args.head plan images few few_configurations c.in_ok-check_description.ensures.ok.no_zero
     c.in_ok-checked.ensures.passed
     (c.in_ok-check_configurations.ensures.passed (names_of_specs images) c.in_ok-checked.ensures.names) c.in_ok-check_default.ensures.ok
-    (subst (λ models. AllPass (own_texts_checks 0 (map own_texts_of_image models))) (ap named_models c.deref.ensures.value ∙ c.in_ok-checked.ensures.named)
+    (subst (λ models. AllPass (own_texts_checks 0 (map own_texts_of_image models)))
+    (ap named_models c.deref.ensures.value ∙ c.in_ok-checked.ensures.named)
     c.in_ok-check_image_texts.ensures.passed)
     c.in_ok-check_configuration_texts.ensures.passed
 
@@ -127,7 +129,8 @@ pub returns-clause-can : goal.returns-clause-can
 returns-clause-can c =
     can_be_built c.args.head (plan_spec_model c.args.plan) c.args.images.now c.in_ok-check_description.ensures.ok
     c.in_ok-checked.ensures.can
-    (subst (AllByRecursion (λ image. IfSome image.description IsText)) (ap named_models c.deref.ensures.value ∙ c.in_ok-checked.ensures.named) c.in_ok-check_image_texts.ensures.texts)
+    (subst (AllByRecursion (λ image. IfSome image.description IsText))
+    (ap named_models c.deref.ensures.value ∙ c.in_ok-checked.ensures.named) c.in_ok-check_image_texts.ensures.texts)
     c.in_ok-checked.ensures.distinct
 
 pub returns-clause-is_plan : goal.returns-clause-is_plan
@@ -135,4 +138,5 @@ returns-clause-is_plan c =
     let images = c.args.images.now in
     plan_is (plan_spec_model c.args.plan) images
     (c.in_ok-check_configurations.ensures.can (names_of_specs images) c.in_ok-checked.ensures.names)
-    c.in_ok-check_configuration_texts.ensures.texts c.in_ok-check_configurations.ensures.distinct c.in_ok-check_default.ensures.ok c.few_algorithms.ensures
+    c.in_ok-check_configuration_texts.ensures.texts
+    c.in_ok-check_configurations.ensures.distinct c.in_ok-check_default.ensures.ok c.few_algorithms.ensures

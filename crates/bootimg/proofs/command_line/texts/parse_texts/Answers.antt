@@ -16,7 +16,8 @@ pub returns-in_err-ok_or-clause-failure : goal.returns-in_err-ok_or-clause-failu
 returns-in_err-ok_or-clause-failure c = λ held holds.
     let words = c.args.words.now in
     let index = c.loop-word.word-index in
-    let failed = ok_or_failed c.parse_text.result BadValue c.in_err-ok_or.field-0.0 c.ok_or.result c.ok_or.ensures.value c.in_err-ok_or.was in
+    let failed = ok_or_failed c.parse_text.result BadValue c.in_err-ok_or.field-0.0 c.ok_or.result
+    c.ok_or.ensures.value c.in_err-ok_or.was in
     fails_with (IsBadValue (AreNamedTexts held (texts_of words))) c.from_residual-in_err-ok_or.result c.in_err-ok_or.field-0.0
     c.from_residual-in_err-ok_or.ensures.1 (
       failed.1,
