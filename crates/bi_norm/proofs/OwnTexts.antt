@@ -97,8 +97,8 @@ models_more P model all index d within before here =
     (each-append P (map model (take index all)) (model (get_or all index d) ∷ []) before (here, tt))
 
 -- What a list of images gives past its end.
-abbrev pub no_named_image : NamedImage
-no_named_image = record {
+abbrev pub no_checked_image : NamedImage
+no_checked_image = record {
   name = record { ref_ptr = (0, 0); now = [] };
   description = None;
   image_type = record { ref_ptr = (0, 0); now = [] };

@@ -5,7 +5,7 @@ use Rattle.bi_blob.specs.Tree.{HasNoZero}
 use Rattle.bi_fit.specs.Building.{ImageSpecModel, IsText}
 use Rattle.bi_fit.specs.NamedImages.{named_model, named_models}
 use Rattle.bi_norm.specs.FitBuilding.{own_texts_of_image}
-use Rattle.bi_norm.proofs.OwnTexts.{all_texts_pass, image_texts_at, length-image_texts, models_more, no_named_image, none_passed, texts_fail}
+use Rattle.bi_norm.proofs.OwnTexts.{all_texts_pass, image_texts_at, length-image_texts, models_more, no_checked_image, none_passed, texts_fail}
 use Rattle.bi_norm.proofs.OwnTexts.{texts_of_option, texts_pass}
 use Rattle.bi_norm.proofs.fit_building.texts.check_image_texts.Goals as goal
 
@@ -20,7 +20,7 @@ returns-then-not-has_text-clause-fault c =
     let first = texts_fail (map own_texts_of_image (named_models images)) index []
     (omega (arith, c.loop-index-test.true, length-image_texts images)) c.loop-index.invariant.passed
     (λ fine. c.has_text.ensures.other c.if-not-has_text.true
-    (subst (AllByRecursion HasNoZero) (image_texts_at images index no_named_image c.loop-index-test.true) fine)) in
+    (subst (AllByRecursion HasNoZero) (image_texts_at images index no_checked_image c.loop-index-test.true) fine)) in
     search rules
 
 pub loop-index-preserved : goal.loop-index-preserved
@@ -31,9 +31,9 @@ loop-index-preserved c =
     record {
       passed = texts_pass (map own_texts_of_image (named_models images)) index []
           (omega (arith, c.loop-index-test.true, length-image_texts images)) c.loop-index.invariant.passed
-          (subst (AllByRecursion HasNoZero) (sym (image_texts_at images index no_named_image c.loop-index-test.true))
-          (texts_of_option (named_model (get_or images index no_named_image)).description is));
-      texts = models_more (λ (image : ImageSpecModel). IfSome image.description IsText) named_model images index no_named_image
+          (subst (AllByRecursion HasNoZero) (sym (image_texts_at images index no_checked_image c.loop-index-test.true))
+          (texts_of_option (named_model (get_or images index no_checked_image)).description is));
+      texts = models_more (λ (image : ImageSpecModel). IfSome image.description IsText) named_model images index no_checked_image
           c.loop-index-test.true c.loop-index.invariant.texts is;
     }
 
