@@ -75,7 +75,7 @@ pub fn format(options: &ArgMatches<'_>) -> Format
 
 /// Returns the values of an option that may be given any number of times, in their order, or those
 /// positional arguments.
-pub fn all_values<'r, 'a>(options: &'r ArgMatches<'a>, id: &str) -> &'r [&'a str]
+pub fn all_values<'r, 'a: 'r>(options: &'r ArgMatches<'a>, id: &str) -> &'r [&'a str]
     ensures { texts_of result.now ≡ values_of options.now id.now }
 {
     options.get_strs(id).unwrap_or(&[])
