@@ -235,4 +235,4 @@ images_at_are_known = record {
 -- ---- explain
 
 pub explanations_are_known : ExplanationsAreKnown
-explanations_are_known = record { one = refl; other = refl; line = refl; concern = refl; names = refl; kinds = refl; all = refl }
+explanations_are_known = record { one = refl; other = refl; line = refl; concern = refl; message = refl; names = refl; all = refl }

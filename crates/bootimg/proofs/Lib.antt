@@ -34,3 +34,5 @@ pub mod WorkFacts
 pub mod AllRuns
 pub mod TaskFacts
 pub mod BuildWorkFacts
+pub mod LastSaid
+pub mod MessageFacts

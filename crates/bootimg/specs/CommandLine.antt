@@ -8,7 +8,6 @@ use Rattle.std.specs.Option.{option_map_or}
 use Rattle.bi_base.specs.declared.align.Align.{Align}
 use Rattle.bi_base.specs.Aligns.{align_bytes}
 use Rattle.bi_base.specs.Limits.{Limits}
-use Rattle.bi_base.specs.Causes.{name_of}
 use Rattle.bi_base.specs.declared.fault.Cause.{Cause}
 use Rattle.bi_base.specs.declared.fault.Error.TheVariants.{OutOfMemory}
 use Rattle.bi_fit.specs.Names.{key_name}
@@ -23,7 +22,7 @@ use Rattle.bi_norm.specs.declared.fit_building.ImageSpec.{ImageSpec}
 use Rattle.bi_norm.specs.declared.fit_building.ImageTexts.{ImageTexts}
 use Rattle.bootimg.specs.CodeWords.{IsCode, text_of_code, four_texts}
 use Rattle.bootimg.specs.ConfigurationWords.{AreConfigurations, AreHashes, IsDefault}
-use Rattle.bootimg.specs.Explanations.{name_of_topic}
+use Rattle.bootimg.specs.Explanations.{IsAbout}
 use Rattle.bootimg.specs.declared.explanations.Topic.{Topic}
 use Rattle.bootimg.specs.ConfigurationWords.{IsFirstBadConfiguration}
 use Rattle.bootimg.specs.Words.{listed_words, parts_of}
@@ -344,14 +343,11 @@ pub record IsGetPlan (options : ArgMatches) (plan : GetPlan) : Type 0 where
 
 -- ---- explain
 
--- The argument is the name of this cause.
-abbrev pub NamesCause : List ℕ → Cause → Type 0
-NamesCause argument cause = argument ≡ name_of cause
-
--- The argument names this, a cause or a kind of concerns. Without an argument there is nothing.
+-- The argument is about this: a cause, a kind of concerns, or another message. Without an argument
+-- there is nothing.
 abbrev pub IsExplained : Option (List ℕ) → Option Topic → Type 0
 IsExplained None None = ⊤
-IsExplained (Some argument) (Some topic) = argument ≡ name_of_topic topic
+IsExplained (Some argument) (Some topic) = IsAbout argument topic
 IsExplained argument topic = ⊥
 
 -- ---- extract

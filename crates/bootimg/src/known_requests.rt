@@ -7,6 +7,7 @@ ghost use Rattle.bootimg.specs.KnownBuildRequests.{NodeTextsAreKnown, FirstFailu
 ghost use Rattle.bootimg.specs.KnownOrders.{RequestsAreKnown, RejectionsAreKnown};
 ghost use Rattle.bootimg.specs.KnownInputs.{ComparedInputsAreKnown, ImagesAtAreKnown};
 ghost use Rattle.bootimg.specs.KnownInputs.{ComparedOutputsAreKnown, ExplanationsAreKnown};
+ghost use Rattle.bootimg.specs.KnownInputs.{MessagesAreKnown};
 
 /// Small values of `--hash`, and its absence, give known algorithms, or none.
 pub fn hash_options_are_known()
@@ -59,4 +60,9 @@ pub fn images_at_are_known()
 /// Causes have known explanations.
 pub fn explanations_are_known()
     ensures { ExplanationsAreKnown }
+{}
+
+/// It is known what messages are about.
+pub fn messages_are_known()
+    ensures { MessagesAreKnown }
 {}

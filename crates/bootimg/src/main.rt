@@ -12,6 +12,7 @@ mod jobs;
 mod known_requests;
 mod known_runs;
 mod known_works;
+mod messages;
 mod no_input;
 mod numbers;
 mod reports;

@@ -407,8 +407,8 @@ const INDEX: OptionText = OptionText {
 const CAUSE: OptionText = OptionText {
     name: "cause",
     value_name: "NAME",
-    help: "A cause as an error prints it, or a kind of concerns as check prints it; without NAME \
-         each one is explained",
+    help: "A cause or another message as an error prints it, or a kind of concerns as check prints \
+         it; without NAME each one is explained",
     form: OptionForm::Positional,
 };
 
@@ -826,10 +826,12 @@ static EXPLAIN: CommandText = CommandText {
     about: "Say what the cause of an error or a concern means",
     usage: "bootimg explain [OPTIONS] [NAME]",
     after_help: "\
-             Writes to standard output what the cause of an error means, or a kind of concerns\n\
-             that check finds, and what can be done. Without NAME, writes a line for each cause\n\
-             and each kind, with its name. Reads no image.\n\n\
+             Writes to standard output what the cause of an error, another message or a kind of\n\
+             concerns that check finds means, and what can be done. A line of bootimg can be\n\
+             given as it is, in quotes. Without NAME, writes a line for each cause and each\n\
+             kind, with its name. Reads no image.\n\n\
              Example: bootimg explain BadMagic\n\
+             Example: bootimg explain 'Truncated at 12'\n\
              Example: bootimg explain uncovered",
     options: &[OUTPUT, CAUSE],
 };
