@@ -1182,8 +1182,8 @@ def shown_fit_object(fit):
     root = fit.blob.root
     return {
         "kind": "fit", "description": text_or_null(root, "description"), "timestamp": number_or_null(root, "timestamp"),
-        "total_size": fit.blob.total, "boot_cpu": fit.blob.cpu, "default": name_or_null(fit.default()),
-        "reservations": reservation_objects(fit), "images": [shown_image_object(fit, *image) for image in fit.images],
+        "size": fit.blob.total, "boot_cpu": fit.blob.cpu, "default": name_or_null(fit.default()),
+        "images": [shown_image_object(fit, *image) for image in fit.images],
         "configurations": [shown_configuration_object(fit, node) for node in fit.configurations.children],
         "concerns": list(concerns_of(fit)),
     }

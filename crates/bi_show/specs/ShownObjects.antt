@@ -23,7 +23,7 @@ use Rattle.bi_legacy.specs.Meaning.{LegacyImage}
 use Rattle.bi_legacy.specs.Reading.{LegacyModel, IsReadLegacy}
 use Rattle.bi_norm.specs.Comparing.{MeansOnly}
 use Rattle.bi_norm.specs.Meaning.{Meaning}
-use Rattle.bi_common.specs.CommonLines.{code_member, name_member, reservations_member}
+use Rattle.bi_common.specs.CommonLines.{code_member, name_member}
 use Rattle.bi_common.specs.HashedImages.{FoundHash, found_hashes}
 use Rattle.bi_common.specs.Json.{Json, Member, json_array, json_bool, json_line, json_null}
 use Rattle.bi_common.specs.Json.{json_number, json_object, json_string, string_or_null}
@@ -211,7 +211,7 @@ shown_head_members own size cpu default =
     (codes "kind", json_string (codes "fit"))
     ∷ text_property own (codes "description")
     ∷ number_property own timestamp_name
-    ∷ (codes "total_size", json_number size)
+    ∷ (codes "size", json_number size)
     ∷ (codes "boot_cpu", json_number cpu)
     ∷ (codes "default", string_or_null (option_map shown_text default)) ∷ []
 
@@ -220,8 +220,7 @@ abbrev pub shown_fit_object : (file : List ℕ) → Root FileNode → ImageTree 
 shown_fit_object file root tree concerns =
     json_object
     (shown_head_members root.own (totalsize file) tree.cpu (default_of tree)
-    ++ reservations_member tree.reservations
-    ∷ (codes "images", json_array (shown_image_objects file (images_below root) tree.payloads))
+    ++ (codes "images", json_array (shown_image_objects file (images_below root) tree.payloads))
     ∷ (
       codes "configurations",
       json_array
