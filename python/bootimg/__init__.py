@@ -18,8 +18,8 @@ out of its range or a name is unknown, NotFound if there is nothing to extract, 
 OutOfMemory if an allocation fails.
 
 `python3 -m bootimg COMMAND ..` writes what `bootimg COMMAND ..` writes, and ends with the same
-status. It lacks `-o`, `--escaped`, `--offset`, `--align` and `--all`, and its message about wrong
-arguments is different. It also takes names that are not UTF-8. `python3 -m bootimg --help` lists
+status. It lacks `-o`, `--escaped`, `--offset` and `--all`, and its message about wrong arguments
+is different. It also takes names that are not UTF-8. `python3 -m bootimg --help` lists
 its commands.
 
 The module loads the library that the environment variable BOOTIMG_LIBRARY names, if it is set, or
@@ -35,6 +35,7 @@ import io
 import mmap
 import os
 import re
+import struct
 import sys
 from typing import Any, Iterable, Iterator, NamedTuple, TypeVar, overload
 
@@ -59,6 +60,7 @@ __all__ = [
     "LegacyHeader",
     "Node",
     "NotFound",
+    "Notes",
     "OutOfMemory",
     "Part",
     "REASONS",
@@ -92,9 +94,13 @@ __all__ = [
     "listing_json",
     "normalise",
     "normalise_and_count",
+    "notes",
     "open",
     "same_meaning",
+    "scan",
+    "scan_json",
     "show",
+    "show_json",
     "update",
     "update_and_count",
     "verify",
@@ -140,11 +146,14 @@ REASONS = (
     "no such property",
     "no text",
     "no number",
+    "no name",
+    "no code",
 )
 VALUE_FORMS = ("shown", "text", "number", "raw")
 
 _OK, _REFUSED, _OUT_OF_MEMORY, _NO_ROOM, _WRONG_ARGUMENT, _NOT_FOUND = range(6)
 _MISSING = 7
+_BAD_WORD = 16
 _SIGNED = 32768
 
 
@@ -154,6 +163,14 @@ class BootimgError(Exception):
 
 class _Unread(BootimgError):
     """A file cannot be read."""
+
+
+class _BadWord(BootimgError):
+    """A word for what is left out names nothing. `index` is its index, counted from 0."""
+
+    def __init__(self, index: int) -> None:
+        super().__init__(f"bad word {index}")
+        self.index = index
 
 
 class Refused(BootimgError):
@@ -195,6 +212,18 @@ class Report(NamedTuple):
     all_good: bool
 
 
+class Notes(NamedTuple):
+    """What a user should know about a normal form beyond what it means. `signatures` is the number
+    of signature nodes, which are kept and not checked. The others are for a FIT in the external
+    form, without an alignment: `lost_alignment` is the alignment in bytes that the payloads after
+    the blob have in the file, if one of them loses it, or None, and `lost_positions` is the number
+    of fixed positions of payloads that are not kept."""
+
+    signatures: int
+    lost_alignment: int | None
+    lost_positions: int
+
+
 class Comparison(NamedTuple):
     """Whether two files mean the same thing, and what differs."""
 
@@ -227,6 +256,14 @@ class _LegacyFields(ctypes.Structure):
         ("arch", ctypes.c_uint8),
         ("image_type", ctypes.c_uint8),
         ("compression", ctypes.c_uint8),
+    ]
+
+
+class _NoteNumbers(ctypes.Structure):
+    _fields_ = [
+        ("signatures", ctypes.c_size_t),
+        ("lost_positions", ctypes.c_size_t),
+        ("lost_alignment", ctypes.c_uint32),
     ]
 
 
@@ -267,8 +304,13 @@ class _ConcernElement(ctypes.Structure):
     ]
 
 
-class _PropertyElement(ctypes.Structure):
-    _fields_ = [("name", _Region), ("value", _Region)]
+class _TreeElement(ctypes.Structure):
+    _fields_ = [
+        ("name", _Region),
+        ("value", _Region),
+        ("depth", ctypes.c_uint32),
+        ("kind", ctypes.c_uint32),
+    ]
 
 
 _Element = TypeVar("_Element", bound=ctypes.Structure)
@@ -280,6 +322,7 @@ _CALLS = {
     "kind": _FILE,
     "normalise": _FILE + _NUMBER * 3 + _BUFFER,
     "update": _FILE + _NUMBER * 5 + _BUFFER,
+    "notes": _FILE + _NUMBER * 5 + [ctypes.c_void_p],
     "extract_part": _FILE + _NUMBER * 3,
     "extract_image": _FILE * 2 + _NUMBER * 2,
     "extract_config": _FILE * 2 + _NUMBER * 4,
@@ -288,12 +331,13 @@ _CALLS = {
     "list_json": _FILE + _NUMBER * 2 + _BUFFER,
     "describe": _FILE + _NUMBER * 2 + _BUFFER,
     "describe_json": _FILE + _NUMBER * 2 + _BUFFER,
+    "scan": _FILE + _NUMBER * 2 + _BUFFER,
+    "scan_json": _FILE + _NUMBER * 2 + _BUFFER,
     "show": _FILE + _NUMBER * 3 + _BUFFER,
+    "show_json": _FILE + _NUMBER * 2 + _BUFFER,
     "verdicts": _FILE + _NUMBER * 2 + _BUFFER,
     "concerns": _FILE + _NUMBER * 3 + _BUFFER,
-    "children": _FILE * 2 + _NUMBER * 2 + _BUFFER,
-    "properties": _FILE * 2 + _NUMBER * 2 + _BUFFER,
-    "property_value": _FILE * 3 + _NUMBER * 2,
+    "nodes": _FILE + _NUMBER * 2 + _BUFFER,
     "get": _FILE * 3 + _NUMBER * 3 + _BUFFER,
     "verify": _FILE + _NUMBER * 2 + _BUFFER,
     "verify_json": _FILE + _NUMBER * 2 + _BUFFER,
@@ -303,8 +347,12 @@ _CALLS = {
     "same_meaning": _FILE * 2 + _NUMBER * 2,
     "compare": _FILE * 2 + _NUMBER * 2 + _BUFFER,
     "compare_json": _FILE * 2 + _NUMBER * 2 + _BUFFER,
+    "compare_ignoring": _FILE * 4 + _NUMBER * 2 + _BUFFER,
+    "compare_ignoring_json": _FILE * 4 + _NUMBER * 2 + _BUFFER,
     "build_fit": _FILE * 2 + _NUMBER + _FILE + _NUMBER * 3 + _BUFFER,
     "build_legacy": _FILE + [ctypes.c_void_p] + _FILE + _NUMBER * 2 + _BUFFER,
+    "code_name": _NUMBER * 2 + _BUFFER,
+    "code_number": _NUMBER + _FILE,
     "cause_name": _NUMBER + _BUFFER,
     "explain": _NUMBER + _BUFFER,
     "version": _BUFFER,
@@ -346,6 +394,8 @@ def _raise(status: int, answer: _Answer) -> None:
         raise OutOfMemory("out of memory")
     if status == _WRONG_ARGUMENT:
         raise WrongArgument("wrong argument")
+    if status == _NOT_FOUND and answer.reason == _BAD_WORD:
+        raise _BadWord(answer.value)
     if status == _NOT_FOUND:
         index = answer.value if answer.reason == _MISSING else None
         raise NotFound(REASONS[answer.reason - 1], index)
@@ -430,11 +480,12 @@ def _fill(name: str, room: int, files: tuple[Buffer, ...], *numbers: Any) -> tup
     return ctypes.string_at(buffer, answer.size), answer.value
 
 
-def _elements(
-    name: str, element: type[_Element], files: tuple[Buffer, ...], *numbers: int
-) -> list[_Element]:
-    """Calls a function with an array of elements. Returns the elements."""
-    answer, room = _Answer(), 64
+def _array(
+    name: str, room: int, element: type[_Element], files: tuple[Buffer, ...], *numbers: int
+) -> tuple[ctypes.Array[_Element], int]:
+    """Calls a function with an array of `room` elements, or of as many as there are if that is
+    more. Returns the array, and the number of the elements."""
+    answer = _Answer()
     function = getattr(_library, "bootimg_" + name)
     with _arguments_for(files) as arguments:
         while True:
@@ -444,7 +495,23 @@ def _elements(
                 break
             room = answer.size
     _raise(status, answer)
-    return list(array[: answer.size])
+    return array, answer.size
+
+
+def _elements(
+    name: str, element: type[_Element], files: tuple[Buffer, ...], *numbers: int
+) -> list[_Element]:
+    """Calls a function with an array of elements. Returns the elements."""
+    array, size = _array(name, 64, element, files, *numbers)
+    return list(array[:size])
+
+
+def _tree_elements(file: Buffer, limit: int, depth: int) -> Iterator[tuple[int, ...]]:
+    """Returns the elements of the tree of a FIT. Each is the offset and the size of its name, those
+    of its value, its depth and its kind."""
+    array, size = _array("nodes", 1024, _TreeElement, (file,), limit, depth)
+    taken = ctypes.string_at(array, size * ctypes.sizeof(_TreeElement))
+    return struct.iter_unpack("NNNNII", taken)
 
 
 def version() -> str:
@@ -474,21 +541,42 @@ def kind(file: Buffer) -> str:
     return ("legacy", "fit")[_call("kind", (file,)).value - 1]
 
 
+def _form(external: bool, align: int | None) -> int:
+    """Returns the number of a form. Raises WrongArgument for an alignment of embedded payloads, and
+    for 0 and 1, which are the numbers of the forms without an alignment."""
+    if align is None:
+        return int(external)
+    if not external or align in (0, 1):
+        raise WrongArgument("wrong argument")
+    return _number(align)
+
+
 def normalise(
-    file: Buffer, external: bool = False, limit: int = LIMIT, depth: int = DEPTH
+    file: Buffer,
+    external: bool = False,
+    limit: int = LIMIT,
+    depth: int = DEPTH,
+    *,
+    align: int | None = None,
 ) -> bytes:
-    """Returns the normal form of a file. With `external`, the payloads of a FIT are after the blob.
+    """Returns the normal form of a file. With `external`, the payloads of a FIT are after the blob,
+    and each begins at a multiple of `align` bytes, a power of two from 4 to 1048576, or of 4 bytes.
     Raises Refused with TooLarge if the normal form is longer than `limit`."""
-    return normalise_and_count(file, external, limit, depth)[0]
+    return normalise_and_count(file, external, limit, depth, align=align)[0]
 
 
 def normalise_and_count(
-    file: Buffer, external: bool = False, limit: int = LIMIT, depth: int = DEPTH
+    file: Buffer,
+    external: bool = False,
+    limit: int = LIMIT,
+    depth: int = DEPTH,
+    *,
+    align: int | None = None,
 ) -> tuple[bytes, int]:
     """Returns what `normalise` returns, and the number of signature nodes, which are kept and not
     checked."""
-    room = _size_of(file) + 4096
-    return _fill("normalise", room, (file,), int(external), _number(limit), _number(depth))
+    numbers = (_form(external, align), _number(limit), _number(depth))
+    return _fill("normalise", _size_of(file) + 4096, (file,), *numbers)
 
 
 def update(
@@ -498,11 +586,14 @@ def update(
     external: bool = False,
     limit: int = LIMIT,
     depth: int = DEPTH,
+    *,
+    align: int | None = None,
 ) -> bytes:
     """Returns the normal form of a file with the time of creation `time`, in seconds since 1970, if
-    it is given, and with new digests, if `hashes` is set. Raises Refused with TooLarge if the
-    output is longer than `limit`, or, with `hashes`, if the payloads together are longer."""
-    return update_and_count(file, time, hashes, external, limit, depth)[0]
+    it is given, and with new digests, if `hashes` is set. `external` and `align` are as for
+    `normalise`. Raises Refused with TooLarge if the output is longer than `limit`, or, with
+    `hashes`, if the payloads together are longer."""
+    return update_and_count(file, time, hashes, external, limit, depth, align=align)[0]
 
 
 def update_and_count(
@@ -512,12 +603,52 @@ def update_and_count(
     external: bool = False,
     limit: int = LIMIT,
     depth: int = DEPTH,
+    *,
+    align: int | None = None,
 ) -> tuple[bytes, int]:
     """Returns what `update` returns, and the number of signature nodes, which are kept and not
     checked."""
-    changes = int(time is not None) + 2 * int(hashes)
-    numbers = (changes, _number(time or 0), int(external), _number(limit), _number(depth))
+    numbers = _update_numbers(time, hashes, external, align, limit, depth)
     return _fill("update", _size_of(file) + 4096, (file,), *numbers)
+
+
+def notes(
+    file: Buffer,
+    time: int | None = None,
+    hashes: bool = False,
+    external: bool = False,
+    limit: int = LIMIT,
+    depth: int = DEPTH,
+    *,
+    align: int | None = None,
+) -> Notes:
+    """Returns what a user should know about what `update` returns with these arguments, or
+    `normalise` without `time` and `hashes`. Raises what `update` raises.
+
+    >>> import bootimg
+    >>> codes = ("linux", "arm64", "kernel")
+    >>> images = [bootimg.BuildImage(name, b"data", *codes) for name in ("a", "b")]
+    >>> fit = bootimg.build_fit(images, external=True, align=512)
+    >>> bootimg.notes(fit, external=True)
+    Notes(signatures=0, lost_alignment=512, lost_positions=0)
+    """
+    answer, found = _Answer(), _NoteNumbers()
+    numbers = _update_numbers(time, hashes, external, align, limit, depth)
+    with _arguments_for((file,)) as arguments:
+        status = _library.bootimg_notes(
+            *arguments, *numbers, ctypes.byref(found), ctypes.byref(answer)
+        )
+    _raise(status, answer)
+    return Notes(found.signatures, found.lost_alignment or None, found.lost_positions)
+
+
+def _update_numbers(
+    time: int | None, hashes: bool, external: bool, align: int | None, limit: int, depth: int
+) -> tuple[int, ...]:
+    """Returns the numbers of an update for C."""
+    changes = int(time is not None) + 2 * int(hashes)
+    form = _form(external, align)
+    return (changes, _number(time or 0), form, _number(limit), _number(depth))
 
 
 def _region(name: str, files: tuple[Buffer, ...], *numbers: int) -> memoryview:
@@ -616,6 +747,32 @@ def show(
     and the lines of `check`. With `layout`, it shows the regions of the file by their offsets. Its
     form may change with the version. Raises Refused with TooLarge as `check` does."""
     return _text("show", (file,), int(layout), _number(limit), _number(depth))[0]
+
+
+def show_json(file: Buffer, limit: int = LIMIT, depth: int = DEPTH) -> str:
+    """Returns what `show` says, without regions of the file, as one JSON text in ASCII and a
+    newline. Its form stays. Raises Refused as `show` does."""
+    return _text("show_json", (file,), _number(limit), _number(depth))[0]
+
+
+def scan(file: Buffer, limit: int = LIMIT, depth: int = DEPTH) -> str:
+    """Returns a line for every boot image inside a file, in the order of their offsets: the offset,
+    the kind, the size in bytes, and the name of a legacy image or the number of images of a FIT.
+    The text is empty if there is no image. Raises Refused with TooLarge if the file, or what its
+    images claim together, is longer than `limit`.
+
+    >>> import bootimg
+    >>> small = bootimg.build_legacy([b"x"], "Linux", os="linux", arch="arm", type="kernel")
+    >>> print(bootimg.scan(bytes(100) + small), end="")
+    100 legacy 65 Linux
+    """
+    return _text("scan", (file,), _number(limit), _number(depth))[0]
+
+
+def scan_json(file: Buffer, limit: int = LIMIT, depth: int = DEPTH) -> str:
+    """Returns what `scan` says as one JSON text in ASCII and a newline, even if there is no
+    image."""
+    return _text("scan_json", (file,), _number(limit), _number(depth))[0]
 
 
 def verify(file: Buffer, limit: int = LIMIT, depth: int = DEPTH) -> Report:
@@ -792,9 +949,12 @@ def build_fit(
     external: bool = False,
     limit: int = LIMIT,
     depth: int = DEPTH,
+    *,
+    align: int | None = None,
 ) -> bytes:
     """Returns a FIT with these images, the SHA-256 of their payloads, and one configuration,
-    `conf-1`, which lists the images by their types. Raises Refused, with the index of the image or
+    `conf-1`, which lists the images by their types. `external` and `align` are as for `normalise`.
+    Raises Refused, with the index of the image or
     0, with BadField, NoCodeName or DuplicateNode for what cannot be written, and with TooLarge if
     the FIT is longer than `limit`. The payloads are copied.
 
@@ -818,7 +978,8 @@ def build_fit(
         load, entry = _number(image.load or 0), _number(image.entry or 0)
         elements.append(_BuildElement(*regions, load, entry, addresses, *codes))
     array = (_BuildElement * len(elements))(*elements)
-    numbers = (_number(time), array, len(array), int(external), _number(limit), _number(depth))
+    form = _form(external, align)
+    numbers = (_number(time), array, len(array), form, _number(limit), _number(depth))
     room = len(memory) + 4096
     return _fill("build_fit", room, (bytes(memory), _name_of(description)), *numbers)[0]
 
@@ -830,22 +991,68 @@ def same_meaning(one: Buffer, other: Buffer, limit: int = LIMIT, depth: int = DE
 
 
 def compare(
-    one: Buffer, other: Buffer, limit: int = LIMIT, depth: int = DEPTH
+    one: Buffer,
+    other: Buffer,
+    limit: int = LIMIT,
+    depth: int = DEPTH,
+    *,
+    ignore: Iterable[bytes | str] = (),
 ) -> Comparison:
     """Returns whether two files mean the same thing, and the differences between what they mean.
     There are none if they mean the same thing. If they do not, raises Refused with TooLarge for the
-    first file whose description, or payloads together, are longer than `limit`."""
-    text, value = _text("compare", (one, other), _number(limit), _number(depth))
-    return Comparison(value == 1, text)
+    first file whose description, or payloads together, are longer than `limit`.
+
+    Without what `ignore` names, if it is given: words as the option `--ignore` of the program takes
+    them, such as "time", "signatures", the path of a node, or a path, a space and the name of a
+    property. Nothing is left out of files of different kinds. Then a file that is too long to
+    describe is always refused. Raises WrongArgument for a word that names nothing.
+
+    >>> import bootimg
+    >>> linux = {"os": "linux", "arch": "arm", "type": "kernel"}
+    >>> one, other = (bootimg.build_legacy([b"x"], time=time, **linux) for time in (1, 2))
+    >>> bootimg.compare(one, other).same, bootimg.compare(one, other, ignore=["time"]).same
+    (False, True)
+    """
+    return _compared("", one, other, limit, depth, ignore)
 
 
 def compare_json(
-    one: Buffer, other: Buffer, limit: int = LIMIT, depth: int = DEPTH
+    one: Buffer,
+    other: Buffer,
+    limit: int = LIMIT,
+    depth: int = DEPTH,
+    *,
+    ignore: Iterable[bytes | str] = (),
 ) -> Comparison:
     """Returns what `compare` says, with the differences as one JSON text in ASCII and a newline,
     even if there are none."""
-    text, value = _text("compare_json", (one, other), _number(limit), _number(depth))
-    return Comparison(value == 1, text)
+    return _compared("_json", one, other, limit, depth, ignore)
+
+
+def _compared(
+    ending: str,
+    one: Buffer,
+    other: Buffer,
+    limit: int,
+    depth: int,
+    ignore: Iterable[bytes | str],
+) -> Comparison:
+    words = tuple(ignore)
+    numbers = (_number(limit), _number(depth))
+    if not words:
+        text, value = _text("compare" + ending, (one, other), *numbers)
+        return Comparison(value == 1, text)
+    pieces, regions, offset = [*map(_name_of, words)], [], 0
+    for piece in pieces:
+        regions.append(_Region(offset, len(piece)))
+        offset += len(piece)
+    array = (_Region * len(regions))(*regions)
+    files = (one, other, b"".join(pieces))
+    try:
+        filled = _fill("compare_ignoring" + ending, 16384, files, array, len(array), *numbers)
+    except _BadWord as bad:
+        raise WrongArgument(f"wrong argument: {words[bad.index]!r}") from None
+    return Comparison(filled[1] == 1, filled[0].decode("ascii"))
 
 
 # These use what is above.
@@ -898,6 +1105,7 @@ def _parser() -> argparse.ArgumentParser:
         ("update", "write the normal form with a time or with digests"),
         ("extract", "write a part or a payload"),
         ("list", "write the listing"),
+        ("scan", "write a line for each boot image inside a file"),
         ("describe", "write what the image means"),
         ("show", "write the page of the image, for a person"),
         ("compare", "write what differs between two images"),
@@ -909,6 +1117,7 @@ def _parser() -> argparse.ArgumentParser:
         command.add_argument("--limit", type=_whole_number, default=LIMIT, metavar="N")
         if name in ("normalise", "update"):
             command.add_argument("--external", action="store_true")
+            command.add_argument("--align", type=_whole_number, metavar="N")
         if name == "update":
             command.add_argument("--time", type=_whole_number, metavar="SECONDS")
             command.add_argument("--hashes", action="store_true")
@@ -921,14 +1130,17 @@ def _parser() -> argparse.ArgumentParser:
             command.add_argument("--key", choices=KEYS, default=KEYS[0])
             command.add_argument("--index", type=_whole_number, default=0, metavar="N")
         if name == "show":
-            command.add_argument("--layout", action="store_true")
-        if name in ("list", "describe", "verify", "check", "compare"):
+            form = command.add_mutually_exclusive_group()
+            form.add_argument("--layout", action="store_true")
+            form.add_argument("--json", action="store_true")
+        if name in ("list", "scan", "describe", "verify", "check", "compare"):
             command.add_argument("--json", action="store_true")
         if name == "check":
             command.add_argument("--allow", type=_kinds, default=[], metavar="KINDS")
             command.add_argument("--signed", action="store_true")
         if name == "compare":
             command.add_argument("--quiet", action="store_true")
+            command.add_argument("--ignore", action="append", default=[], metavar="WORD")
             command.add_argument("files", nargs=2, metavar="IMAGE")
         else:
             command.add_argument("files", nargs="?", default="-", metavar="IMAGE")
@@ -964,25 +1176,44 @@ def _extracted(options: argparse.Namespace, file: bytes) -> memoryview:
     return extract_config(file, name, options.key, options.index, options.limit)
 
 
+def _note(found: Notes) -> None:
+    """Prints the notes of the program."""
+    lines = []
+    if found.signatures:
+        lines.append(f"{found.signatures} signature nodes carried, not checked")
+    if found.lost_alignment:
+        lines.append(
+            f"payloads are no longer aligned to {found.lost_alignment} bytes, see --align"
+        )
+    if found.lost_positions:
+        lines.append(f"{found.lost_positions} fixed positions of payloads were not kept")
+    for line in lines:
+        print(f"bootimg: note: {line}", file=sys.stderr)
+
+
 def _run(options: argparse.Namespace, files: list[bytes]) -> tuple[bytes, int]:
     """Returns the output of a command and the exit status."""
     limit = options.limit
     if options.command in ("normalise", "update"):
+        external, align = options.external, options.align
         if options.command == "normalise":
-            image, count = normalise_and_count(files[0], options.external, limit)
+            image = normalise(files[0], external, limit, align=align)
+            found = notes(files[0], external=external, limit=limit, align=align)
         else:
-            changes = (options.time, options.hashes, options.external)
-            image, count = update_and_count(files[0], *changes, limit)
-        if count:
-            print(f"bootimg: note: {count} signature nodes carried, not checked", file=sys.stderr)
+            changes = (options.time, options.hashes)
+            image = update(files[0], *changes, external, limit, align=align)
+            found = notes(files[0], *changes, external, limit, align=align)
+        _note(found)
         return image, 0
     if options.command == "extract":
         return bytes(_extracted(options, files[0])), 0
     if options.command == "compare":
-        if options.quiet:
+        if options.quiet and not options.ignore:
             return b"", int(not same_meaning(files[0], files[1], limit))
-        compared = (compare_json if options.json else compare)(files[0], files[1], limit)
-        return compared.differences.encode("ascii"), int(not compared.same)
+        call = compare_json if options.json else compare
+        compared = call(files[0], files[1], limit, ignore=map(os.fsencode, options.ignore))
+        text = "" if options.quiet else compared.differences
+        return text.encode("ascii"), int(not compared.same)
     if options.command == "convert":
         return convert(files[0], limit), 0
     text, status = _printed(options, files[0])
@@ -999,8 +1230,11 @@ def _printed(options: argparse.Namespace, file: bytes) -> tuple[str, int]:
         call, none = (check_json, '{"concerns":[]}\n') if options.json else (check, "")
         concerns = call(file, options.allow, limit, signed=options.signed)
         return concerns, int(concerns != none)
+    if options.command == "scan":
+        text = (scan_json if options.json else scan)(file, limit)
+        return text, int(text in ("", '{"images":[]}\n'))
     if options.command == "show":
-        return show(file, options.layout, limit), 0
+        return show_json(file, limit) if options.json else show(file, options.layout, limit), 0
     if options.command == "list":
         return (listing_json if options.json else listing)(file, limit), 0
     return (describe_json if options.json else describe)(file, limit), 0

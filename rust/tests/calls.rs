@@ -1,10 +1,11 @@
 //! Calls on the images in `examples/`.
 
 use bootimg::{
-    build_fit, build_legacy, check, check_json, compare, compare_json, concerns, convert, describe,
-    describe_json, get, kind, listing, listing_json, normalise, same_meaning, show, update, verify,
-    verify_json, version, BuildImage, Cause, Changes, Concern, Concerns, Error, Fit, Form, Header,
-    Key, Kind, Legacy, Limits, Place, Policy, Refusal, Value, ValueForm, Verdict,
+    build_fit, build_legacy, check, check_json, compare, compare_ignoring, compare_ignoring_json,
+    compare_json, concerns, convert, describe, describe_json, get, kind, listing, listing_json,
+    normalise, notes, same_meaning, scan, scan_json, show, show_json, update, verify, verify_json,
+    version, BuildImage, Cause, Changes, CodeField, Concern, Concerns, Error, Fit, Form, Header,
+    Key, Kind, Legacy, Limits, Notes, Place, Policy, Refusal, Value, ValueForm, Verdict,
 };
 
 const ALL: Limits = Limits {
@@ -138,6 +139,7 @@ fn new_fits() {
     for (form, place) in [
         (Form::Embedded, Place::Data),
         (Form::External, Place::DataOffset),
+        (Form::Aligned(64), Place::DataOffset),
     ] {
         let file = build_fit(&[kernel, tree], b"two", 7, form, ALL).unwrap();
         let fit = Fit::read(&file, ALL).unwrap();
@@ -270,6 +272,70 @@ fn texts() {
 }
 
 #[test]
+fn scans_and_pages_in_json() {
+    let (board, kernel) = (example("board.itb"), example("kernel.uimage"));
+    let dump = [&kernel[..], &board[..], b"x"].concat();
+    let found = scan(&dump, ALL).unwrap();
+    assert!(found.starts_with("0 legacy 3974 ") && found.ends_with("\n3974 fit 2628 3\n"));
+    assert!(scan_json(&dump, ALL)
+        .unwrap()
+        .ends_with(",{\"offset\":3974,\"kind\":\"fit\",\"size\":2628,\"images\":3}]}\n"));
+    assert_eq!(scan(b"", ALL).unwrap(), "");
+    let limits = Limits { limit: 64, ..ALL };
+    assert_eq!(scan(&board, limits), Err(refusal(Cause::TooLarge, 64, 1)));
+    assert!(show_json(&board, ALL)
+        .unwrap()
+        .starts_with("{\"kind\":\"fit\",\"description\":\"example board\","));
+}
+
+#[test]
+fn all_nodes() {
+    let file = example("board.itb");
+    let fit = Fit::read(&file, ALL).unwrap();
+    let nodes = fit.nodes().unwrap();
+    let names: Vec<_> = nodes.iter().map(|node| (node.depth, node.name)).collect();
+    assert_eq!(
+        names[..4],
+        [
+            (0, &b""[..]),
+            (1, b"images"),
+            (2, b"kernel-1"),
+            (3, b"hash-1")
+        ]
+    );
+    assert_eq!(
+        nodes[2].properties,
+        fit.properties("/images/kernel-1").unwrap()
+    );
+}
+
+#[test]
+fn ignored_differences() {
+    let board = example("board.itb");
+    let changes = Changes {
+        time: Some(7),
+        hashes: false,
+    };
+    let later = update(&board, changes, Form::Embedded, ALL).unwrap().image;
+    let time = compare_ignoring(&board, &later, &["time"], ALL).unwrap();
+    assert!(time.same && time.differences.is_empty());
+    let other = compare_ignoring(&board, &later, &["/images", "signatures"], ALL).unwrap();
+    assert_eq!(other, compare(&board, &later, ALL).unwrap());
+    let json = compare_ignoring_json(&board, &later, &["/ timestamp"], ALL).unwrap();
+    assert_eq!(json.differences, "{\"same\":true,\"differences\":[]}\n");
+    for wrong in ["", "nothing", "/images//"] {
+        assert_eq!(
+            compare_ignoring(&board, &later, &["time", wrong], ALL),
+            Err(Error::BadWord(1))
+        );
+    }
+    assert_eq!(
+        compare_ignoring(&board, b"", &["time"], ALL),
+        Err(refusal(Cause::Truncated, 0, 2))
+    );
+}
+
+#[test]
 fn concerns_about_files() {
     let (mut board, mut kernel) = (example("board.itb"), example("kernel.uimage"));
     let found = concerns(&board, Concerns::default(), ALL).unwrap();
@@ -368,6 +434,59 @@ fn names_are_bytes_or_text() {
     let normal = normalise(&file, Form::External, ALL).unwrap();
     assert_eq!(same_meaning(normal.as_ref(), &file, ALL), Ok(true));
     assert_eq!(Vec::from(normal.clone()), normal.image);
+}
+
+#[test]
+fn alignments() {
+    let board = example("board.itb");
+    let form = Form::Aligned(4096);
+    let aligned = normalise(&board, form, ALL).unwrap().image;
+    let fit = Fit::read(&aligned, ALL).unwrap();
+    for payload in fit.images.iter().filter_map(|image| image.payload) {
+        let offset = payload.as_ptr() as usize - aligned.as_ptr() as usize;
+        assert_eq!(offset % 4096, 0);
+    }
+    let nothing = Changes::default();
+    let lost = Notes {
+        lost_alignment: Some(4096),
+        ..Notes::default()
+    };
+    assert_eq!(notes(&aligned, nothing, Form::External, ALL), Ok(lost));
+    for kept in [Form::Embedded, form, Form::Aligned(4)] {
+        assert_eq!(notes(&aligned, nothing, kept, ALL), Ok(Notes::default()));
+    }
+    assert_eq!(
+        notes(b"", nothing, form, ALL),
+        Err(refusal(Cause::Truncated, 0, 1))
+    );
+    for bytes in [0, 1, 2, 3, 12, 1 << 21, u32::MAX] {
+        let wrong = Form::Aligned(bytes);
+        assert_eq!(normalise(&board, wrong, ALL), Err(Error::WrongArgument));
+        assert_eq!(
+            notes(&board, nothing, wrong, ALL),
+            Err(Error::WrongArgument)
+        );
+    }
+}
+
+#[test]
+fn names_of_codes() {
+    for field in CodeField::ALL {
+        let named: Vec<_> = (0..=255)
+            .filter_map(|code| Some((code, field.name(code)?)))
+            .collect();
+        assert!(named.len() > 6);
+        for (code, name) in named {
+            assert_eq!(field.code(&name), Some(code));
+        }
+    }
+    assert_eq!(CodeField::Os.name(5).as_deref(), Some("linux"));
+    assert_eq!(CodeField::Arch.code("powerpc"), Some(7));
+    assert_eq!(CodeField::ImageType.name(255), None);
+    assert_eq!(CodeField::Compression.code("linux"), None);
+    assert_eq!(CodeField::Os.code(""), None);
+    let fields = CodeField::ALL.map(|field| field.to_string());
+    assert_eq!(fields.join(" "), "os arch type compression");
 }
 
 #[test]

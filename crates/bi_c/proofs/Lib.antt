@@ -1,6 +1,7 @@
 pub mod AnswerFacts
 pub mod ArrayFilling
 pub mod CallAnswers
+pub mod CodeNames
 pub mod CheckedFiles
 pub mod ComparedFiles
 pub mod ConcernFiles
@@ -9,6 +10,9 @@ pub mod CallFacts
 pub mod ExtractedFiles
 pub mod FitElements
 pub mod FitFiles
+pub mod FormNumbers
+pub mod IgnoringCallFacts
+pub mod IgnoringFiles
 pub mod ImageElements
 pub mod ImageFiles
 pub mod LegacyCallFacts
@@ -18,13 +22,17 @@ pub mod ListedIndices
 pub mod NodeFiles
 pub mod NodePaths
 pub mod NormalisedFiles
+pub mod NoteFacts
 pub mod PieceBuilding
 pub mod Places
 pub mod ShownPages
 pub mod SliceWriting
 pub mod TreeBuilding
 pub mod TreeCallFacts
+pub mod TreeElementFacts
+pub mod TreeElements
 pub mod TreeRegions
+pub mod UpdatedCalls
 pub mod ValueCallAnswers
 pub mod ValueCallFacts
 pub mod VerdictElements

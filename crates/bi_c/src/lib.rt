@@ -2,11 +2,13 @@
 //! `include/bootimg.h` declares the exports and documents them.
 #![tactic(auto)]
 
+mod all_nodes;
 mod answer;
 mod arguments;
 mod building;
 mod causes;
 mod check;
+mod codes;
 mod compare;
 mod concerns;
 mod configurations;
@@ -14,19 +16,24 @@ mod extract;
 mod failure;
 mod fit;
 mod fit_building;
+mod ignoring;
 mod images;
 mod kind;
+mod known_all_nodes;
 mod known_calls;
 mod known_elements;
+mod known_ignoring;
 mod known_numbers;
 mod known_paths;
 mod legacy;
 mod nodes;
 mod normalise;
+mod notes;
 mod paths;
 mod properties;
 mod region;
 mod regions;
+mod scan;
 mod show;
 mod texts;
 mod update;
@@ -34,12 +41,14 @@ mod values;
 mod verdicts;
 mod writing;
 
+pub use all_nodes::TreeElement;
 pub use answer::Answer;
 pub use concerns::ConcernElement;
 pub use fit::{FitFields, ReservationElement};
 pub use fit_building::BuildElement;
 pub use images::ImageElement;
 pub use legacy::LegacyFields;
+pub use notes::NoteNumbers;
 pub use properties::PropertyElement;
 pub use region::Region;
 pub use verdicts::HashElement;
