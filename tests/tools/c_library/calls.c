@@ -19,6 +19,7 @@ struct call {
     uint32_t kinds;
     uint32_t limit;
     uint32_t number;
+    uint32_t field;
     uint32_t changes;
     uint32_t time;
     int is_quiet;
@@ -32,6 +33,10 @@ struct call {
     /* Where a single value is, and how it is written. */
     struct memory place, property;
     uint32_t value_form;
+    /* What comparing leaves out. */
+    struct memory words;
+    bootimg_region regions[8];
+    size_t regions_count;
 };
 
 enum { PART = 1, IMAGE, CONFIG, DEFAULT };
@@ -49,20 +54,29 @@ static uint32_t make(const struct call *call, uint8_t *buffer, size_t size, boot
         return (call->is_json ? bootimg_list_json : bootimg_list)(one, one_size, limit, depth, buffer, size, answer);
     if (strcmp(call->command, "describe") == 0)
         return (call->is_json ? bootimg_describe_json : bootimg_describe)(one, one_size, limit, depth, buffer, size, answer);
+    if (strcmp(call->command, "scan") == 0)
+        return (call->is_json ? bootimg_scan_json : bootimg_scan)(one, one_size, limit, depth, buffer, size, answer);
     if (strcmp(call->command, "show") == 0)
-        return bootimg_show(one, one_size, call->layout, limit, depth, buffer, size, answer);
+        return call->is_json ? bootimg_show_json(one, one_size, limit, depth, buffer, size, answer)
+                             : bootimg_show(one, one_size, call->layout, limit, depth, buffer, size, answer);
     if (strcmp(call->command, "verify") == 0)
         return (call->is_json ? bootimg_verify_json : bootimg_verify)(one, one_size, limit, depth, buffer, size, answer);
     if (strcmp(call->command, "check") == 0)
         return (call->is_json ? bootimg_check_json : bootimg_check)(one, one_size, call->kinds, limit, depth, buffer, size, answer);
     if (strcmp(call->command, "convert") == 0)
         return bootimg_convert(one, one_size, limit, depth, buffer, size, answer);
+    if (strcmp(call->command, "compare") == 0 && call->regions_count != 0)
+        return (call->is_json ? bootimg_compare_ignoring_json : bootimg_compare_ignoring)(
+            one, one_size, other, other_size, call->words.bytes, call->words.size, call->regions, call->regions_count, limit, depth, buffer,
+            size, answer);
     if (strcmp(call->command, "compare") == 0)
         return (call->is_json ? bootimg_compare_json : bootimg_compare)(one, one_size, other, other_size, limit, depth, buffer, size,
                                                                         answer);
     if (strcmp(call->command, "get") == 0)
         return bootimg_get(one, one_size, call->place.bytes, call->place.size, call->property.bytes, call->property.size,
                            call->value_form, limit, depth, buffer, size, answer);
+    if (strcmp(call->command, "code-name") == 0)
+        return bootimg_code_name(call->field, call->number, buffer, size, answer);
     if (strcmp(call->command, "cause") == 0)
         return bootimg_cause_name(call->number, buffer, size, answer);
     if (strcmp(call->command, "sentence") == 0)
@@ -99,10 +113,48 @@ static void tell(const struct call *call, const bootimg_result *answer)
         fprintf(stderr, "bootimg: %s: %.*s at %u\n", call->paths[answer->file - 1], (int)named.size, name, (unsigned)answer->offset);
 }
 
+/* Writes the notes of the program. A struct of the notes is overwritten, and nothing after it. */
+static void note(const struct call *call, const bootimg_result *made)
+{
+    struct {
+        bootimg_note_numbers notes;
+        uint64_t after;
+    } room;
+    bootimg_result answer;
+    uint32_t changes = strcmp(call->command, "update") == 0 ? call->changes : 0;
+    memset(&room, 0xc3, sizeof room);
+    CHECK(bootimg_notes(call->files[0].bytes, call->files[0].size, changes, call->time, call->form, call->limit, BOOTIMG_DEPTH,
+                        &room.notes, &answer) == BOOTIMG_OK);
+    CHECK(room.after == 0xc3c3c3c3c3c3c3c3u && room.notes.signatures == made->value);
+    CHECK(answer.size == 0 && answer.value == 0 && answer.cause == 0 && answer.offset == 0 && answer.file == 0 && answer.reason == 0);
+    if (call->is_quiet)
+        return;
+    if (room.notes.signatures != 0)
+        fprintf(stderr, "bootimg: note: %zu signature nodes carried, not checked\n", room.notes.signatures);
+    if (room.notes.lost_alignment != 0)
+        fprintf(stderr, "bootimg: note: payloads are no longer aligned to %u bytes, see --align\n", (unsigned)room.notes.lost_alignment);
+    if (room.notes.lost_positions != 0)
+        fprintf(stderr, "bootimg: note: %zu fixed positions of payloads were not kept\n", room.notes.lost_positions);
+}
+
+/* The notes on what cannot be made: the struct is as it was, and the status and the answer are the same. */
+static void note_nothing(const struct call *call, uint32_t status, const bootimg_result *failed)
+{
+    bootimg_note_numbers notes, before;
+    bootimg_result answer;
+    uint32_t changes = strcmp(call->command, "update") == 0 ? call->changes : 0;
+    memset(&notes, 0xc3, sizeof notes);
+    before = notes;
+    CHECK(bootimg_notes(call->files[0].bytes, call->files[0].size, changes, call->time, call->form, call->limit, BOOTIMG_DEPTH, &notes,
+                        &answer) == status);
+    CHECK(memcmp(&answer, failed, sizeof answer) == 0 && memcmp(&notes, &before, sizeof notes) == 0);
+}
+
 /* Why there is no value, or no extracted payload. */
 static const char *const reasons[] = {
     "", "the selection does not fit this kind of image", "no such part", "no such image", "no such configuration",
     "no such key", "bad list", "missing image", "no such entry", "no payload", "no such node", "no such property", "no text", "no number",
+    "no name", "no code",
 };
 
 /* Calls with buffers of several sizes, and writes the output. Returns the exit status of the program. */
@@ -110,22 +162,27 @@ static int run(const struct call *call, FILE *output)
 {
     struct memory buffer, exact;
     bootimg_result answer, again;
+    int has_notes = strcmp(call->command, "normalise") == 0 || strcmp(call->command, "update") == 0;
     uint32_t status = make_with(call, &buffer, 0, &answer);
     give_back(buffer);
     CHECK((answer.reason != 0) == (status == BOOTIMG_NOT_FOUND));
     CHECK(make(call, NULL, 0, &again) == status && memcmp(&answer, &again, sizeof answer) == 0);
     if (status != BOOTIMG_OK && status != BOOTIMG_NO_ROOM) {
-        CHECK(answer.size == 0 && answer.value == 0);
+        CHECK(answer.size == 0 && (answer.reason == BOOTIMG_BAD_WORD ? answer.value < call->regions_count : answer.value == 0));
         CHECK(make_with(call, &buffer, 100, &again) == status);
         CHECK(memcmp(&answer, &again, sizeof answer) == 0);
         CHECK(is_unchanged(buffer.bytes, 100));
         give_back(buffer);
+        if (has_notes)
+            note_nothing(call, status, &answer);
         if (status == BOOTIMG_REFUSED)
             tell(call, &answer);
         else
             CHECK(answer.cause == 0 && answer.offset == 0 && answer.file == 0);
-        if (status == BOOTIMG_NOT_FOUND && !call->is_quiet) {
-            CHECK(strcmp(call->command, "get") == 0 && answer.reason <= BOOTIMG_NO_NUMBER);
+        if (answer.reason == BOOTIMG_BAD_WORD) {
+            fputs("bootimg: usage: bad value\n", stderr);
+        } else if (status == BOOTIMG_NOT_FOUND && !call->is_quiet) {
+            CHECK(strcmp(call->command, "get") == 0 ? answer.reason <= BOOTIMG_NO_NUMBER : answer.reason == BOOTIMG_NO_NAME);
             fprintf(stderr, "bootimg: %s: %s\n", call->paths[0], reasons[answer.reason]);
         }
         return status == BOOTIMG_REFUSED || status == BOOTIMG_NOT_FOUND ? 2 : 10 + (int)status;
@@ -146,9 +203,11 @@ static int run(const struct call *call, FILE *output)
     }
     CHECK(fwrite(exact.bytes, 1, answer.size, output) == answer.size);
     give_back(exact);
-    if ((strcmp(call->command, "normalise") == 0 || strcmp(call->command, "update") == 0) && answer.value != 0 && !call->is_quiet)
-        fprintf(stderr, "bootimg: note: %zu signature nodes carried, not checked\n", answer.value);
-    if (strcmp(call->command, "compare") == 0) {
+    if (has_notes)
+        note(call, &answer);
+    if (strcmp(call->command, "scan") == 0)
+        return answer.size == (call->is_json ? strlen("{\"images\":[]}\n") : 0);
+    if (strcmp(call->command, "compare") == 0 && call->regions_count == 0) {
         CHECK(bootimg_same_meaning(call->files[0].bytes, call->files[0].size, call->files[1].bytes, call->files[1].size,
                                    call->limit, BOOTIMG_DEPTH, &again) == BOOTIMG_OK);
         CHECK(again.value == answer.value && again.size == 0);
@@ -219,7 +278,7 @@ static const struct {
     int is_json;
 } of_one[] = {
     {"normalise", 0}, {"update", 0}, {"convert", 0}, {"list", 0}, {"list", 1}, {"describe", 0}, {"describe", 1}, {"verify", 0},
-    {"verify", 1}, {"check", 0}, {"check", 1}, {"show", 0}, {"get", 0},
+    {"verify", 1}, {"check", 0}, {"check", 1}, {"show", 0}, {"show", 1}, {"get", 0}, {"scan", 0}, {"scan", 1},
 };
 
 enum { CALLS_OF_ONE = sizeof of_one / sizeof of_one[0] };
@@ -244,15 +303,23 @@ static int try_arguments(struct call *call)
         CHECK(bootimg_same_meaning(call->files[0].bytes, call->files[0].size, call->files[0].bytes, call->files[0].size,
                                    call->limit, depths[i], &answer) == BOOTIMG_WRONG_ARGUMENT);
     }
-    CHECK(bootimg_normalise(call->files[0].bytes, call->files[0].size, 2, call->limit, 64, &byte, 1, &answer) ==
-          BOOTIMG_WRONG_ARGUMENT);
+    for (int i = 0; i < 8; i++) {
+        static const uint32_t forms[] = {2, 3, 5, 12, 4095, 0x180000, 0x200000, 0x80000000u};
+        CHECK(bootimg_normalise(call->files[0].bytes, call->files[0].size, forms[i], call->limit, 64, &byte, 1, &answer) ==
+              BOOTIMG_WRONG_ARGUMENT);
+        CHECK(bootimg_update(call->files[0].bytes, call->files[0].size, 0, 0, forms[i], call->limit, 64, &byte, 1, &answer) ==
+              BOOTIMG_WRONG_ARGUMENT);
+    }
+    for (int shift = 2; shift <= 20; shift++) {
+        uint32_t status = bootimg_normalise(call->files[0].bytes, call->files[0].size, (uint32_t)1 << shift, call->limit, 64, NULL, 0,
+                                            &answer);
+        CHECK(status == BOOTIMG_NO_ROOM || status == BOOTIMG_REFUSED);
+    }
     CHECK(bootimg_check(call->files[0].bytes, call->files[0].size, 2 * BOOTIMG_SIGNED, call->limit, 64, &byte, 1, &answer) ==
           BOOTIMG_WRONG_ARGUMENT);
     CHECK(bootimg_check_json(call->files[0].bytes, call->files[0].size, 2 * BOOTIMG_SIGNED, call->limit, 64, &byte, 1, &answer) ==
           BOOTIMG_WRONG_ARGUMENT);
     CHECK(bootimg_update(call->files[0].bytes, call->files[0].size, 4, 0, 0, call->limit, 64, &byte, 1, &answer) ==
-          BOOTIMG_WRONG_ARGUMENT);
-    CHECK(bootimg_update(call->files[0].bytes, call->files[0].size, 0, 0, 2, call->limit, 64, &byte, 1, &answer) ==
           BOOTIMG_WRONG_ARGUMENT);
     CHECK(bootimg_show(call->files[0].bytes, call->files[0].size, 2, call->limit, 64, &byte, 1, &answer) ==
           BOOTIMG_WRONG_ARGUMENT);
@@ -260,6 +327,13 @@ static int try_arguments(struct call *call)
                       &byte, 1, &answer) == BOOTIMG_WRONG_ARGUMENT);
     CHECK(bootimg_get(call->files[0].bytes, call->files[0].size, (const uint8_t *)"size", 4, NULL, 0, BOOTIMG_VALUE_RAW, call->limit, 64,
                       &byte, 1, &answer) == BOOTIMG_WRONG_ARGUMENT);
+    for (int i = 0; i < 2; i++) {
+        const bootimg_region outside[] = {{0, 4}, {1 + (size_t)i, 4}};
+        CHECK(bootimg_compare_ignoring(call->files[0].bytes, call->files[0].size, call->files[0].bytes, call->files[0].size,
+                                       (const uint8_t *)"time", 4, outside, 2, i == 0 ? call->limit : 63, 64, &byte, 1, &answer) ==
+              BOOTIMG_WRONG_ARGUMENT);
+        CHECK(answer.value == 0 && answer.reason == 0);
+    }
     for (int selection = PART; selection <= DEFAULT; selection++) {
         struct call wrong = *call;
         wrong.selection = selection;
@@ -272,6 +346,9 @@ static int try_arguments(struct call *call)
         wrong.key = BOOTIMG_SCRIPT + 1;
         CHECK((make_extract(&wrong, &answer) == BOOTIMG_WRONG_ARGUMENT) == (selection >= CONFIG));
     }
+    CHECK(bootimg_code_name(4, 5, &byte, 1, &answer) == BOOTIMG_WRONG_ARGUMENT && answer.reason == 0);
+    CHECK(bootimg_code_name(BOOTIMG_CODE_OS, 256, &byte, 1, &answer) == BOOTIMG_WRONG_ARGUMENT && answer.reason == 0);
+    CHECK(bootimg_code_number(4, (const uint8_t *)"linux", 5, &answer) == BOOTIMG_WRONG_ARGUMENT && answer.reason == 0);
     CHECK(bootimg_cause_name(0, &byte, 1, &answer) == BOOTIMG_WRONG_ARGUMENT);
     CHECK(bootimg_cause_name(27, &byte, 1, &answer) == BOOTIMG_WRONG_ARGUMENT);
     CHECK(bootimg_explain(0, &byte, 1, &answer) == BOOTIMG_WRONG_ARGUMENT);
@@ -292,8 +369,8 @@ static void try_null(const struct call *call)
         one.is_json = other.is_json = of_one[i].is_json;
         one.files[0] = none;
         other.files[0] = null;
-        CHECK(make(&one, NULL, 0, &answer) == BOOTIMG_REFUSED && make(&other, NULL, 0, &again) == BOOTIMG_REFUSED);
-        CHECK(memcmp(&answer, &again, sizeof answer) == 0 && answer.cause == BOOTIMG_CAUSE_TRUNCATED && answer.file == 1);
+        CHECK(make(&one, NULL, 0, &answer) == make(&other, NULL, 0, &again) && memcmp(&answer, &again, sizeof answer) == 0);
+        CHECK(strcmp(one.command, "scan") == 0 ? answer.cause == 0 : answer.cause == BOOTIMG_CAUSE_TRUNCATED && answer.file == 1);
     }
     for (int i = 0; i < 2; i++) {
         struct call one = *call, other = *call;
@@ -314,6 +391,8 @@ static void try_null(const struct call *call)
     }
     CHECK(bootimg_kind(NULL, 0, &answer) == BOOTIMG_REFUSED && answer.cause == BOOTIMG_CAUSE_TRUNCATED);
     CHECK(bootimg_version(NULL, 0, &answer) == BOOTIMG_NO_ROOM && answer.size != 0);
+    CHECK(bootimg_code_number(BOOTIMG_CODE_OS, NULL, 0, &answer) == BOOTIMG_NOT_FOUND && answer.reason == BOOTIMG_NO_CODE);
+    CHECK(bootimg_code_name(BOOTIMG_CODE_OS, 5, NULL, 0, &answer) == BOOTIMG_NO_ROOM && answer.size == 5);
     CHECK(bootimg_cause_name(BOOTIMG_CAUSE_UNSUPPORTED, NULL, 0, &answer) == BOOTIMG_NO_ROOM && answer.size == 11);
     give_back(none);
 }
@@ -377,12 +456,49 @@ static int try_threads(const struct call *call)
     return 0;
 }
 
+/* Prints each code with a name: the number of the field, the name and the code, which is found by the name and by no other bytes. */
+static int print_codes(void)
+{
+    for (uint32_t field = BOOTIMG_CODE_OS; field <= BOOTIMG_CODE_COMPRESSION; field++)
+        for (uint32_t code = 0; code <= 255; code++) {
+            uint8_t name[33];
+            bootimg_result named, found;
+            uint32_t status = bootimg_code_name(field, code, name, 32, &named);
+            if (status == BOOTIMG_NOT_FOUND) {
+                CHECK(named.reason == BOOTIMG_NO_NAME && named.size == 0 && named.value == 0);
+                continue;
+            }
+            CHECK(status == BOOTIMG_OK && named.value == 0 && named.size != 0);
+            CHECK(bootimg_code_number(field, name, named.size, &found) == BOOTIMG_OK && found.value == code && found.size == 0);
+            printf("%u %.*s %u\n", (unsigned)field, (int)named.size, name, (unsigned)code);
+            name[named.size] = 0xff;
+            CHECK(bootimg_code_number(field, name, named.size + 1, &found) == BOOTIMG_NOT_FOUND && found.reason == BOOTIMG_NO_CODE);
+            name[0] ^= 1;
+            CHECK(bootimg_code_number(field, name, named.size, &found) == BOOTIMG_NOT_FOUND && found.value == 0);
+        }
+    return 0;
+}
+
 /* The bytes of a word. */
 static struct memory bytes_of(const char *word)
 {
     struct memory bytes = take(strlen(word));
     memcpy(bytes.bytes, word, bytes.size);
     return bytes;
+}
+
+/* Adds a word for what comparing leaves out. */
+static void add_word(struct call *call, const char *word)
+{
+    struct memory more = take(call->words.size + strlen(word));
+    CHECK(call->regions_count < sizeof call->regions / sizeof call->regions[0]);
+    if (call->words.size != 0)
+        memcpy(more.bytes, call->words.bytes, call->words.size);
+    memcpy(more.bytes + call->words.size, word, strlen(word));
+    call->regions[call->regions_count++] = (bootimg_region){call->words.size, strlen(word)};
+    if (call->words.map != NULL)
+        give_back(call->words);
+    call->words = more;
 }
 
 /* The number of a form of values. */
@@ -416,7 +532,9 @@ int main(int count, char **words)
     call.command = words[1];
     for (int i = 2; i < count; i++) {
         if (strcmp(words[i], "--external") == 0) {
-            call.form = BOOTIMG_EXTERNAL;
+            call.form = call.form == BOOTIMG_EMBEDDED ? BOOTIMG_EXTERNAL : call.form;
+        } else if (strcmp(words[i], "--align") == 0) {
+            call.form = (uint32_t)strtoul(words[++i], NULL, 0);
         } else if (strcmp(words[i], "--json") == 0) {
             call.is_json = 1;
         } else if (strcmp(words[i], "--layout") == 0) {
@@ -429,6 +547,8 @@ int main(int count, char **words)
             call.kinds |= BOOTIMG_SIGNED;
         } else if (strcmp(words[i], "--number") == 0) {
             call.number = (uint32_t)strtoul(words[++i], NULL, 10);
+        } else if (strcmp(words[i], "--field") == 0) {
+            call.field = (uint32_t)strtoul(words[++i], NULL, 10);
         } else if (strcmp(words[i], "--time") == 0) {
             call.changes |= BOOTIMG_CHANGE_TIME;
             call.time = (uint32_t)strtoul(words[++i], NULL, 0);
@@ -451,6 +571,8 @@ int main(int count, char **words)
             call.place = bytes_of(words[++i]);
         } else if (strcmp(words[i], "--property") == 0) {
             call.property = bytes_of(words[++i]);
+        } else if (strcmp(words[i], "--ignore") == 0) {
+            add_word(&call, words[++i]);
         } else if (strcmp(words[i], "--index") == 0) {
             call.index = (uint32_t)strtoul(words[++i], NULL, 0);
         } else {
@@ -470,6 +592,8 @@ int main(int count, char **words)
     } else if (strcmp(call.command, "arguments") == 0) {
         try_null(&call);
         status = try_arguments(&call);
+    } else if (strcmp(call.command, "codes") == 0) {
+        status = print_codes();
     } else if (strcmp(call.command, "threads") == 0) {
         status = try_threads(&call);
     } else if (strcmp(call.command, "sizes") == 0) {
@@ -486,6 +610,8 @@ int main(int count, char **words)
         give_back(call.name);
     if (call.property.map != NULL)
         give_back(call.property);
+    if (call.words.map != NULL)
+        give_back(call.words);
     give_back(call.place);
     while (files > 0)
         give_back(call.files[--files]);

@@ -67,9 +67,12 @@ static void repair(uint8_t *file, size_t size)
 
 /* The calls with a buffer, after those with an array. */
 enum {
-    NORMALISE = ARRAYS, UPDATE, CONVERT, LIST, LIST_JSON, DESCRIBE, DESCRIBE_JSON, SHOW, VERIFY, VERIFY_JSON, CHECK_LINES, CHECK_JSON,
-    COMPARE, COMPARE_JSON, GET, CAUSE_NAME, EXPLAIN, VERSION, CALLS
+    NORMALISE = ARRAYS, UPDATE, CONVERT, LIST, LIST_JSON, SCAN, SCAN_JSON, DESCRIBE, DESCRIBE_JSON, SHOW, SHOW_JSON, VERIFY, VERIFY_JSON,
+    CHECK_LINES, CHECK_JSON, COMPARE, COMPARE_JSON, IGNORING, IGNORING_JSON, GET, CODE_NAME, CAUSE_NAME, EXPLAIN, VERSION, CALLS
 };
+
+/* Numbers of forms, and two that are those of none. */
+static const uint32_t forms[] = {BOOTIMG_EMBEDDED, BOOTIMG_EXTERNAL, 2, 4, 8, 64, 4096, 4097};
 
 static size_t element_size(int call)
 {
@@ -78,23 +81,30 @@ static size_t element_size(int call)
 
 static uint32_t make_text(const struct choice *c, int call, uint8_t *to, size_t room, bootimg_result *answer)
 {
+    const bootimg_region words[] = {{0, c->name_size}, {c->time >> 24, c->time >> 16 & 15}};
     switch (call) {
     case NORMALISE:
-        return bootimg_normalise(c->file, c->size, c->number % 3, c->limit, c->depth, to, room, answer);
+        return bootimg_normalise(c->file, c->size, forms[c->number % 8], c->limit, c->depth, to, room, answer);
     case UPDATE:
-        return bootimg_update(c->file, c->size, c->number % 5, c->time, c->number & 1, c->limit, c->depth, to, room, answer);
+        return bootimg_update(c->file, c->size, c->number % 5, c->time, forms[c->number / 8 % 8], c->limit, c->depth, to, room, answer);
     case CONVERT:
         return bootimg_convert(c->file, c->size, c->limit, c->depth, to, room, answer);
     case LIST:
         return bootimg_list(c->file, c->size, c->limit, c->depth, to, room, answer);
     case LIST_JSON:
         return bootimg_list_json(c->file, c->size, c->limit, c->depth, to, room, answer);
+    case SCAN:
+        return bootimg_scan(c->file, c->size, c->limit, c->depth, to, room, answer);
+    case SCAN_JSON:
+        return bootimg_scan_json(c->file, c->size, c->limit, c->depth, to, room, answer);
     case DESCRIBE:
         return bootimg_describe(c->file, c->size, c->limit, c->depth, to, room, answer);
     case DESCRIBE_JSON:
         return bootimg_describe_json(c->file, c->size, c->limit, c->depth, to, room, answer);
     case SHOW:
         return bootimg_show(c->file, c->size, c->number % 3, c->limit, c->depth, to, room, answer);
+    case SHOW_JSON:
+        return bootimg_show_json(c->file, c->size, c->limit, c->depth, to, room, answer);
     case VERIFY:
         return bootimg_verify(c->file, c->size, c->limit, c->depth, to, room, answer);
     case VERIFY_JSON:
@@ -107,9 +117,17 @@ static uint32_t make_text(const struct choice *c, int call, uint8_t *to, size_t 
         return bootimg_compare(c->file, c->size, c->name, c->name_size, c->limit, c->depth, to, room, answer);
     case COMPARE_JSON:
         return bootimg_compare_json(c->file, c->size, c->file, c->size, c->limit, c->depth, to, room, answer);
+    case IGNORING:
+        return bootimg_compare_ignoring(c->file, c->size, c->file, c->size, c->name, c->name_size, words, c->number % 3, c->limit, c->depth,
+                                        to, room, answer);
+    case IGNORING_JSON:
+        return bootimg_compare_ignoring_json(c->file, c->size, c->name, c->name_size, (const uint8_t *)"time,signatures", 15,
+                                             &(bootimg_region){0, c->number & 1 ? 15 : 4}, 1, c->limit, c->depth, to, room, answer);
     case GET:
         return bootimg_get(c->file, c->size, (const uint8_t *)"/", 1, c->name, c->name_size, c->number % 5, c->limit, c->depth, to, room,
                            answer);
+    case CODE_NAME:
+        return bootimg_code_name(c->number % 5, c->time % 300, to, room, answer);
     case CAUSE_NAME:
         return bootimg_cause_name(c->number % 29, to, room, answer);
     case EXPLAIN:
@@ -133,7 +151,7 @@ static void check_answer(uint32_t status, const bootimg_result *answer)
     CHECK((answer->cause != 0) == (status == BOOTIMG_REFUSED) && answer->cause <= BOOTIMG_CAUSE_UNSUPPORTED);
     CHECK((answer->file != 0) == (status == BOOTIMG_REFUSED) && answer->file <= 2);
     CHECK(answer->offset == 0 || status == BOOTIMG_REFUSED);
-    CHECK((answer->reason != 0) == (status == BOOTIMG_NOT_FOUND) && answer->reason <= BOOTIMG_NO_PROPERTY);
+    CHECK((answer->reason != 0) == (status == BOOTIMG_NOT_FOUND) && answer->reason <= BOOTIMG_BAD_WORD);
     CHECK(answer->size == 0 || status == BOOTIMG_OK || status == BOOTIMG_NO_ROOM);
 }
 
@@ -167,6 +185,12 @@ static void check_elements(const struct choice *c, int call, const void *element
             CHECK(concern->kind != 0 && concern->kind <= BOOTIMG_CONCERN_UNIT_ADDRESS && (concern->kind & (concern->kind - 1)) == 0);
             CHECK((concern->kind & c->number) == 0);
             CHECK(concern->verdict <= BOOTIMG_VERDICT_MALFORMED && concern->key <= BOOTIMG_SCRIPT);
+        } else if (call == NODES) {
+            const bootimg_tree_element *element = (const bootimg_tree_element *)elements + i;
+            check_region(c, element->name);
+            check_region(c, element->value);
+            CHECK(element->kind == BOOTIMG_ELEMENT_NODE || element->kind == BOOTIMG_ELEMENT_PROPERTY);
+            CHECK(i == 0 ? element->depth == 0 : element->depth != 0 && element->depth <= element[-1].depth + 1);
         } else if (call == PROPERTIES) {
             const bootimg_property *property = (const bootimg_property *)elements + i;
             check_region(c, property->name);
@@ -234,8 +258,8 @@ static void try_build(const struct choice *c)
     images[0].image_type = images[1].image_type = (uint8_t)(c->number % 9);
     images[0].os = images[0].arch = images[1].os = images[1].arch = (uint8_t)(c->time % 23);
     images[0].addresses = c->time % 5;
-    check_answer(bootimg_build_fit(c->file, c->size, c->name, c->name_size, c->time, images, c->number % 3, c->number % 3, c->limit, c->depth,
-                                   NULL, 0, &answer), &answer);
+    check_answer(bootimg_build_fit(c->file, c->size, c->name, c->name_size, c->time, images, c->number % 3, forms[c->number % 8], c->limit,
+                                   c->depth, NULL, 0, &answer), &answer);
     check_answer(bootimg_build_legacy(c->file, c->size, &fields, any, c->number % 3, c->limit, c->depth, NULL, 0, &answer), &answer);
     if (bootimg_legacy(c->file, c->size, c->limit, c->depth, &fields, &answer) != BOOTIMG_OK || try_call(c, PARTS, &answer) != BOOTIMG_OK)
         return;
@@ -257,6 +281,19 @@ static void check_extracted(const struct choice *c, uint32_t status, const booti
         check_region(c, region);
 }
 
+/* The notes are on what an update writes. The number of signature nodes is the one that it returns. */
+static void try_notes(const struct choice *c)
+{
+    bootimg_note_numbers notes = {0, 0, 0};
+    bootimg_result updated, answer;
+    const uint32_t form = forms[c->number / 8 % 8], status = try_call(c, UPDATE, &updated);
+    const uint32_t noted = bootimg_notes(c->file, c->size, c->number % 5, c->time, form, c->limit, c->depth, &notes, &answer);
+    check_answer(noted, &answer);
+    CHECK(noted == (status == BOOTIMG_NO_ROOM ? BOOTIMG_OK : status));
+    CHECK(notes.signatures == updated.value && (notes.lost_alignment & (notes.lost_alignment - 1)) == 0);
+    CHECK(form == BOOTIMG_EXTERNAL || (notes.lost_alignment == 0 && notes.lost_positions == 0));
+}
+
 /* Makes the calls without a buffer. */
 static void try_others(const struct choice *c)
 {
@@ -265,6 +302,7 @@ static void try_others(const struct choice *c)
     bootimg_fit_fields fit;
     const uint32_t key = c->number % 7;
     check_answer(bootimg_kind(c->file, c->size, &answer), &answer);
+    check_answer(bootimg_code_number(c->number % 5, c->name, c->name_size, &answer), &answer);
     check_answer(bootimg_same_meaning(c->file, c->size, c->name, c->name_size, c->limit, c->depth, &answer), &answer);
     check_extracted(c, bootimg_extract_part(c->file, c->size, c->number % 4, c->limit, c->depth, &answer), &answer);
     check_extracted(c, bootimg_extract_image(c->file, c->size, c->name, c->name_size, c->limit, c->depth, &answer), &answer);
@@ -340,6 +378,7 @@ int LLVMFuzzerTestOneInput(const uint8_t *data, size_t size)
     }
     try_verdicts(&c);
     try_concerns(&c);
+    try_notes(&c);
     try_build(&c);
     try_others(&c);
     return 0;

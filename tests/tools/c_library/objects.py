@@ -234,6 +234,26 @@ def try_values(path, image, node, shown_path):
         try_values(path, image, child, f"{shown_path}/{shown(child.name)}")
 
 
+def nodes_below(node):
+    """A node and all nodes below it."""
+    yield node
+    for child in node.children:
+        yield from nodes_below(child)
+
+
+def try_nodes(path, image):
+    """The nodes of a FIT are those below its root, and none has another path."""
+    found = [(node.name, node.path, node.properties, [child.path for child in node.children]) for node in image.nodes()]
+    check(f"{path}: all nodes", found == [
+        (node.name, node.path, node.properties, [child.path for child in node.children]) for node in nodes_below(image.root)
+    ])
+    for wrong in "", "images", "/images/", "//images", "/images/none":
+        check(f"{path}: no node has the path {wrong!r}", raises(bootimg.NotFound, image.properties, wrong) == "no such node")
+        check(f"{path}: nor {wrong!r} as bytes", raises(bootimg.NotFound, image.property_value, wrong.encode(), "x") == "no such node")
+    check(f"{path}: no such property", raises(bootimg.NotFound, image.property_value, "/", "no-such") == "no such property")
+    check(f"{path}: the children of the root", image.children(b"/") == tuple(child.name for child in image.root.children))
+
+
 def try_building(path, image):
     """The header and the parts of a legacy image build its normal form, also with other fields."""
     built = bootimg.build_legacy(image.parts, header=image.header)
@@ -269,6 +289,7 @@ for path in sorted(accepted):
     accepted_image = bootimg.open(path)
     if accepted_image.kind == "fit":
         try_values(path, accepted_image, accepted_image.root, "")
+        try_nodes(path, accepted_image)
     else:
         try_building(path, accepted_image)
 check("there are files of both kinds", {bootimg.open(path).kind for path in accepted} == {"legacy", "fit"})
@@ -283,6 +304,13 @@ check("an image", "2628 bytes" in repr(bootimg.open(board)))
 image = bootimg.open(board)
 check("the image itself is compared", image.compare(bootimg.open(board)) == bootimg.compare(image.file, image.file))
 check("so are bytes", image.compare(board.read_bytes()).same)
+later = bootimg.update(image.file, time=7)
+check("what is ignored is left out", image.compare(later, ignore=["time"]).same and not image.compare(later).same)
+check("words are text or bytes", bootimg.compare_json(image.file, later, ignore=[b"/ timestamp", "/images"]).same)
+check("a word that names nothing", raises(bootimg.WrongArgument, image.compare, later, ignore=["time", "no"]) == "wrong argument: 'no'")
+check("a page in JSON", json.loads(image.show_json())["images"][0]["name"] == "kernel-1")
+check("a scan in JSON", json.loads(bootimg.scan_json(b"x" + bytes(image.file)))["images"][0]["offset"] == 1)
+check("nothing is found", (bootimg.scan(b""), bootimg.scan_json(b"")) == ("", '{"images":[]}\n'))
 check("the default configuration", image.configuration().name == image.default == "conf-1")
 check("a name of bytes", image.configuration(b"conf-2").images("fdt") == (image.image(b"fdt-1"),))
 for name, call in {
@@ -296,7 +324,7 @@ for name, call in {
     except bootimg.NotFound as reason:
         check(f"there is no such {name}", reason.reason == f"no such {name}")
 small = bootimg.open(root / "examples/kernel.uimage", limit=3974)
-for name, call in {"root": lambda: small.root, "configuration": small.configuration}.items():
+for name, call in {"root": lambda: small.root, "node": small.nodes, "configuration": small.configuration}.items():
     try:
         call()
         check(f"a legacy image has no {name}", False)
@@ -308,12 +336,31 @@ try:
 except bootimg.Refused as refused:
     check("the limit is on the file", str(refused) == "TooLarge at 3973")
 check("its normal form", small.normalise() == bootimg.normalise(small.file) and small.update(time=5) == bootimg.update(small.file, 5))
+check("its notes are about nothing", small.notes(time=5, hashes=True, external=True) == (0, None, 0))
+
+# Alignments, and what is noted about a form that loses one.
+plain = {"os": "linux", "arch": "arm64", "type": "kernel"}
+pair = [bootimg.BuildImage(name, b"payload", **plain) for name in ("a", "b")]
+aligned = bootimg.build_fit(pair, external=True, align=4096)
+with bootimg.open(aligned) as one:
+    check("each payload is at a multiple", all(image.offset % 4096 == 0 for image in one.images))
+    check("the alignment is lost", one.notes(external=True) == (0, 4096, 0))
+    check("it is kept in other forms", one.notes() == one.notes(external=True, align=8) == (0, None, 0))
+    check("the form of the same alignment", one.normalise(external=True, align=4096) == aligned)
+    check("four is the alignment of the external form", one.normalise(True, align=4) == one.normalise(True))
+    check("an update has it too", one.update(0, False, True, align=4096) == aligned)
+for external, align in (True, 0), (True, 1), (True, 2), (True, 12), (True, 1 << 21), (True, -4), (True, 1 << 32), (False, 4):
+    for call in bootimg.normalise, bootimg.notes:
+        found = raises(bootimg.WrongArgument, call, aligned, external=external, align=align)
+        check(f"{call.__name__}: {align} is no alignment, {external}", found is not None)
 check("its FIT", bootimg.open(bootimg.convert(small.file)).image("kernel-1").payload == small.parts[0].payload)
 
 # The codes are those that the arguments of the program name.
 for field, names in bootimg.CODES.items():
     check(f"the names of {field}", names == reference.given_names(field))
-    check(f"they are found by their codes: {field}", all(names[bootimg.code_name(field, code)] == code for code in names.values()))
+    firsts = [next((name for name, code in names.items() if code == number), None) for number in range(256)]
+    check(f"each code has its first name, if it has one: {field}", [bootimg.code_name(field, number) for number in range(256)] == firsts)
+    check(f"the library finds each code by its names: {field}", all(bootimg.code_number(field, name) == names[name] for name in names))
 
 # What is no header and no code.
 linux = {"os": "linux", "arch": "arm64", "type": "kernel"}
@@ -325,6 +372,7 @@ for field, code in {"os": "linus", "arch": 256, "type": -1, "compression": ""}.i
     made = bootimg.BuildImage("x", b"", **linux)._replace(**{field: code})
     check(f"nor is it of an image of a FIT: {code!r}", raises(bootimg.WrongArgument, bootimg.build_fit, [made]) == found)
 check("there is no such field", raises(bootimg.WrongArgument, bootimg.code_number, "load", 0) == "wrong argument: load")
+check("there is no such code", raises(bootimg.WrongArgument, bootimg.code_name, "os", 256) is not None)
 check("a name of a code", [bootimg.code_name("arch", code) for code in (7, 22, 200)] == ["ppc", "arm64", None])
 named, numbered = bootimg.BuildImage("x", b"x", **linux), bootimg.BuildImage("x", b"x", 5, 22, 2, 0)
 check("names and numbers of codes", bootimg.build_fit([named]) == bootimg.build_fit([numbered]))
