@@ -67,7 +67,7 @@ complete $first -s V -l version -d 'Print the version'
 
 # Commands, and then options and arguments, each for the commands that have it.
 # lists.py: begin fish
-set -g __bootimg_valued --align --offset --limit -o --output --allow --time --as --part --image --config --key --index
+set -g __bootimg_valued --align --offset --limit -o --output --ignore --allow --time --as --part --image --config --key --index
 complete $first -a normalise -d 'Write the normal form of an image'
 complete $first -a show -d 'Print an overview of an image'
 complete $first -a list -d 'List what an image holds'
@@ -89,9 +89,11 @@ complete -c bootimg -n '__bootimg_is normalise normalize update build-fit' -l al
 complete -c bootimg -n '__bootimg_is normalise normalize show list describe verify check scan update get extract convert' -l offset -x -d 'Where the image begins in the input'
 complete -c bootimg -n '__bootimg_is normalise normalize show list describe compare diff verify check scan update get extract convert build-legacy build-fit' -l limit -x -d 'Refuse an image of more than N bytes'
 complete -c bootimg -n '__bootimg_is normalise normalize show list describe compare diff verify check scan update get extract convert build-legacy build-fit explain' -s o -l output -r -F -d 'Write the output to FILE'
-complete -c bootimg -n '__bootimg_is normalise normalize show list describe verify check scan update extract convert' -F
+complete -c bootimg -n '__bootimg_is normalise normalize show describe update extract convert' -F
 complete -c bootimg -n '__bootimg_is show' -l layout -d 'Also show the regions of the file by their offsets'
 complete -c bootimg -n '__bootimg_is show list describe compare diff verify check scan' -l json -d 'Write JSON instead of lines'
+complete -c bootimg -n '__bootimg_is list verify check scan' -F
+complete -c bootimg -n '__bootimg_is compare diff' -l ignore -x -d 'What is left out of both images' -a '(__fish_complete_list , "printf %s\n time signatures")'
 complete -c bootimg -n '__bootimg_is compare diff' -l quiet -d 'Write nothing'
 complete -c bootimg -n '__bootimg_is compare diff' -F
 complete -c bootimg -n '__bootimg_is compare diff' -F
@@ -121,6 +123,9 @@ complete -c bootimg -n '__bootimg_is build-legacy' -l entry -x -d 'The entry poi
 complete -c bootimg -n '__bootimg_is build-legacy' -a '(__bootimg_part)'
 complete -c bootimg -n '__bootimg_is build-fit' -l config -x -d 'A configuration with its lists of images'
 complete -c bootimg -n '__bootimg_is build-fit' -l default -x -d 'The default configuration' -a '(__bootimg_names default)'
+complete -c bootimg -n '__bootimg_is build-fit' -l compatible -x -d 'A board that configuration NAME of --config is for'
+complete -c bootimg -n '__bootimg_is build-fit' -l describe-config -x -d 'The description of configuration NAME of --config'
+complete -c bootimg -n '__bootimg_is build-fit' -l describe-image -x -d 'The description of image NAME'
 complete -c bootimg -n '__bootimg_is build-fit' -l hash -x -d 'The hash nodes of each image' -a '(__fish_complete_list , "printf %s\n crc32 md5 sha1 sha256 sha384 sha512 none")'
 complete -c bootimg -n '__bootimg_is build-fit' -l external -d 'Write the payloads after the tree'
 complete -c bootimg -n '__bootimg_is build-fit' -l description -x -d 'The description of the tree'

@@ -7,7 +7,7 @@ from pathlib import Path
 # the quick build. A build writes those of its crates to out/build.times. Of the time that is left only the ratios count.
 CRATES = {
     "bi_base": 187, "bi_blob": 54, "bi_hash": 105, "bi_lay": 167, "bi_legacy": 148, "bi_fdt": 493, "bi_fit": 969, "bi_norm": 266,
-    "bi_coverage": 300, "bi_common": 295, "bi_report": 718, "bi_describe": 459, "bi_values": 240, "bi_show": 564, "bi_commands": 277,
+    "bi_coverage": 300, "bi_common": 295, "bi_report": 718, "bi_describe": 459, "bi_values": 240, "bi_labels": 60, "bi_show": 564, "bi_commands": 277,
     "bi_files": 294, "bootimg": 1223, "bi_c": 462,
 }  # fmt: skip
 STEPS = {"translating": 65, "compiling": 95, "linking": 2}

@@ -29,6 +29,7 @@ VALUES = {
     "compression": ["bi_legacy/src/codes.rt: compression_name"],
     "key": ["bi_fit/src/key.rt: name"],
     "allow": ["bi_report/src/check.rt: word"],
+    "ignore": ["bi_describe/src/ignored.rt: plain_word"],
     "as": ["bootimg/src/command_line/get.rt: parse_form"],
     "hash": ["bi_hash/src/algo.rt: name", "bootimg/src/command_line/hashes.rt: parse_hashes"],
     "cause": ["bi_base/src/fault.rt: name", "bi_report/src/check.rt: word"],

@@ -26,7 +26,7 @@ COMMANDS = (
 # Commands that compare a changed file with the file that it was.
 COMPARING = (
     "compare - NAME", "compare NAME -", "compare --quiet - NAME", "compare - NAME --limit 500", "compare --json - NAME",
-    "compare --json NAME - --limit 500",
+    "compare --json NAME - --limit 500", "compare --ignore time,signatures - NAME", "compare --ignore /images/a --ignore part-0 NAME - --json",
 )
 # The longest file that is changed.
 LONGEST = 2500

@@ -519,7 +519,7 @@ def built_fit(description, time, images, options):
         node = Node(name)
         node.properties = {field.encode(): texts[field].encode() + b"\0" for field in FIELDS}
         node.properties |= {key: cell(value) for key, value in ((b"load", load), (b"entry", entry)) if value is not None}
-        node.properties[b"description"] = text
+        node.properties[b"description"] = options.get("describe-image", {}).get(name, description) + b"\0"
         for number, algorithm in enumerate(options.get("hash", [b"sha256"]), 1):
             hash_node = Node(b"hash-%d" % number)
             hash_node.properties = {b"algo": algorithm + b"\0", b"value": DIGESTS[algorithm](payload)}
@@ -530,7 +530,9 @@ def built_fit(description, time, images, options):
     for name, lists in plan:
         configuration = Node(name)
         configuration.properties = {key: b"".join(image + b"\0" for image in names) for key, names in lists.items()}
-        configuration.properties[b"description"] = text
+        configuration.properties[b"description"] = options.get("describe-config", {}).get(name, description) + b"\0"
+        if compatibles := [compatible for other, compatible in options.get("compatible", []) if other == name]:
+            configuration.properties[b"compatible"] = b"".join(compatible + b"\0" for compatible in compatibles)
         configurations.children.append(configuration)
     return fit_text(0, [], root, [payload for *_, payload in images], options)
 
@@ -851,7 +853,7 @@ def size_and_digest(payload):
 def description(image, limit):
     """The lines of the description of an image."""
     image.check_payloads(limit)
-    lines = list(describe_legacy(image) if isinstance(image, Legacy) else describe_fit(image))
+    lines = [line for line, _, _ in entries(image)]
     if len(text_of(lines)) > limit:
         refuse("TooLarge", limit)
     return lines
@@ -897,24 +899,44 @@ def value_object(value):
     return {"hex": value.hex()}
 
 
-def describe_legacy(image):
-    yield from fields_of(image)
-    yield from [f"part {i} {size_and_digest(part)}" for i, part in enumerate(image.payloads())]
+def entries(image):
+    """Each line of the description of an image, what it is about, and the payload that it is of. It is about a word and an index, or the
+    names of the nodes on the path of a node and perhaps the name of a property."""
+    return entries_of_legacy(image) if isinstance(image, Legacy) else entries_of_fit(image)
 
 
-def describe_fit(fit):
-    yield from ["kind fit", f"boot-cpu {fit.blob.cpu}", *map(reservation_line, fit.blob.reservations)]
+def entries_of_legacy(image):
+    yield from [(line, (line.split(" ")[0], None), None) for line in fields_of(image)]
+    yield from [(f"part {i} {size_and_digest(part)}", ("part", i), part) for i, part in enumerate(image.payloads())]
 
-    def lines_of(node, path):
-        yield f"node {path}"
+
+def entries_of_fit(fit):
+    lines = ["kind fit", f"boot-cpu {fit.blob.cpu}", *map(reservation_line, fit.blob.reservations)]
+    yield from [(line, (line.split(" ")[0], None), None) for line in lines]
+
+    def below(node, path, names):
+        yield f"node {path}", (names, None), None
         for image, payload, _, _ in fit.images:
             if image is node:
-                yield f"payload {path} none" if payload is None else f"payload {path} {size_and_digest(payload)}"
+                size = "none" if payload is None else size_and_digest(payload)
+                yield f"payload {path} {size}", (names, None), payload
         for name, value in fit.properties(node):
-            yield " ".join([f"property {path} {shown(name)}", *value_text(value)])
+            yield " ".join([f"property {path} {shown(name)}", *value_text(value)]), (names, name), None
         for child in node.children:
-            yield from lines_of(child, f"{path.removesuffix('/')}/{shown(child.name)}")
-    yield from lines_of(fit.blob.root, "/")
+            yield from below(child, f"{path.removesuffix('/')}/{shown(child.name)}", (*names, child.name))
+    yield from below(fit.blob.root, "/", ())
+
+
+def is_left_out(about, words):
+    """Whether a line about this is left out. Each word is what such a line is about, `time` or `signatures`."""
+    names, name = about
+    if not isinstance(names, tuple):
+        return about in words or names == "time" and "time" in words
+    is_signed = len(names) > 2 and names[0] in (b"images", b"configurations") and names[2].startswith(b"signature")
+    is_time = about == ((), b"timestamp")
+    return (
+        is_signed and "signatures" in words or is_time and "time" in words or about in words
+        or any((names[:n], None) in words for n in range(len(names) + 1)))
 
 
 def value_text(value):
@@ -938,6 +960,8 @@ def compare(files, options):
         with about_image(name):
             images.append(read(file, limit))
     one, other = images
+    if options["ignore"]:
+        return compare_without(names, images, options)
     is_same = one.kind == other.kind and one.meaning() == other.meaning()
     if options["quiet"]:
         return int(not is_same), b"", b""
@@ -949,6 +973,21 @@ def compare(files, options):
     if one.kind != other.kind:
         return 1, differences_text([f"-kind {one.kind}", f"+kind {other.kind}"], options), b""
     return 1, differences_text(differences(*descriptions), options), b""
+
+
+def compare_without(names, images, options):
+    """The same for what stays of two images. Both are described, whatever is left out."""
+    stays = []
+    for name, image in zip(names, images):
+        with about_image(name):
+            description(image, options["limit"])
+        stays.append([(line, payload) for line, about, payload in entries(image) if not is_left_out(about, options["ignore"])])
+    one, other = images
+    is_same = one.kind == other.kind and stays[0] == stays[1]
+    lines = [f"-kind {one.kind}", f"+kind {other.kind}"]
+    if one.kind == other.kind:
+        lines = [] if is_same else differences(*([line for line, _ in entries] for entries in stays))
+    return int(not is_same), b"" if options["quiet"] else differences_text(lines, options), b""
 
 
 def differences_text(lines, options):
@@ -1174,7 +1213,8 @@ def time_cell(value):
 
 
 def shown_legacy_object(image):
-    codes = {field: shown_code(image, field) for field in FIELDS}
+    names = {field: shown_code(image, field) for field in FIELDS}
+    codes = {field: name if name in given_names(field) else image.codes[field] for field, name in names.items()}
     return legacy_listing_object(image) | codes | {"concerns": list(concerns_of(image))}
 
 
@@ -1182,8 +1222,8 @@ def shown_fit_object(fit):
     root = fit.blob.root
     return {
         "kind": "fit", "description": text_or_null(root, "description"), "timestamp": number_or_null(root, "timestamp"),
-        "total_size": fit.blob.total, "boot_cpu": fit.blob.cpu, "default": name_or_null(fit.default()),
-        "reservations": reservation_objects(fit), "images": [shown_image_object(fit, *image) for image in fit.images],
+        "size": fit.blob.total, "boot_cpu": fit.blob.cpu, "default": name_or_null(fit.default()),
+        "images": [shown_image_object(fit, *image) for image in fit.images],
         "configurations": [shown_configuration_object(fit, node) for node in fit.configurations.children],
         "concerns": list(concerns_of(fit)),
     }
@@ -1433,6 +1473,21 @@ def configuration(text):
     return name, lists or None
 
 
+def own_text(text):
+    """The name and the text of an argument that gives a text to one image or one configuration."""
+    name, colon, rest = text.encode().partition(b":")
+    if not rest:
+        raise Refused("usage: bad value")
+    return name, rest
+
+
+def check_own_texts(texts, names, is_once):
+    """Refuses texts for other names, and two for one name if each may have one only."""
+    given = [name for name, _ in texts]
+    if not set(given) <= set(names) or is_once and len(set(given)) < len(given):
+        raise Refused("usage: bad value")
+
+
 def check_configurations(configurations, images):
     """Refuses the first configuration that has another form, a name that it cannot have, or a name in a list that no image has."""
     for i, (name, lists) in enumerate(configurations):
@@ -1452,6 +1507,47 @@ def name_of(text, is_escaped):
     return name
 
 
+def ignored_words(texts):
+    """What the values of --ignore leave out. What is inside a payload is None: nothing is left out by it."""
+    words = []
+    for text in texts:
+        plain = text.split(",")
+        words += plain if set(plain) <= {"time", "signatures"} else [ignored_place(text)]
+    return words
+
+
+def ignored_place(text):
+    """What a word with a path leaves out: a part, a node or a property."""
+    path, space, name = text.partition(" ")
+    payload, slashes, inner = path.partition("//")
+    index = part_of(payload)
+    if index is not None and not space and not slashes:
+        return "part", index
+    if slashes and index is None and not re.fullmatch("/images/[^/]+", payload):
+        raise Refused("usage: bad value")
+    steps = [] if index is not None else steps_of(payload)
+    names = steps_of("/" + inner) if slashes else steps
+    property_name = name_of(name, True) if space else None
+    if property_name is not None and (not property_name or b"\0" in property_name) or index is not None and not slashes:
+        raise Refused("usage: bad value")
+    return None if slashes else (tuple(names), property_name)
+
+
+def part_of(path):
+    """The index of the part of this path, or None."""
+    return int(path[5:]) if re.fullmatch("part-(0|[1-9][0-9]*)", path) and int(path[5:]) < 1 << 64 else None
+
+
+def steps_of(path):
+    """The names on the path of a node."""
+    if not path.startswith("/"):
+        raise Refused("usage: bad value")
+    steps = [name_of(step, True) for step in path[1:].split("/")] if path != "/" else []
+    if len(steps) > 63 or not all(steps) or b"\0" in b"".join(steps) or b"/" in b"".join(steps):
+        raise Refused("usage: bad value")
+    return steps
+
+
 def form_of(text):
     if text not in ("text", "number", "raw"):
         raise Refused("usage: bad value")
@@ -1466,10 +1562,9 @@ def places_of(words, form):
         is_path = word.startswith("/")
         if not is_path and word not in ("name", "time", "load", "entry", *FIELDS) or is_path and not words:
             raise Refused("usage: bad value")
-        steps = [name_of(step, True) for step in word[1:].split("/")] if is_path and word != "/" else []
         place = (word, words.pop(0)) if is_path else (word,)
-        names = steps + [name_of(name, True) for name in place[1:]]
-        if len(steps) > 63 or not all(names) or b"\0" in b"".join(names) or b"/" in b"".join(steps):
+        names = [name_of(name, True) for name in place[1:]]
+        if is_path and steps_of(word) is None or not all(names) or b"\0" in b"".join(names):
             raise Refused("usage: bad value")
         places.append(place)
     if form == "raw" and len(places) > 1:
@@ -1515,7 +1610,7 @@ EXTERNAL = {"external": FLAG, "align": (align_of, ())}
 COMMANDS = {
     "list": (of_image(list_image), {"json": FLAG, **OFFSET}),
     "describe": (of_image(describe), {"json": FLAG, **OFFSET}),
-    "compare": (compare, {"quiet": FLAG, "json": FLAG}),
+    "compare": (compare, {"ignore": (ignored_words, []), "quiet": FLAG, "json": FLAG}),
     "verify": (of_image(verify), {"json": FLAG, **OFFSET}),
     "check": (of_image(check), {"allow": (kinds, ()), "signed": FLAG, "json": FLAG, **OFFSET}),
     "show": (of_image(show), {"layout": FLAG, "json": FLAG, **OFFSET}),
@@ -1533,8 +1628,14 @@ COMMANDS = {
         "name": (str, ""), "time": (number, "0"), "load": (number, "0"), "entry": (number, "0")}),
     "build-fit": (build_fit, {
         **EXTERNAL, "description": (str, ""), "time": (number, "0"), "config": (lambda texts: [configuration(text) for text in texts], []),
-        "default": (str.encode, ()), "hash": (algorithms, "sha256")}),
+        "default": (str.encode, ()), "hash": (algorithms, "sha256"), "compatible": (lambda texts: [own_text(text) for text in texts], []),
+        "describe-config": (lambda texts: [own_text(text) for text in texts], []),
+        "describe-image": (lambda texts: [own_text(text) for text in texts], [])}),
 }
+
+
+# The commands that take several images.
+SEVERAL = ("list", "verify", "check", "scan")
 
 
 def split_arguments(name, options, arguments):
@@ -1556,7 +1657,7 @@ def split_arguments(name, options, arguments):
         given[option] = given.get(option, []) + [text] if is_repeated else text
     if name == "compare" and len(words) != 2 or name == "get" and len(words) < 2:
         raise Unusable("wrong number of arguments")
-    if len(words) > 1 and not name.startswith(("build-", "compare", "get")):
+    if len(words) > 1 and name not in SEVERAL and not name.startswith(("build-", "compare", "get")):
         raise Unusable("wrong number of arguments")
     return given, words
 
@@ -1575,7 +1676,7 @@ def parse(arguments):
         raise Refused("usage: give one of --part, --image, --config")
     if name == "update" and not {"time", "hashes"} & set(given):
         raise Refused("usage: give --time or --hashes")
-    if name == "compare" and words == ["-", "-"]:
+    if name in ("compare", *SEVERAL) and words.count("-") > 1:
         raise Refused("usage: bad value")
     values = {"words": words}
     for option, how in options.items():
@@ -1597,9 +1698,38 @@ def parse(arguments):
     if name == "build-fit":
         if "default" in values and values["default"] not in [configured for configured, _ in values["config"]]:
             raise Refused("usage: bad value")
+        for option, is_once in (("compatible", False), ("describe-config", True)):
+            check_own_texts(values[option], [configured for configured, _ in values["config"]], is_once)
+        check_own_texts(values["describe-image"], [word.encode().partition(b":")[0] for word in words], True)
+        values |= {option: dict(values[option]) for option in ("describe-config", "describe-image")}
         values["words"] = [image_word(i, word) for i, word in enumerate(words)]
         check_configurations(values["config"], {image for image, *_ in values["words"]})
     return command, values
+
+
+def run(command, files, options):
+    """The exit status, the output and the text on standard error."""
+    try:
+        result = command(files, options)
+    except Refused as line:
+        return 2, b"", f"bootimg: {line}\n".encode()
+    return result if isinstance(result, tuple) else (0, result, b"")
+
+
+def labelled(word, text, is_json):
+    """The text about one of several images, with the name of the image in each line."""
+    name = "-" if word == "-" else shown(word.encode())
+    before, after = (f'{{"file":{json.dumps(name)},"result":', "}\n") if is_json else (f"{name}: ", "\n")
+    return b"".join(before.encode() + line + after.encode() for line in text.split(b"\n")[:-1])
+
+
+def run_each(command, files, options):
+    """The same of a command on several images, one after another: the status is the greatest."""
+    runs = []
+    for word in options["words"]:
+        status, output, errors = run(command, files, options | {"words": [word]})
+        runs.append((status, labelled(word, output, options["json"]), errors))
+    return max(status for status, _, _ in runs), b"".join(output for _, output, _ in runs), b"".join(errors for _, _, errors in runs)
 
 
 def main(arguments, file, bytes_of=lambda name: None):
@@ -1607,12 +1737,12 @@ def main(arguments, file, bytes_of=lambda name: None):
     file of a name, or None if it cannot be opened."""
     try:
         command, options = parse(arguments)
-        result = command(Files(file, bytes_of), options)
     except Refused as line:
         return 2, b"", f"bootimg: {line}\n".encode()
     except Unusable as text:
         return 2, b"", f"error: {text}\n".encode()
-    return result if isinstance(result, tuple) else (0, result, b"")
+    is_for_each = arguments[0] in SEVERAL and len(options["words"]) > 1
+    return (run_each if is_for_each else run)(command, Files(file, bytes_of), options)
 
 
 def bytes_of_path(name):

@@ -25,7 +25,7 @@ is_found() {
 
 table=crates/bootimg/src/command_line/table.rt
 check "a list that was edited by hand is found" is_found README.md 's/Find the images inside a file/Find images/' \
-    '+| `scan [IMAGE]` | Find the images inside a file |'
+    '+| `scan [IMAGE]...` | Find the images inside a file |'
 check "a value that is new in the sources is found" is_found crates/bi_legacy/src/codes.rt 's/ 5 => Some("linux"),/& 9 => Some("irix"),/' \
     '+.Cm netbsd , linux , irix , vxworks , u-boot'
 check "an option that a command no longer has is found" is_found $table 's/&\[LAYOUT, /\&[/' '-.Op Fl -layout'

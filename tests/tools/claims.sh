@@ -76,7 +76,7 @@ check "a space and % in the name of a file" says "a%20%25b: TooLarge at 64" list
 check "a selection of another kind" says "good: the selection does not fit this kind of image" extract --image kernel-1 good
 check "a part that is not in the file" says "good: no such part" extract --part 1 good
 check "no selection, with a file" says "usage: give one of --part, --image, --config" extract good
-check "two files" prints "unexpected argument 'cut' found" 2 list good cut
+check "two files" prints "unexpected argument 'cut' found" 2 describe good cut
 check "build-legacy takes no file" says "usage: bad value" build-legacy --os 5 --arch 2 --type 5 good
 check "a failed write, with a file" sh -c '"$1" list good 2>&1 > /dev/full | grep -Fqx "bootimg: write failed"' sh "$root/bootimg"
 
@@ -193,6 +193,7 @@ for command in $commands; do
     case $command in
     build-*) input="from standard input, one after another" ;;
     compare | get) input="standard input if it is -" ;;
+    list | verify | check | scan) input="Without IMAGE, standard input is read" ;;
     *) input="Without IMAGE, or if it is -, standard input is read" ;;
     esac
     check "help of $command says what it reads" prints "$input" 0 "$command" --help
@@ -200,7 +201,8 @@ done
 
 check "help of explain has an example" prints "Example: bootimg explain" 0 explain --help
 check "a cause" writes 'A node has two properties of the same name: remove one from the source.\n' 0 explain DuplicateProperty
-check "an unknown cause" says "usage: bad value" explain duplicateproperty
+check "a cause in small letters" writes 'A node has two properties of the same name: remove one from the source.\n' 0 explain duplicateproperty
+check "an unknown cause" says "usage: bad value" explain DuplicateProperties
 
 # Any file.
 printf '\047\005\031' > short

@@ -22,7 +22,7 @@ work_in_new_directory
 
 passes "$root/tests/conformance/run" --only 'json: ' "$program"
 passes python3 "$suite" --outputs json "$program"
-check "there is JSON of each kind" sh -c '[ "$(cut -d "\"" -f 2 json | sort -u | tr "\n" " ")" = "concerns images kind same " ]'
+check "there is JSON of each kind" sh -c '[ "$(cut -d "\"" -f 2 json | sort -u | tr "\n" " ")" = "concerns file images kind same " ]'
 grep -vE ':[0-9]{16}' json > exact
 check "jq reads the JSON, and prints the same bytes" sh -c 'jq -c . exact | cmp - exact'
 

@@ -218,9 +218,10 @@ tree_reasons_are_known = record {
 -- ---- building
 
 kernel_is : (spec : ImageSpec) → IsSpecOf pieces_of_tree kernel_element spec →
-    spec_model (record { spec = spec; texts = None }) ≡ known_kernel
+    spec_model (record { spec = spec; texts = None; description = None }) ≡ known_kernel
 kernel_is spec is = λ i. record {
   name = is.name i;
+  description = None;
   image_type = code_name type_names (is.image_type i);
   arch = code_name arch_names (is.arch i);
   os = code_name os_names (is.os i);
@@ -231,9 +232,10 @@ kernel_is spec is = λ i. record {
 }
 
 ramdisk_is : (spec : ImageSpec) → IsSpecOf pieces_of_tree ramdisk_element spec →
-    spec_model (record { spec = spec; texts = None }) ≡ known_ramdisk
+    spec_model (record { spec = spec; texts = None; description = None }) ≡ known_ramdisk
 ramdisk_is spec is = λ i. record {
   name = is.name i;
+  description = None;
   image_type = code_name type_names (is.image_type i);
   arch = code_name arch_names (is.arch i);
   os = code_name os_names (is.os i);

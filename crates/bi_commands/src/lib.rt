@@ -18,6 +18,6 @@ pub mod parts;
 pub mod update;
 
 pub use bi_common::{at_offset, format, shown, unshown};
-pub use bi_describe::{compare, describe};
+pub use bi_describe::{compare, describe, ignored};
 pub use bi_report::{check, list, scan, verify};
 pub use bi_show::show;

@@ -21,9 +21,9 @@ use Rattle.bi_describe.specs.declared.compare.CompareError.{CompareError}
 use Rattle.bi_describe.specs.declared.compare.CompareError.TheVariants.{OutOfMemory}
 use Rattle.bi_describe.specs.declared.compare.signed_lines.Sign.TheVariants.{Removed, Added}
 use Rattle.bi_describe.specs.Comparing.{AreTheSame, AreDifferent, IsComparison, IsComparisonOf, IsReadingError, IsDescribingError}
-use Rattle.bi_describe.specs.Comparing.{IsComparisonError, comparison, comparison_text, compared_description, differences_or_reason}
-use Rattle.bi_describe.specs.Comparing.{lines_or, reason}
-use Rattle.bi_describe.specs.Descriptions.{description}
+use Rattle.bi_describe.specs.Comparing.{IsComparisonError, comparison, comparison_text, differences_or_reason}
+use Rattle.bi_describe.specs.Comparing.{lines_or, lines_to_compare, reason}
+use Rattle.bi_describe.specs.Descriptions.{description, description_lines}
 use Rattle.bi_describe.specs.Describing.{CanBeDescribed}
 use Rattle.bi_describe.specs.Differences.{SignedLine, differences, sign_text, signed_text, text_of_differences}
 use Rattle.bi_norm.proofs.Comparisons.{opened_means}
@@ -93,29 +93,32 @@ error_of_other limits image other_image error described (inl memory) = inl memor
 error_of_other limits image other_image error described (inr describing) = inr (describing (meaning_of image) described)
 
 -- What differs between two images of one kind.
-two_legacy : (one other : LegacyImage) → differences_or_reason (OfLegacy one) (OfLegacy other) ≡ comparison (OfLegacy one) (OfLegacy other)
+abbrev pub described_apart : (one other : Meaning) → List SignedLine
+described_apart one other = differences_or_reason (description_lines one) (description_lines other)
+
+two_legacy : (one other : LegacyImage) → described_apart (OfLegacy one) (OfLegacy other) ≡ comparison (OfLegacy one) (OfLegacy other)
 two_legacy one other = refl
 
-two_fit : (one other : ImageTree) → differences_or_reason (OfFit one) (OfFit other) ≡ comparison (OfFit one) (OfFit other)
+two_fit : (one other : ImageTree) → described_apart (OfFit one) (OfFit other) ≡ comparison (OfFit one) (OfFit other)
 two_fit one other = refl
 
 of_two : (one other same same_other : Meaning) → one ≡ same → other ≡ same_other →
-    differences_or_reason same same_other ≡ comparison same same_other → differences_or_reason one other ≡ comparison one other
-of_two one other same same_other is other_is known = subst (λ one. differences_or_reason one other ≡ comparison one other) (sym is)
-    (subst (λ other. differences_or_reason same other ≡ comparison same other) (sym other_is) known)
+    described_apart same same_other ≡ comparison same same_other → described_apart one other ≡ comparison one other
+of_two one other same same_other is other_is known = subst (λ one. described_apart one other ≡ comparison one other) (sym is)
+    (subst (λ other. described_apart same other ≡ comparison same other) (sym other_is) known)
 
 pub both_legacy : (image other : BootImage) (parsed other_parsed : LegacyModel) → image ≡ Legacy parsed → other ≡ Legacy other_parsed →
-    differences_or_reason (meaning_of image) (meaning_of other) ≡ comparison (meaning_of image) (meaning_of other)
+    described_apart (meaning_of image) (meaning_of other) ≡ comparison (meaning_of image) (meaning_of other)
 both_legacy image other parsed other_parsed is other_is = of_two (meaning_of image) (meaning_of other) (OfLegacy parsed.image)
     (OfLegacy other_parsed.image) (ap meaning_of is) (ap meaning_of other_is) (two_legacy parsed.image other_parsed.image)
 
 pub both_fit : (image other : BootImage) (content other_content : FitModel) → image ≡ Fit content → other ≡ Fit other_content →
-    differences_or_reason (meaning_of image) (meaning_of other) ≡ comparison (meaning_of image) (meaning_of other)
+    described_apart (meaning_of image) (meaning_of other) ≡ comparison (meaning_of image) (meaning_of other)
 both_fit image other content other_content is other_is = of_two (meaning_of image) (meaning_of other) (OfFit (tree_of content))
     (OfFit (tree_of other_content)) (ap meaning_of is) (ap meaning_of other_is) (two_fit (tree_of content) (tree_of other_content))
 
 -- The text of lines is not empty.
-some_text : (line : SignedLine) (later : List SignedLine) → text_of_differences (line ∷ later) ≢ []
+pub some_text : (line : SignedLine) (later : List SignedLine) → text_of_differences (line ∷ later) ≢ []
 some_text line later empty = absurd (omega (
   arith,
   ap length empty,
@@ -124,7 +127,7 @@ some_text line later empty = absurd (omega (
   length-append line.text (10 ∷ []),
 ))
 
-some_or : (lines : List SignedLine) (line : SignedLine) → text_of_differences (lines_or lines line) ≢ []
+pub some_or : (lines : List SignedLine) (line : SignedLine) → text_of_differences (lines_or lines line) ≢ []
 some_or [] line = some_text line []
 some_or (first ∷ later) line = some_text first later
 
@@ -135,10 +138,10 @@ some_comparison (OfLegacy one) (OfFit other) =
 some_comparison (OfFit one) (OfLegacy other) =
     some_text (record { sign = Removed; text = codes "kind fit" }) (record { sign = Added; text = codes "kind legacy" } ∷ [])
 some_comparison (OfLegacy one) (OfLegacy other) =
-    some_or (differences (compared_description (OfLegacy one)) (compared_description (OfLegacy other)))
+    some_or (differences (lines_to_compare (description_lines (OfLegacy one))) (lines_to_compare (description_lines (OfLegacy other))))
     (reason (description (OfLegacy one)) (description (OfLegacy other)))
 some_comparison (OfFit one) (OfFit other) =
-    some_or (differences (compared_description (OfFit one)) (compared_description (OfFit other)))
+    some_or (differences (lines_to_compare (description_lines (OfFit one))) (lines_to_compare (description_lines (OfFit other))))
     (reason (description (OfFit one)) (description (OfFit other)))
 
 -- Two meanings that are the same have no differences.

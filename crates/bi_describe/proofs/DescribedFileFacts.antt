@@ -29,11 +29,11 @@ use Rattle.bi_describe.proofs.DifferenceFacts.{comparison_as, image_lines, tree_
 -- Whole descriptions and comparisons of small files.
 
 -- What the two files mean.
-abbrev smallest_tree : ImageTree
-smallest_tree = plain_tree [] []
+abbrev pub tree_of_smallest_text : ImageTree
+tree_of_smallest_text = plain_tree [] []
 
-abbrev bare_tree : ImageTree
-bare_tree = plain_tree (codes "a" ∷ []) (None ∷ [])
+abbrev pub tree_of_bare_file : ImageTree
+tree_of_bare_file = plain_tree (codes "a" ∷ []) (None ∷ [])
 
 -- Their lines.
 abbrev smallest_lines : List Line
@@ -42,10 +42,10 @@ smallest_lines = tree_with [] [] []
 abbrev bare_lines : List Line
 bare_lines = tree_with [] [] (image_lines (codes "a"))
 
-smallest_are : description_lines (OfFit smallest_tree) ≡ smallest_lines
+smallest_are : description_lines (OfFit tree_of_smallest_text) ≡ smallest_lines
 smallest_are = rw no_entries refl
 
-bare_are : description_lines (OfFit bare_tree) ≡ bare_lines
+bare_are : description_lines (OfFit tree_of_bare_file) ≡ bare_lines
 bare_are = rw no_entries refl
 
 -- They can be described.
@@ -54,9 +54,9 @@ can_be : (tree : ImageTree) (lines : List Line) → description_lines (OfFit tre
 can_be tree lines are short few = search rules
 
 -- How many images a meaning has.
-abbrev images_in : Meaning → ℕ
-images_in (OfLegacy image) = 0
-images_in (OfFit tree) = length tree.payloads
+abbrev pub image_count : Meaning → ℕ
+image_count (OfLegacy image) = 0
+image_count (OfFit tree) = length tree.payloads
 
 -- What holds for the same is the same.
 equal_values : (one other : Bool) (P Q : Type 0) → (P → Q) → (Q → P) → (IsTrue one ↔ P) → (IsTrue other ↔ Q) → one ≡ other
@@ -71,10 +71,10 @@ one_value : (format other_format : Format) (limits : Limits) (file other_file : 
 one_value format other_format limits file other_file value other text other_text is also = search (rules, equal_values)
 
 module _ (one_legacy : OneLegacyMeaning) where
-  only_smallest : MeansOnly widest smallest_text (OfFit smallest_tree)
+  pub only_smallest : MeansOnly widest smallest_text (OfFit tree_of_smallest_text)
   only_smallest = search (rules, smallest_means, one_file_meaning)
 
-  only_bare : MeansOnly widest bare_file (OfFit bare_tree)
+  pub only_bare : MeansOnly widest bare_file (OfFit tree_of_bare_file)
   only_bare = search (rules, bare_means, one_file_meaning)
 
   are_same : AreCompared widest smallest_text smallest_text true
@@ -82,29 +82,29 @@ module _ (one_legacy : OneLegacyMeaning) where
 
   abbrev are_different : AreCompared widest smallest_text bare_file false
   are_different = record {
-    meaning = OfFit smallest_tree;
-    other_meaning = OfFit bare_tree;
+    meaning = OfFit tree_of_smallest_text;
+    other_meaning = OfFit tree_of_bare_file;
     means = only_smallest;
     other_means = only_bare;
-    is_same = (λ no. absurd (true≢false (sym no)), λ same. absurd (omega (arith, ap images_in same)));
+    is_same = (λ no. absurd (true≢false (sym no)), λ same. absurd (omega (arith, ap image_count same)));
   }
 
-  abbrev new_lines : List SignedLine
+  abbrev pub new_lines : List SignedLine
   new_lines =
       record { sign = sign.Added; text = codes "node /images/a" }
       ∷ record { sign = sign.Added; text = codes "payload /images/a none" } ∷ []
 
-  both_differ : new_lines ≡ comparison (OfFit smallest_tree) (OfFit bare_tree)
+  pub both_differ : new_lines ≡ comparison (OfFit tree_of_smallest_text) (OfFit tree_of_bare_file)
   unfolding digits
-  both_differ = sym (comparison_as smallest_tree bare_tree smallest_are bare_are ∙ refl)
+  both_differ = sym (comparison_as tree_of_smallest_text tree_of_bare_file smallest_are bare_are ∙ refl)
 
-  small : CanBeDescribed Lines widest (OfFit smallest_tree)
+  pub small : CanBeDescribed Lines widest (OfFit tree_of_smallest_text)
   unfolding digits
-  small = can_be smallest_tree smallest_lines smallest_are (lit≤ tt) (λ over. omega (arith, over))
+  small = can_be tree_of_smallest_text smallest_lines smallest_are (lit≤ tt) (λ over. omega (arith, over))
 
-  bare : CanBeDescribed Lines widest (OfFit bare_tree)
+  pub bare : CanBeDescribed Lines widest (OfFit tree_of_bare_file)
   unfolding digits
-  bare = can_be bare_tree bare_lines bare_are (lit≤ tt) (λ over. omega (arith, over))
+  bare = can_be tree_of_bare_file bare_lines bare_are (lit≤ tt) (λ over. omega (arith, over))
 
   pub compared_texts_are_known : ComparedTextsAreKnown
   compared_texts_are_known = record {
@@ -149,23 +149,23 @@ module _ (one_legacy : OneLegacyMeaning) where
     one = one_value;
   }
 
-  json_is : description_json (OfFit smallest_tree) ≡
+  json_is : description_json (OfFit tree_of_smallest_text) ≡
       codes "{\"kind\":\"fit\",\"boot_cpu\":0,\"reservations\":[],\"root\":{\"properties\":[],"
       ++ lines (codes "\"children\":[{\"name\":\"images\",\"properties\":[],\"children\":[]}]}}" ∷ [])
   unfolding digits
   json_is = rw no_entries refl
 
   -- The file means nothing else, so it has no other description.
-  only_text : (format : Format) (text : List ℕ) → CanBeDescribed format widest (OfFit smallest_tree) →
-      description_text format (OfFit smallest_tree) ≡ text → IsOnlyDescription format smallest_text text
+  only_text : (format : Format) (text : List ℕ) → CanBeDescribed format widest (OfFit tree_of_smallest_text) →
+      description_text format (OfFit tree_of_smallest_text) ≡ text → IsOnlyDescription format smallest_text text
   only_text format text within is =
       let described : IsDescription format widest smallest_text text =
-      record { meaning = OfFit smallest_tree; means = only_smallest; within = within; is_text = sym is } in
+      record { meaning = OfFit tree_of_smallest_text; means = only_smallest; within = within; is_text = sym is } in
       record {
         is_output = described;
         is_text = described;
         only = λ other output.
-            output.is_text ∙ ap (description_text format) (sym (output.means.only (OfFit smallest_tree) smallest_means)) ∙ is;
+            output.is_text ∙ ap (description_text format) (sym (output.means.only (OfFit tree_of_smallest_text) smallest_means)) ∙ is;
       }
 
   pub described_files_are_known : DescribedFilesAreKnown

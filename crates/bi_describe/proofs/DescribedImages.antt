@@ -3,28 +3,31 @@ use Rattle.bi_fdt.specs.Content.{Blob}
 use Rattle.bi_fit.specs.Content.{FitModel, tree_of}
 use Rattle.bi_legacy.specs.declared.fields.Fields.{Fields}
 use Rattle.bi_legacy.specs.Meaning.{LegacyImage, image_of}
-use Rattle.bi_legacy.specs.PlacedParts.{PartModel}
 use Rattle.bi_common.specs.CommonLines.{header_members, reservation_line}
 use Rattle.bi_common.specs.Json.{Json, Member, json_array, json_object}
 use Rattle.bi_common.specs.JsonTokens.{JsonToken, BeginObject, EndObject, json_tokens, member_tokens, one}
 use Rattle.bi_common.specs.Lines.{Line}
 use Rattle.bi_common.proofs.WrittenTokens.{member_tokens-append}
 use Rattle.bi_describe.specs.declared.describe.entries.Entry.{Entry}
-use Rattle.bi_describe.specs.declared.describe.entries.PayloadDigest as made
+use Rattle.bi_describe.specs.declared.describe.part.DescribedPart.{DescribedPart}
+use Rattle.bi_describe.specs.MadeParts.{bytes_of_parts, digest_of_part}
 use Rattle.bi_describe.specs.ReadDescription.{described_parts_member, read_legacy_lines, read_legacy_tokens, read_lines, read_tokens}
 use Rattle.bi_describe.specs.DescriptionJson.{digest_object, fit_object, legacy_object}
 use Rattle.bi_describe.specs.Descriptions.{digest_of_payload, fit_lines, head_lines, legacy_lines}
-use Rattle.bi_describe.specs.TreeEntries.{as_entry, digest_made, tree_entries}
+use Rattle.bi_describe.specs.TreeEntries.{as_entry, tree_entries}
 use Rattle.bi_describe.proofs.EntryTokens.{tokens_of_tree}
 use Rattle.bi_describe.proofs.TreeLines.{lines_of_tree}
 
 -- What a description is made from has the lines and the tokens of the description.
 
--- The digests of placed parts are those of their bytes.
-pub digests_of_bytes : (parts : List PartModel) →
-    map (λ (part : PartModel). digest_of_payload part.bytes) parts ≡ map digest_of_payload (map (λ (part : PartModel). part.bytes) parts)
+-- The digests of parts are those of their bytes.
+digests_of_bytes : (parts : List DescribedPart) → map digest_of_part parts ≡ map digest_of_payload (bytes_of_parts parts)
 digests_of_bytes [] = refl
-digests_of_bytes (part ∷ later) = ap (λ digests. digest_of_payload part.bytes ∷ digests) (digests_of_bytes later)
+digests_of_bytes (part ∷ later) = ap (λ digests. digest_of_part part ∷ digests) (digests_of_bytes later)
+
+pub digests_of_parts_are : (parts : List DescribedPart) (image : LegacyImage) → bytes_of_parts parts ≡ image.parts →
+    map digest_of_part parts ≡ map digest_of_payload image.parts
+digests_of_parts_are parts image is = digests_of_bytes parts ∙ ap (map digest_of_payload) is
 
 -- The objects of parts are those of their digests.
 objects_of_parts : (parts : List (List ℕ)) →
@@ -33,9 +36,9 @@ objects_of_parts [] = refl
 objects_of_parts (part ∷ later) = ap (λ (objects : List Json). digest_object (digest_of_payload part) ∷ objects) (objects_of_parts later)
 
 -- A legacy image with these fields, and parts of these digests.
-pub legacy_lines_are : (fields : Fields) (image : LegacyImage) (parts : List made.PayloadDigest) → image_of fields image.parts ≡ image →
-    map digest_made parts ≡ map digest_of_payload image.parts →
-    read_legacy_lines (image_of fields []) (map digest_made parts) ≡ legacy_lines image
+pub legacy_lines_are : (fields : Fields) (image : LegacyImage) (parts : List DescribedPart) → image_of fields image.parts ≡ image →
+    map digest_of_part parts ≡ map digest_of_payload image.parts →
+    read_legacy_lines (image_of fields []) (map digest_of_part parts) ≡ legacy_lines image
 legacy_lines_are fields image parts is digests =
     ap (read_legacy_lines (image_of fields [])) digests
     ∙ ap (λ (own : LegacyImage). read_legacy_lines own (map digest_of_payload image.parts)) is
@@ -49,9 +52,9 @@ legacy_in_parts image =
     ∙ ap (λ (objects : List Json). json_tokens (json_object (header_members image ++ (codes "parts", json_array objects) ∷ [])))
     (objects_of_parts image.parts)
 
-pub legacy_tokens_are : (fields : Fields) (image : LegacyImage) (parts : List made.PayloadDigest) → image_of fields image.parts ≡ image →
-    map digest_made parts ≡ map digest_of_payload image.parts →
-    read_legacy_tokens (image_of fields []) (map digest_made parts) ≡ json_tokens (legacy_object image)
+pub legacy_tokens_are : (fields : Fields) (image : LegacyImage) (parts : List DescribedPart) → image_of fields image.parts ≡ image →
+    map digest_of_part parts ≡ map digest_of_payload image.parts →
+    read_legacy_tokens (image_of fields []) (map digest_of_part parts) ≡ json_tokens (legacy_object image)
 legacy_tokens_are fields image parts is digests =
     ap (read_legacy_tokens (image_of fields [])) digests
     ∙ ap (λ (own : LegacyImage). read_legacy_tokens own (map digest_of_payload image.parts)) is

@@ -10,7 +10,7 @@ use Rattle.bi_describe.specs.KnownDescriptions.{described_properties, load_and_o
 -- Small boot images have known descriptions.
 
 -- Properties in byte order stay in their order.
-sorted_entries : (properties : List Property) → T (is_sorted (slice_cmp nat_cmp) properties) →
+pub sorted_entries : (properties : List Property) → T (is_sorted (slice_cmp nat_cmp) properties) →
     entries (from_sorted {R = slice_cmp nat_cmp} properties) ≡ properties
 sorted_entries properties sorted = entries-from_sorted (slice_cmp nat_cmp) properties sorted
 

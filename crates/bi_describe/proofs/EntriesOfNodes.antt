@@ -12,8 +12,8 @@ use Rattle.bi_fit.specs.NormalNodes.{alone, nodes_by_name, properties_by_name}
 use Rattle.bi_fit.specs.Names.{images_name}
 use Rattle.bi_describe.specs.declared.describe.entries.Entry.{Entry}
 use Rattle.bi_describe.specs.declared.describe.entries.Entry.TheVariants as made
-use Rattle.bi_describe.specs.Descriptions.{DescribedNode, plain_node, described_children, described_images}
-use Rattle.bi_describe.specs.Descriptions.{described_nodes}
+use Rattle.bi_describe.specs.ComparedNodes.{ComparedNode, plain_compared, compared_children, compared_images}
+use Rattle.bi_describe.specs.ComparedNodes.{nodes_to_compare}
 use Rattle.bi_describe.specs.TreeEntries.{EntryModel, NodeEnds, as_entry, node_entries}
 use Rattle.bi_describe.specs.MadeEntries.{plain_entries, begin_entries, image_entries}
 use Rattle.bi_describe.specs.MadeEntries.{images_entries, root_children_entries}
@@ -27,7 +27,7 @@ pub entries-push : (entries : List Entry) (entry : Entry) →
 entries-push entries entry = map-append as_entry entries (entry ∷ [])
 
 -- The entries of a node come before those of the nodes after it.
-pub entries-first : (name : List ℕ) (own : DescribedNode) (children later : Nodes DescribedNode) →
+pub entries-first : (name : List ℕ) (own : ComparedNode) (children later : Nodes ComparedNode) →
     node_entries (node name own children later) ≡ node_entries (node name own children none) ++ node_entries later
 entries-first name own children later = search (rules, append_assoc)
 
@@ -54,12 +54,12 @@ pub images-first : (s : Sibling FileNode) (payload : Option (List ℕ)) (payload
 images-first s payload payloads = search (rules, entries-first)
 
 -- Where no payloads are left there are no entries,
-described-none : (nodes : Nodes PropertyMap) → described_images nodes [] ≡ none
-described-none none = refl
-described-none (node name own children later) = refl
+compared-none : (nodes : Nodes PropertyMap) → compared_images nodes [] ≡ none
+compared-none none = refl
+compared-none (node name own children later) = refl
 
 pub images-no_payloads : (nodes : Nodes FileNode) → images_entries nodes [] ≡ []
-images-no_payloads nodes = ap node_entries (described-none (without_payloads (nodes_by_name nodes)))
+images-no_payloads nodes = ap node_entries (compared-none (without_payloads (nodes_by_name nodes)))
 
 -- and where no nodes are left neither.
 pub images-no_nodes : (payloads : List (Option (List ℕ))) → images_entries none payloads ≡ []
@@ -78,13 +78,13 @@ pub root-images : (s : Sibling FileNode) (payloads : List (Option (List ℕ))) �
     ≡ (begin_entries s.name (properties_by_name s.own) ++ (images_entries s.children payloads ++ NodeEnds ∷ []))
     ++ root_children_entries s.later payloads
 root-images s payloads is new =
-    let own : DescribedNode = plain_node (properties_by_name s.own) in
+    let own : ComparedNode = plain_compared (properties_by_name s.own) in
     let images : Nodes PropertyMap = without_payloads (nodes_by_name s.children) in
     let nodes : Nodes PropertyMap = nodes_by_name s.later in
-    let later : Nodes DescribedNode = described_nodes nodes payloads in
+    let later : Nodes ComparedNode = nodes_to_compare nodes payloads in
     let here : List EntryModel = begin_entries s.name (properties_by_name s.own) ++ (images_entries s.children payloads ++ NodeEnds ∷ []) in
-    let first = entries-first s.name own (described_images images payloads) later in
-    let named : node_entries (node s.name own (described_children s.name images payloads) later) ≡ here ++ node_entries later =
+    let first = entries-first s.name own (compared_images images payloads) later in
+    let named : node_entries (node s.name own (compared_children s.name images payloads) later) ≡ here ++ node_entries later =
     rw is first in
     let whole : root_children_entries (node s.name s.own s.children s.later) payloads ≡ here ++ node_entries later = rw is named in
     let same_names : names nodes ≡ names s.later =
@@ -92,7 +92,7 @@ root-images s payloads is new =
     let is_images = (bytes_eq-Decides s.name images_name).0 is in
     let none_left : IsNew images_name (names nodes) =
     subst (IsNew images_name) (sym same_names) (subst (λ name. IsNew name (names s.later)) is_images new) in
-    whole ∙ ap (λ nodes. here ++ node_entries (described_nodes nodes payloads))
+    whole ∙ ap (λ nodes. here ++ node_entries (nodes_to_compare nodes payloads))
     (sym (others_kept images_name without_payloads nodes none_left))
 
 -- any other,
@@ -100,12 +100,12 @@ pub root-other : (s : Sibling FileNode) (payloads : List (Option (List ℕ))) �
     root_children_entries (node s.name s.own s.children s.later) payloads
     ≡ plain_entries (alone s) ++ root_children_entries s.later payloads
 root-other s payloads is =
-    let own : DescribedNode = plain_node (properties_by_name s.own) in
+    let own : ComparedNode = plain_compared (properties_by_name s.own) in
     let children : Nodes PropertyMap = nodes_by_name s.children in
     let nodes : Nodes PropertyMap = with_children_of images_name without_payloads (nodes_by_name s.later) in
-    let later : Nodes DescribedNode = described_nodes nodes payloads in
-    let first = entries-first s.name own (with_each plain_node children) later in
-    let named : node_entries (node s.name own (described_children s.name children payloads) later)
+    let later : Nodes ComparedNode = nodes_to_compare nodes payloads in
+    let first = entries-first s.name own (with_each plain_compared children) later in
+    let named : node_entries (node s.name own (compared_children s.name children payloads) later)
     ≡ plain_entries (alone s) ++ root_children_entries s.later payloads = rw is first in
     rw is named
 

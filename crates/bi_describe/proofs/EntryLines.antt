@@ -1,22 +1,19 @@
-use Rattle.std.proofs.Common.{◌≡◌, ℕ, ◌+◌, ◌-◌, ◌<◌, ◌≤◌, max, List, [], ◌∷◌, get_or, drop, take, length, map, ap, rules, arith}
+use Rattle.std.proofs.Common.{◌≡◌, ℕ, ◌+◌, ◌-◌, ◌<◌, ◌≤◌, max, List, [], ◌∷◌, get_or, drop, take, length, map, ap, sym, ◌∙◌, rules, arith}
 use Rattle.std.specs.Borrow.{Bor}
 use Rattle.std.proofs.lemmas.List.{drop_more, length-map, length-take-le, take-map, take-take}
 use Rattle.bi_common.specs.MadeFields.{bytes_of_names}
 use Rattle.bi_describe.specs.declared.describe.entries.Entry.{Entry}
-use Rattle.bi_describe.specs.declared.describe.entries.Entry.TheVariants.{Begin}
 use Rattle.bi_describe.specs.TreeEntries.{NodeBegins, NodeEnds, PayloadEntry, PropertiesBegin, PropertyEntry, ChildrenBegin}
 use Rattle.bi_describe.specs.TreeEntries.{EntryModel, as_entry, count_after, most_open}
 
 -- Entries are one entry and then those after it, and an entry opens at most one node.
 
--- The entry that is used where there is none.
-abbrev pub no_entry : Entry
-no_entry = Begin (record { ref_ptr = (0, 0); now = [] })
-
 -- The entries from one on are this one and those after it.
-pub entries_from : (entries : List Entry) (index : ℕ) → index < length entries →
-    map as_entry (drop index entries) ≡ as_entry (get_or entries index no_entry) ∷ map as_entry (drop (index + 1) entries)
-entries_from entries index within = ap (map as_entry) (drop_more entries index no_entry within)
+pub entries_from : (entries : List Entry) (index : ℕ) (entry : Entry) → entry ≡ get_or entries index entry → index < length entries →
+    map as_entry (drop index entries) ≡ as_entry entry ∷ map as_entry (drop (index + 1) entries)
+entries_from entries index entry is within =
+    ap (map as_entry) (drop_more entries index entry within)
+    ∙ ap (λ item. as_entry item ∷ map as_entry (drop (index + 1) entries)) (sym is)
 
 -- At least as many nodes are open at most as at first.
 pub open_at_first : (count : ℕ) (entries : List EntryModel) → count ≤ most_open count entries

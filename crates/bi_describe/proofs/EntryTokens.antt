@@ -10,10 +10,13 @@ use Rattle.bi_common.specs.Json.{Json, Member, json_array}
 use Rattle.bi_common.specs.JsonTokens.{JsonToken, BeginObject, EndObject, MemberName, json_tokens, member_tokens, one, value_tokens}
 use Rattle.bi_describe.specs.ReadDescription.{processor_members, read_tokens}
 use Rattle.bi_describe.specs.DescriptionJson.{fit_object, node_members, node_objects, payload_members, property_object}
-use Rattle.bi_describe.specs.Descriptions.{DescribedNode, NodePayload, NotAnImage, OfImage, described_nodes, plain_node}
+use Rattle.bi_describe.specs.ComparedNodes.{ComparedNode, ComparedPayload, NoImage, ImageWith, nodes_to_compare, described_node}
+use Rattle.bi_describe.specs.ComparedNodes.{described_payload, plain_compared}
+use Rattle.bi_describe.specs.Descriptions.{described_nodes, plain_node}
 use Rattle.bi_describe.specs.EntryTokens.{entry_tokens}
 use Rattle.bi_describe.specs.TreeEntries.{EntryModel, NodeBegins, NodeEnds, PropertyEntry, node_entries, own_entries, payload_entries}
 use Rattle.bi_describe.specs.TreeEntries.{property_entries, tree_entries}
+use Rattle.bi_describe.proofs.ComparedTrees.{as_described, nodes_described}
 
 -- The tokens of the entries of a flattened image tree are those of its JSON.
 
@@ -26,10 +29,10 @@ each_property (property ∷ later) =
     ap (λ (tokens : List JsonToken). json_tokens (property_object property) ++ tokens) (each_property later)
 
 -- The member for the payload of a node, and those after it.
-payload_first : (payload : NodePayload) (members : List Member) →
-    tokens_of (payload_entries payload) ++ member_tokens members ≡ member_tokens (payload_members payload ++ members)
-payload_first NotAnImage members = refl
-payload_first (OfImage payload) members = simp (append_assoc, append-nil) refl
+payload_first : (payload : ComparedPayload) (members : List Member) →
+    tokens_of (payload_entries payload) ++ member_tokens members ≡ member_tokens (payload_members (described_payload payload) ++ members)
+payload_first NoImage members = refl
+payload_first (ImageWith payload) members = simp (append_assoc, append-nil) refl
 
 -- The members for the properties and the children of a node, and its end.
 abbrev last_members : PropertyMap → List Json → List Member
@@ -42,9 +45,9 @@ last_tokens : (properties : PropertyMap) (children : List Json) (later : List Js
 last_tokens properties children later = simp (flat_map-append, each_property, append_assoc, append-nil) refl
 
 -- What a node has besides its name, and its end.
-own_tokens : (own : DescribedNode) (children : List Json) (later : List JsonToken) →
+own_tokens : (own : ComparedNode) (children : List Json) (later : List JsonToken) →
     tokens_of (own_entries own) ++ (value_tokens children ++ (entry_tokens NodeEnds ++ later))
-    ≡ member_tokens (node_members own children) ++ (one EndObject ++ later)
+    ≡ member_tokens (node_members (described_node own) children) ++ (one EndObject ++ later)
 own_tokens own children later =
     let payload : List EntryModel = payload_entries own.payload in
     let properties : List EntryModel = property_entries own.properties in
@@ -57,11 +60,11 @@ own_tokens own children later =
     (payload_first own.payload (last_members own.properties children))
 
 -- Nodes, each with those below it.
-tokens_of_nodes : (nodes : Nodes DescribedNode) → tokens_of (node_entries nodes) ≡ value_tokens (node_objects nodes)
+tokens_of_nodes : (nodes : Nodes ComparedNode) → tokens_of (node_entries nodes) ≡ value_tokens (node_objects (as_described nodes))
 tokens_of_nodes none = refl
 tokens_of_nodes (node name own children later) =
-    let objects : List Json = node_objects children in
-    let after : List JsonToken = value_tokens (node_objects later) in
+    let objects : List Json = node_objects (as_described children) in
+    let after : List JsonToken = value_tokens (node_objects (as_described later)) in
     ap (λ (tokens : List JsonToken). entry_tokens (NodeBegins name) ++ tokens)
     (flat_map-append entry_tokens (own_entries own) (node_entries children ++ (NodeEnds ∷ node_entries later))
     ∙ ap (λ (tokens : List JsonToken). tokens_of (own_entries own) ++ tokens)
@@ -75,16 +78,18 @@ root_tokens : (tree : ImageTree) → tokens_of (tree_entries tree) ++ entry_toke
     ≡ member_tokens (node_members (plain_node tree.root.own) (node_objects (described_nodes tree.root.children tree.payloads)))
     ++ one EndObject
 root_tokens tree =
-    let nodes : Nodes DescribedNode = described_nodes tree.root.children tree.payloads in
+    let nodes : Nodes ComparedNode = nodes_to_compare tree.root.children tree.payloads in
     let own : List EntryModel = property_entries tree.root.own in
     ap (λ (tokens : List JsonToken). tokens ++ entry_tokens NodeEnds)
     (flat_map-append entry_tokens own (node_entries nodes)
     ∙ ap (λ (tokens : List JsonToken). tokens_of own ++ tokens) (tokens_of_nodes nodes))
-    ∙ append_assoc (tokens_of own) (value_tokens (node_objects nodes)) (entry_tokens NodeEnds)
-    ∙ ap (λ (end : List JsonToken). tokens_of own ++ (value_tokens (node_objects nodes) ++ end)) (sym (append-nil (entry_tokens NodeEnds)))
-    ∙ own_tokens (plain_node tree.root.own) (node_objects nodes) []
-    ∙ ap (λ (end : List JsonToken). member_tokens (node_members (plain_node tree.root.own) (node_objects nodes)) ++ end)
+    ∙ append_assoc (tokens_of own) (value_tokens (node_objects (as_described nodes))) (entry_tokens NodeEnds)
+    ∙ ap (λ (end : List JsonToken). tokens_of own ++ (value_tokens (node_objects (as_described nodes)) ++ end)) (sym (append-nil (entry_tokens NodeEnds)))
+    ∙ own_tokens (plain_compared tree.root.own) (node_objects (as_described nodes)) []
+    ∙ ap (λ (end : List JsonToken). member_tokens (node_members (plain_node tree.root.own) (node_objects (as_described nodes))) ++ end)
     (append-nil (one EndObject))
+    ∙ ap (λ nodes. member_tokens (node_members (plain_node tree.root.own) (node_objects nodes)) ++ one EndObject)
+    (nodes_described tree.root.children tree.payloads)
 
 -- A flattened image tree that was read.
 pub tokens_of_tree : (content : FitModel) →

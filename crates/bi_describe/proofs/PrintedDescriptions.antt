@@ -20,6 +20,7 @@ use Rattle.bi_legacy.proofs.ImageOfFile.{image_of_file}
 use Rattle.bi_norm.specs.Meaning.{Meaning, OfLegacy, OfFit, Means}
 use Rattle.bi_common.specs.declared.format.Format.{Format}
 use Rattle.bi_common.specs.declared.format.Format.TheVariants.{Lines, Json}
+use Rattle.bi_common.specs.Lines.{text_of_lines}
 use Rattle.bi_common.proofs.PrintedTexts.{json_lines_are_ascii}
 use Rattle.bi_common.proofs.PrintedWords.{CanPrintLine, CanPrintLines, header_can, line_texts_are_ascii}
 use Rattle.bi_common.proofs.PrintedWords.{reservations_can}
@@ -28,6 +29,9 @@ use Rattle.bi_describe.specs.DescriptionJson.{fit_object, legacy_object}
 use Rattle.bi_describe.specs.Descriptions.{PayloadDigest, NodePayload, NotAnImage, OfImage, DescribedNode, description_lines}
 use Rattle.bi_describe.specs.Descriptions.{described_nodes, digest_of_payload, digest_words, fit_lines, legacy_lines, node_lines, own_lines}
 use Rattle.bi_describe.specs.Descriptions.{part_lines, payload_lines, plain_node, property_line}
+use Rattle.bi_describe.specs.Ignoring.{Ignored}
+use Rattle.bi_describe.specs.ReducedMeanings.{meaning_without, reduced_lines}
+use Rattle.bi_describe.proofs.LinesThatStay.{lines_stay}
 use Rattle.bi_describe.proofs.ShownNodes.{AreShown, IsShownPayload, all_shown, root_shown}
 
 -- The lines of a description can be printed, so a description is ASCII.
@@ -109,3 +113,17 @@ pub written_utf8 : (text : List ℕ) (begin end : Option (List ℕ)) (items : Li
 written_utf8 text begin end items ascii begins ends put =
     let same : items ≡ text = rw (begins, ends) at put in
     IsUtf8-from_ascii items (subst IsAscii (sym same) ascii)
+
+-- So are the lines of what stays of either, whatever is left out.
+pub legacy_stays_ascii : (words : List Ignored) (image : LegacyImage) → AreBytes image.name →
+    IsAscii (text_of_lines (reduced_lines (meaning_without words (OfLegacy image))))
+legacy_stays_ascii words image bytes =
+    line_texts_are_ascii (reduced_lines (meaning_without words (OfLegacy image)))
+    (lines_stay CanPrintLine words (OfLegacy image) (legacy_can image bytes))
+
+pub fit_stays_ascii : (words : List Ignored) (content : FitModel) → IsHeld content →
+    IsAscii (text_of_lines (reduced_lines (meaning_without words (OfFit (tree_of content)))))
+fit_stays_ascii words content held =
+    line_texts_are_ascii (reduced_lines (meaning_without words (OfFit (tree_of content))))
+    (lines_stay CanPrintLine words (OfFit (tree_of content))
+    (fit_can content.blob.file (tree_of content) (held_means content held)))

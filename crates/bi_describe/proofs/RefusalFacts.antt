@@ -137,7 +137,7 @@ no_magic_errors format error = (
 )
 
 -- What the kernel image means within lower limits. It means nothing else.
-kernel_means_within : (most : ℕ) → 73 ≤ most → LegacyMeans (limited_to most) kernel_file kernel_image
+pub kernel_means_within : (most : ℕ) → 73 ≤ most → LegacyMeans (limited_to most) kernel_file kernel_image
 kernel_means_within most fits = record { is_file = kernel_means.is_file; short = fits }
 
 module _ (one_legacy : OneLegacyMeaning) where

@@ -9,11 +9,12 @@ use Rattle.bi_norm.specs.Reading.{IsBootImageReadError, NeedsMemory}
 use Rattle.bi_common.specs.declared.format.Format.{Format}
 use Rattle.bi_common.specs.declared.format.Format.TheVariants.{Lines, Json}
 use Rattle.bi_common.specs.Json.{json_line}
+use Rattle.bi_common.specs.Lines.{Line, text_of_lines}
 use Rattle.bi_describe.specs.declared.compare.CompareError.{CompareError}
 use Rattle.bi_describe.specs.declared.compare.CompareError.TheVariants.{One, Other, OutOfMemory}
 use Rattle.bi_describe.specs.declared.compare.signed_lines.Sign.TheVariants as sign
 use Rattle.bi_describe.specs.ComparisonJson.{comparison_object}
-use Rattle.bi_describe.specs.Descriptions.{description, description_lines}
+use Rattle.bi_describe.specs.Descriptions.{description_lines}
 use Rattle.bi_describe.specs.Describing.{CanBeDescribed, IsTooLongToDescribe}
 use Rattle.bi_describe.specs.Differences.{ComparedLine, SignedLine, differences}
 use Rattle.bi_describe.specs.Differences.{line_to_compare, text_of_differences}
@@ -41,16 +42,16 @@ abbrev pub lines_or : List SignedLine → SignedLine → List SignedLine
 lines_or [] line = line ∷ []
 lines_or (first ∷ later) line = first ∷ later
 
--- The lines of a description, as they are compared.
-abbrev pub compared_description : Meaning → List ComparedLine
-compared_description meaning = map line_to_compare (description_lines meaning)
+-- These lines, as they are compared.
+abbrev pub lines_to_compare : List Line → List ComparedLine
+lines_to_compare lines = map line_to_compare lines
 
--- The differences of two descriptions, or, if there are none, the line with the reason why the
--- meanings still differ.
-abbrev pub differences_or_reason : (one other : Meaning) → List SignedLine
+-- The differences of two descriptions of these lines, or, if there are none, the line with the
+-- reason why the meanings still differ.
+abbrev pub differences_or_reason : (one other : List Line) → List SignedLine
 differences_or_reason one other =
-    lines_or (differences (compared_description one) (compared_description other))
-    (reason (description one) (description other))
+    lines_or (differences (lines_to_compare one) (lines_to_compare other))
+    (reason (text_of_lines one) (text_of_lines other))
 
 -- The lines for meanings of these different kinds.
 abbrev pub kinds_differ : (kind other_kind : List ℕ) → List SignedLine
@@ -63,7 +64,8 @@ kinds_differ kind other_kind =
 abbrev pub comparison : (one other : Meaning) → List SignedLine
 comparison (OfLegacy one) (OfFit other) = kinds_differ (codes "kind legacy") (codes "kind fit")
 comparison (OfFit one) (OfLegacy other) = kinds_differ (codes "kind fit") (codes "kind legacy")
-comparison one other = differences_or_reason one other
+comparison one other =
+    differences_or_reason (description_lines one) (description_lines other)
 
 -- The lines are what differs between two meanings: none if they are the same. If they are not, both
 -- can be described.

@@ -1,6 +1,7 @@
 //! Comparing what two boot images mean: whether it is the same, and what differs.
 
 mod differences;
+mod ignoring;
 mod json;
 mod kept_lines;
 mod line_keeper;
@@ -18,15 +19,22 @@ ghost use Rattle.bi_common.specs.HeldImages.{IsHeldImage};
 ghost use Rattle.bi_describe.specs.Comparing.{IsComparison, IsComparisonError, IsComparisonOf};
 ghost use Rattle.bi_describe.specs.Comparing.{IsReadingError, IsDescribingError, comparison};
 ghost use Rattle.bi_describe.specs.Comparing.{comparison_text};
-ghost use Rattle.bi_describe.specs.Describing.{CanBeDescribed, IsImageError};
+ghost use Rattle.bi_describe.specs.ComparingWithout.{AreComparedWithout, IsComparisonWithout};
+ghost use Rattle.bi_describe.specs.ComparingWithout.{IsIgnoringError};
+ghost use Rattle.bi_describe.specs.DescribedImages.{IsDescribed};
+ghost use Rattle.bi_describe.specs.Describing.{CanBeDescribed};
 ghost use Rattle.bi_describe.specs.Descriptions.{description_lines};
 ghost use Rattle.bi_describe.specs.KeptLines.{KeepsLines};
 ghost use Rattle.bi_describe.specs.MadeLines.{made_lines};
+ghost use Rattle.bi_describe.specs.MadeOptions.{ignoring_model};
 
-use crate::describe::{describe_image, description_is_ascii};
+use crate::describe::kept::{KeptImage, kept_is_ascii};
+use crate::describe::{DescribedImage, describe_image, description_is_ascii};
 use bi_base::{Error, Fault, Limits};
 use bi_common::format::Format;
 use bi_norm::BootImage;
+pub use ignoring::IgnoringOptions;
+use ignoring::compare_kept;
 use json::comparison_json;
 use kept_lines::KeptLines;
 use reasons::{differences_or_reason, kinds_differ};
@@ -125,6 +133,59 @@ pub fn compare_json(
     ensures failed { IfErr result (IsComparisonError limits one.now other.now) }
 {
     compare_as(alloc, one, other, limits, Format::Json)
+}
+
+/// Returns whether two boot images mean the same once something is left out of both, and what
+/// differs then: the differences of the lines of their descriptions that stay. They are empty if
+/// and only if both mean the same, or if `quiet` is set. Payloads that stay are compared byte by
+/// byte. Images of different kinds differ, and nothing is left out of them.
+///
+/// Errors, the first that applies: One with the fault of the first file; Other with that of the
+/// second one; One and then Other with TooLarge at the limit, if a meaning is too long to describe,
+/// whatever is left out or written. OutOfMemory may come instead of any of these, but only after
+/// the first file has passed the checks of a legacy image, or of the header and the memory
+/// reservation block of a blob.
+pub fn compare_ignoring(
+    alloc: Global,
+    one: &[u8],
+    other: &[u8],
+    limits: Limits,
+    options: IgnoringOptions,
+) -> Result<Comparison, CompareError>
+    ensures compared { IfOk result (λ comparison. AreComparedWithout (ignoring_model options.entry)
+        limits one.now other.now comparison.same (string_bytes comparison.differences)) }
+    ensures failed { IfErr result (IsIgnoringError limits one.now other.now) }
+{
+    let image = read_one(alloc, one, limits)?;
+    let other_image = read_other(alloc, other, limits)?;
+    Ok(compare_without(alloc, &image, &other_image, limits, options)?)
+}
+
+/// Compares what stays of two images. Requires: the images were read.
+fn compare_without(
+    alloc: Global,
+    image: &BootImage<'_>,
+    other: &BootImage<'_>,
+    limits: Limits,
+    options: IgnoringOptions,
+) -> Result<Comparison, CompareError>
+    requires held { IsHeldImage image.now }
+    requires other_held { IsHeldImage other.now }
+    ensures within { OnOk result (CanBeDescribed Lines limits (meaning_of image.now)) }
+    ensures other_within { OnOk result (CanBeDescribed Lines limits (meaning_of other.now)) }
+    ensures compared { IfOk result (λ comparison. IsComparisonWithout
+        (ignoring_model options.entry) (meaning_of image.now) (meaning_of other.now)
+        comparison.same (string_bytes comparison.differences)) }
+    ensures failed { IfErr result (λ error. (error ≡ CompareError.OutOfMemory)
+        ⊎ IsDescribingError limits (meaning_of image.now) (meaning_of other.now) error) }
+{
+    let described = describe_one(alloc, image, limits)?;
+    let other_described = describe_other(alloc, other, limits)?;
+    let kept = KeptImage::new(alloc, &described, options.words)?;
+    let other_kept = KeptImage::new(alloc, &other_described, options.words)?;
+    kept_is_ascii(image);
+    kept_is_ascii(other);
+    Ok(compare_kept(alloc, &kept, &other_kept, options)?)
 }
 
 impl From<AllocError> for CompareError {
@@ -243,11 +304,8 @@ fn keep_one(alloc: Global, image: &BootImage<'_>, limits: Limits) -> Result<Kept
     ensures failed { IfErr result (λ error. (error ≡ CompareError.OutOfMemory)
         ⊎ ((other : Meaning) → IsDescribingError limits (meaning_of image.now) other error)) }
 {
-    match keep_lines(alloc, image, limits) {
-        Ok(kept) => Ok(kept),
-        Err(Error::Refused(fault)) => Err(CompareError::One(fault)),
-        Err(_) => Err(CompareError::OutOfMemory),
-    }
+    let mut described = describe_one(alloc, image, limits)?;
+    Ok(keep_lines(alloc, image, &mut described)?)
 }
 
 /// Keeps the lines of the second image. Requires: the image was read.
@@ -263,25 +321,64 @@ fn keep_other(
         ⊎ ((one : Meaning) → CanBeDescribed Lines limits one
         → IsDescribingError limits one (meaning_of image.now) error)) }
 {
-    match keep_lines(alloc, image, limits) {
-        Ok(kept) => Ok(kept),
-        Err(Error::Refused(fault)) => Err(CompareError::Other(fault)),
+    let mut described = describe_other(alloc, image, limits)?;
+    Ok(keep_lines(alloc, image, &mut described)?)
+}
+
+/// Keeps the lines of the description of an image, which is made from this. Requires: the image was
+/// read.
+///
+/// Fails only if memory runs out.
+fn keep_lines(
+    alloc: Global,
+    image: &BootImage<'_>,
+    described: &mut DescribedImage,
+) -> Result<KeptLines, AllocError>
+    requires held { IsHeldImage image.now }
+    requires described { IsDescribed (meaning_of image.now) described.old }
+    ensures { IfOk result (KeepsLines (description_lines (meaning_of image.now))) }
+{
+    description_is_ascii(image, Format::Lines);
+    KeptLines::new(alloc, described)
+}
+
+/// Returns what the description of the first image is made from. Requires: the image was read.
+fn describe_one<'a, 'b>(
+    alloc: Global,
+    image: &'b BootImage<'a>,
+    limits: Limits,
+) -> Result<DescribedImage<'a, 'b>, CompareError>
+    requires held { IsHeldImage image.now }
+    ensures within { OnOk result (CanBeDescribed Lines limits (meaning_of image.now)) }
+    ensures described { IfOk result (IsDescribed (meaning_of image.entry.now)) }
+    ensures failed { IfErr result (λ error. (error ≡ CompareError.OutOfMemory)
+        ⊎ ((other : Meaning) → IsDescribingError limits (meaning_of image.now) other error)) }
+{
+    match describe_image(alloc, image, limits, Format::Lines) {
+        Ok(described) => Ok(described),
+        Err(Error::Refused(fault)) => Err(CompareError::One(fault)),
         Err(_) => Err(CompareError::OutOfMemory),
     }
 }
 
-/// Keeps the lines of the description of an image. Requires: the image was read.
-///
-/// Errors: TooLarge at the limit, if the payloads or the description are longer; OutOfMemory.
-fn keep_lines(alloc: Global, image: &BootImage<'_>, limits: Limits) -> Result<KeptLines, Error>
+/// Returns what the description of the second image is made from. Requires: the image was read.
+fn describe_other<'a, 'b>(
+    alloc: Global,
+    image: &'b BootImage<'a>,
+    limits: Limits,
+) -> Result<DescribedImage<'a, 'b>, CompareError>
     requires held { IsHeldImage image.now }
     ensures within { OnOk result (CanBeDescribed Lines limits (meaning_of image.now)) }
-    ensures kept { IfOk result (KeepsLines (description_lines (meaning_of image.now))) }
-    ensures failed { IfErr result (IsImageError Lines limits (meaning_of image.now)) }
+    ensures described { IfOk result (IsDescribed (meaning_of image.entry.now)) }
+    ensures failed { IfErr result (λ error. (error ≡ CompareError.OutOfMemory)
+        ⊎ ((one : Meaning) → CanBeDescribed Lines limits one
+        → IsDescribingError limits one (meaning_of image.now) error)) }
 {
-    let mut described = describe_image(alloc, image, limits, Format::Lines)?;
-    description_is_ascii(image, Format::Lines);
-    Ok(KeptLines::new(alloc, &mut described)?)
+    match describe_image(alloc, image, limits, Format::Lines) {
+        Ok(described) => Ok(described),
+        Err(Error::Refused(fault)) => Err(CompareError::Other(fault)),
+        Err(_) => Err(CompareError::OutOfMemory),
+    }
 }
 
 /// Returns what differs between two images that do not mean the same, whose lines are kept.

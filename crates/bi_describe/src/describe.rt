@@ -22,9 +22,11 @@ mod fit;
 mod image_nodes;
 mod image_payload;
 mod json;
+pub(crate) mod kept;
 mod legacy;
 mod lines;
 mod nodes;
+mod part;
 mod properties;
 
 use bi_base::{Command, Error, Limits, MemoryPen, Pen, Sink, SinkPen, are_bytes, pipe_to};

@@ -3,6 +3,8 @@
 
 pub mod compare;
 pub mod describe;
+pub mod ignored;
+pub mod known_ignored;
 pub mod known_refusals;
 pub mod known_texts;
 pub mod laws;

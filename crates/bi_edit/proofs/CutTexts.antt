@@ -1,7 +1,6 @@
-use Rattle.std.proofs.Common.{◌≡◌, ◌≢◌, ℕ, leb, eqb, Bool, true, false, List, [], ◌∷◌, ◌++◌, refl, sym, ap, subst, ◌∙◌, true≢false}
+use Rattle.std.proofs.Common.{◌≡◌, ℕ, leb, eqb, Bool, List, [], ◌∷◌, ◌++◌, refl, sym, ap, ◌∙◌, true≢false}
 use Rattle.std.proofs.Common.{Option, Some, None}
 use Rattle.std.proofs.lemmas.Bool.{ne_eqb, eq-eqb}
-use Rattle.std.specs.List.{AllByRecursion}
 use Rattle.bi_common.proofs.ReadableWords.Cuts.{HasNoEnd, Ends, cut_agrees}
 use Rattle.bi_common.proofs.ReadableWords.ShownNames.{is_blank}
 use Rattle.bi_edit.specs.Cuts.{from_byte, IsCutAt, LacksByte}

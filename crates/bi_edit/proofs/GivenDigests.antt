@@ -1,16 +1,11 @@
-use Rattle.std.proofs.Common.{◌≡◌, ℕ, Bool, true, false, List, [], ◌∷◌, Option, Some, None, option_map, if◌then◌else◌, bytes_eq, refl, ap}
-use Rattle.std.specs.FinMap.{from_entries}
-use Rattle.bi_blob.specs.Tree.{Nodes, none, node, PropertyMap, with_each}
+use Rattle.std.proofs.Common.{◌≡◌, ℕ, Bool, true, false, List, [], ◌∷◌, Option, Some, None, option_map, if◌then◌else◌, refl, ap}
+use Rattle.bi_blob.specs.Tree.{Nodes, none, node, PropertyMap}
 use Rattle.bi_tree.specs.Changes.{named_node}
-use Rattle.bi_tree.specs.TreeNodes.{TreeNodeModel}
 use Rattle.bi_hash.specs.declared.algo.Algo.{Algo}
 use Rattle.bi_hash.specs.Digests.{digest_of}
-use Rattle.bi_fit.specs.ImageTree.{with_children_of}
-use Rattle.bi_fit.specs.Names.{images_name, is_hash_name}
+use Rattle.bi_fit.specs.Names.{is_hash_name}
 use Rattle.bi_fit.specs.Updating.{known_algorithm, with_digest_by, with_digests_of}
-use Rattle.bi_edit.specs.Edits.{with_payload_digests}
 use Rattle.bi_edit.specs.PayloadDigests.{payload_digests, with_digest_if, with_each_digest}
-use Rattle.bi_edit.proofs.ChangedNodes.{before}
 
 -- The digests of a payload are given to the children of an image node.
 
@@ -38,16 +33,3 @@ digests_given (Some payload) (node name own children later) =
 pub no_nodes_given : (digests : List (Option (List ℕ))) → with_each_digest digests none ≡ none
 no_nodes_given [] = refl
 no_nodes_given (digest ∷ digests) = refl
-
--- The image nodes are the children of the first node with their name.
-abbrev pub with_digests_below : Nodes PropertyMap → Nodes PropertyMap
-with_digests_below nodes = with_children_of images_name with_payload_digests nodes
-
-pub no_images_here : (top : TreeNodeModel) (later : Nodes PropertyMap) → bytes_eq top.name images_name ≡ false →
-    before top (with_digests_below later) ≡ with_digests_below (before top later)
-no_images_here top later other = rw other refl
-
-pub images_here : (top : TreeNodeModel) (later : Nodes PropertyMap) → bytes_eq top.name images_name ≡ true →
-    node top.name (from_entries top.own) (with_payload_digests (with_each from_entries top.children)) later
-    ≡ with_digests_below (before top later)
-images_here top later same = rw same refl

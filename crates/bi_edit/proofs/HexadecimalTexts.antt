@@ -1,10 +1,10 @@
-use Rattle.std.proofs.Common.{◌≡◌, ◌≢◌, ◌⊎◌, inl, inr, ℕ, List, [], ◌∷◌, ◌++◌, map, Ok, refl, sym, ap, ◌∙◌, codes}
+use Rattle.std.proofs.Common.{◌≡◌, ◌≢◌, inl, inr, ℕ, List, [], ◌∷◌, ◌++◌, map, Ok, refl, sym, ap, ◌∙◌, codes}
 use Rattle.std.specs.List.{join_with_byte}
 use Rattle.hex.specs.Hex.{decode_of}
 use Rattle.hex.proofs.HexLemmas.{decode_of-encode_lower}
 use Rattle.bi_base.specs.Cells.{AreBytes}
 use Rattle.bi_fit.specs.Judgement.{listed_names}
-use Rattle.bi_common.specs.ValueTexts.{hexadecimal_digits, quoted_text, value_words}
+use Rattle.bi_common.specs.ValueTexts.{quoted_text}
 use Rattle.bi_common.proofs.HexDigits.{hex_of_bytes}
 use Rattle.bi_common.proofs.ReadableWords.Cuts.{begin_apart, later_same}
 use Rattle.bi_common.proofs.ReadableWords.QuotedValues.{ValueWords, Empty, Texts, Bytes, forms}

@@ -9,5 +9,10 @@ pub mod PayloadWords
 pub mod KnownWordFacts
 pub mod AppliedEdits
 pub mod PresentNodes
-pub mod ChangedNodes
 pub mod GivenDigests
+pub mod KeptNodes
+pub mod KeptImages
+pub mod KeptDepths
+pub mod KeptDigests
+pub mod EditedFits
+pub mod EditedTrees

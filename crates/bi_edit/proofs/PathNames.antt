@@ -1,7 +1,6 @@
-use Rattle.std.proofs.Common.{◌≡◌, ◌≢◌, ◌≤◌, ◌+◌, ℕ, suc, List, [], ◌∷◌}
+use Rattle.std.proofs.Common.{◌≡◌, ◌≢◌, ℕ, List, [], ◌∷◌}
 use Rattle.std.proofs.Common.{◌++◌, length, flat_map, refl, sym, ap, subst, ◌∙◌, arith, append_assoc}
-use Rattle.std.proofs.Common.{◌<◌, Option, Some, None, Vec, Global, Bor, option_map, append-nil, length-append}
-use Rattle.std.specs.List.{AllByRecursion}
+use Rattle.std.proofs.Common.{◌<◌, Option, Some, Vec, Global, Bor, option_map, append-nil, length-append}
 use Rattle.bi_common.specs.Shown.{path, shown_text}
 use Rattle.bi_common.proofs.ReadableWords.Cuts.{HasNoEnd, Ends, cut_agrees, goes_on-append, later_same, nothing_before}
 use Rattle.bi_common.proofs.ReadableWords.ShownNames.{is_blank, is_slash, same_shown, shown_no_blank, shown_no_slash, some_shown}

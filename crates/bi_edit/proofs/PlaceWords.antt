@@ -1,4 +1,4 @@
-use Rattle.std.proofs.Common.{◌≡◌, ◌≢◌, ℕ, List, [], ◌∷◌, ◌++◌, Option, Some, None, refl, sym, ap, subst, ◌∙◌, append-nil, append_assoc}
+use Rattle.std.proofs.Common.{◌≡◌, ℕ, List, ◌∷◌, ◌++◌, Option, Some, None, sym, subst, ◌∙◌, append-nil, append_assoc}
 use Rattle.bi_common.specs.Shown.{path, shown_text}
 use Rattle.bi_common.proofs.ReadableWords.ShownNames.{same_shown}
 use Rattle.bi_edit.specs.declared.edit.Edit.{Edit}
@@ -6,7 +6,7 @@ use Rattle.bi_edit.specs.declared.edit.Edit.TheVariants.{RemoveNode, RemovePrope
 use Rattle.bi_edit.specs.declared.edit.Edit.TheVariants.{SetField, SetPayload, SetTime, SetDigests}
 use Rattle.bi_edit.specs.Cuts.{from_byte, IsCutAt}
 use Rattle.bi_edit.specs.EditWords.{IsPathWord, IsPropertyWord, IsRemovalWord, IsSettingWord, IsValueAfter}
-use Rattle.bi_edit.specs.Places.{IsNodePath, IsPlace, IsRemovable, PropertyPlaceModel}
+use Rattle.bi_edit.specs.Places.{IsPlace, IsRemovable, PropertyPlaceModel}
 use Rattle.bi_edit.proofs.CutTexts.{cut_is}
 use Rattle.bi_edit.proofs.PathNames.{path_no_space, one_path, shown_no_space}
 

@@ -1,5 +1,5 @@
 use Rattle.std.proofs.Common.{◌≡◌, ◌≤◌, ◌<◌, ℕ, Bool, true, false, not, List, []}
-use Rattle.std.proofs.Common.{◌∷◌, length, get_or, bytes_eq, refl, sym, ap, subst, ◌∙◌, arith, true≢false}
+use Rattle.std.proofs.Common.{◌∷◌, length, get_or, bytes_eq, refl, sym, ap, ◌∙◌, arith, true≢false}
 use Rattle.std.proofs.Common.{IsTrue}
 use Rattle.bi_base.proofs.EqualBytes.{same_bytes, other_bytes}
 use Rattle.bi_fit.specs.Names.{images_name}

@@ -1,9 +1,9 @@
-use Rattle.std.proofs.Common.{◌≡◌, ◌≢◌, ◌||◌, ◌==◌, ℕ, Bool, true, false, cond, List}
+use Rattle.std.proofs.Common.{◌≡◌, ◌≢◌, ◌==◌, ℕ, Bool, true, false, List}
 use Rattle.std.proofs.Common.{[], ◌∷◌, ◌++◌, map, refl, sym, ap, ◌∙◌, codes, append_assoc, append-nil}
 use Rattle.std.specs.List.{flat_map, join_with_byte}
 use Rattle.bi_blob.specs.Layout.{strings_of}
 use Rattle.bi_fit.specs.Judgement.{listed_names}
-use Rattle.bi_common.specs.ValueTexts.{escaped_byte, needs_backslash, quoted_text, hexadecimal_digits, value_words}
+use Rattle.bi_common.specs.ValueTexts.{escaped_byte, quoted_text, hexadecimal_digits}
 use Rattle.bi_common.proofs.ReadableWords.QuotedValues.{ValueWords, Empty, Texts, Bytes, forms}
 use Rattle.bi_edit.specs.EditWords.{value_text}
 use Rattle.bi_edit.specs.Unquoted.{bytes_in_quotes}

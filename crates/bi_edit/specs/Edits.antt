@@ -18,7 +18,7 @@ use Rattle.bi_edit.specs.declared.edit.Edit.TheVariants.{SetField, SetPayload, S
 use Rattle.bi_edit.specs.declared.edit.FieldValue.{FieldValue}
 use Rattle.bi_edit.specs.declared.edit.FieldValue.TheVariants as field
 use Rattle.bi_edit.specs.Places.{image_path}
-use Rattle.bi_edit.specs.Plain.{plain_root, with_plain_root}
+use Rattle.bi_plain.specs.Plain.{plain_root, with_plain_root}
 
 -- What edits make of the meaning of a boot image (profile of this project).
 

@@ -18,7 +18,7 @@ use Rattle.bi_edit.specs.Edits.{AllFind, FindsNothing, IsFirstRefused, IsOfKind,
 use Rattle.bi_edit.specs.Edits.{root_after}
 use Rattle.bi_edit.specs.Places.{PropertyPlaceModel, IsPlace, IsRemovable, image_path, images_path}
 use Rattle.bi_edit.specs.Places.{names_of_path}
-use Rattle.bi_edit.specs.Plain.{plain_root}
+use Rattle.bi_plain.specs.Plain.{plain_root}
 
 -- A small tree and what it is after edits, by which a reader can judge the definitions.
 

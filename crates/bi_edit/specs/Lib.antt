@@ -1,5 +1,4 @@
 pub mod Places
-pub mod Plain
 pub mod Edits
 pub mod Applying
 pub mod PayloadDigests
@@ -8,3 +7,5 @@ pub mod Unquoted
 pub mod EditWords
 pub mod KnownEdits
 pub mod KnownEditWords
+pub mod EditLaws
+pub mod EditedFits

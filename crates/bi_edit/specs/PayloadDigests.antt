@@ -1,24 +1,12 @@
-use Rattle.std.specs.Prelude.{ℕ, List, [], ◌∷◌, map, option_map, Option, Some, None}
-use Rattle.std.specs.FinMap.{from_entries}
+use Rattle.std.specs.Prelude.{ℕ, List, [], ◌∷◌, option_map, Option, Some, None}
 use Rattle.bi_blob.specs.Tree.{Nodes, none, node, Root, PropertyMap}
-use Rattle.bi_blob.specs.Tree.{AreDistinct, EachOwn, with_each}
 use Rattle.bi_tree.specs.Changes.{named_node}
-use Rattle.bi_tree.specs.TreeNodes.{TreeNodeModel, nodes_of_models}
 use Rattle.bi_tree.specs.Trees.{with_own_value}
 use Rattle.bi_hash.specs.Digests.{digest_of}
 use Rattle.bi_fit.specs.Names.{value_name}
 use Rattle.bi_fit.specs.NewDigests.{hash_algorithm}
 
 -- The digests of a payload, in nodes of a tree that can be changed.
-
--- A list of such nodes, without the order of the properties.
-abbrev pub nodes_without_order : List TreeNodeModel → Nodes PropertyMap
-nodes_without_order nodes = with_each from_entries (nodes_of_models nodes)
-
--- None of these nodes, and none below them, has two properties with one name.
-abbrev pub HaveDistinctProperties : List TreeNodeModel → Type 0
-HaveDistinctProperties nodes =
-    EachOwn (λ own. AreDistinct (map (λ property. property.0) own)) (nodes_of_models nodes)
 
 -- The digest of a payload for each of these children of an image node, if it gets one. Without a
 -- payload the list is empty.

@@ -3,10 +3,13 @@
 
 mod applying;
 mod edit;
+mod edited_fit;
 pub mod known_edits;
+pub mod laws;
 mod places;
 pub mod words;
 
 pub use applying::{ApplyError, apply};
 pub use edit::{Edit, FieldValue};
+pub use edited_fit::{EditError, edit_fit};
 pub use places::{ImageName, NodePath, NodePlace, PropertyPlace};

@@ -21,7 +21,7 @@ use Rattle.bi_fit.specs.Building.{built_hash_nodes, configuration_name, configur
 use Rattle.bi_fit.specs.KnownBuilds.{known_head, known_kernel, known_ramdisk, known_images, known_plan, known_tree, known_text}
 use Rattle.bi_fit.specs.KnownBuilds.{BuiltIsKnown, EachKeyIsKnown, board_devicetree, kernel_of_boards, first_board, second_board}
 use Rattle.bi_fit.specs.KnownBuilds.{tree_of_boards, known_tree_of_boards, properties_of_devicetree, hashes_of_board}
-use Rattle.bi_fit.specs.KnownBuilds.{BoardsAreKnown, HashNodesAreKnown}
+use Rattle.bi_fit.specs.KnownBuilds.{BoardsAreKnown, HashNodesAreKnown, OwnTextsAreKnown}
 use Rattle.bi_fit.proofs.FileFacts.{no_entries}
 use Rattle.bi_fit.proofs.JudgementFacts.{find-properties}
 
@@ -143,3 +143,12 @@ boards_are_known = record {
 pub hash_nodes_are_known : HashNodesAreKnown
 unfolding digits
 hash_nodes_are_known = record { no_algorithm = refl; twice = refl; tenth = refl }
+
+pub own_texts_are_known : OwnTextsAreKnown
+own_texts_are_known = record {
+  image = refl;
+  compatible = refl;
+  configuration = refl;
+  plain_image = λ head image none. rw none refl;
+  plain_configuration = λ head configuration none empty. rw (none, empty) refl;
+}

@@ -20,7 +20,7 @@ use Rattle.bi_fit.specs.declared.key.Key.{Key}
 use Rattle.bi_fit.specs.declared.key.Key.TheVariants.{Kernel, Fdt, Ramdisk, Firmware, Loadables, Script}
 use Rattle.bi_fit.specs.Names.{key_name, all_keys, default_name}
 use Rattle.bi_fit.specs.Judgement.{Image, images_with, ListedImages, image_named, list_images, listed_at, listed_under, listed_of}
-use Rattle.bi_fit.specs.Building.{HeadModel, ImageSpecModel, ConfigurationSpecModel, PlanModel, text_value, built_image_properties}
+use Rattle.bi_fit.specs.Building.{HeadModel, ImageSpecModel, ConfigurationSpecModel, PlanModel, text_value, description_of, built_image_properties}
 use Rattle.bi_fit.specs.Building.{built_hash_nodes, built_images, list_property, built_configuration_properties, built_configurations}
 use Rattle.bi_fit.specs.Building.{built_tree, configuration_name, configuration_by_types, plan_by_types, type_name}
 use Rattle.bi_fit.specs.Building.{names_of_images, configuration_names, IsImageSpec, CanBeBuilt, IsConfigurationSpec, IsPlanFor}
@@ -68,13 +68,13 @@ list_value (name ∷ later) = Some (strings_of (name ∷ later))
 
 -- The property of another key is not found under this one.
 skip : (key other : Key) → bytes_eq (key_name key) (key_name other) ≡ false → (names : List (List ℕ)) (rest : List Property) →
-    find (slice_cmp nat_cmp) (key_name key) (list_property other names ++ rest) ≡ find (slice_cmp nat_cmp) (key_name key) rest
+    find (slice_cmp nat_cmp) (key_name key) (list_property (key_name other) names ++ rest) ≡ find (slice_cmp nat_cmp) (key_name key) rest
 skip key other differ [] rest = refl
 skip key other differ (name ∷ later) rest = rw (is_eq-slice_cmp (key_name key) (key_name other), differ) refl
 
 -- The property of a key is found under it.
 hit : (key : Key) (names : List (List ℕ)) (rest : List Property) → find (slice_cmp nat_cmp) (key_name key) rest ≡ None →
-    find (slice_cmp nat_cmp) (key_name key) (list_property key names ++ rest) ≡ list_value names
+    find (slice_cmp nat_cmp) (key_name key) (list_property (key_name key) names ++ rest) ≡ list_value names
 hit key [] rest nothing = nothing
 hit key (name ∷ later) rest nothing =
     rw (is_eq-slice_cmp (key_name key) (key_name key), (bytes_eq-Decides (key_name key) (key_name key)).1 refl) refl
@@ -82,7 +82,7 @@ hit key (name ∷ later) rest nothing =
 module _ (configuration : ConfigurationSpecModel) where
   -- The properties of these keys.
   abbrev lists_of : List Key → List Property
-  lists_of keys = flat_map (λ key. list_property key (configuration.lists key)) keys
+  lists_of keys = flat_map (λ key. list_property (key_name key) (configuration.lists key)) keys
 
   -- No property of other keys is found under a key.
   none_of : (key : Key) (keys : List Key) → list_all (λ other. not (bytes_eq (key_name key) (key_name other))) keys ≡ true →
@@ -108,22 +108,43 @@ module _ (configuration : ConfigurationSpecModel) where
 abbrev configuration_by_name : HeadModel → ConfigurationSpecModel → PropertyMap
 configuration_by_name head configuration = from_entries (built_configuration_properties head configuration)
 
--- The description is not a list.
-after_description : (key : Key) (value : List ℕ) (rest : List Property) →
-    find (slice_cmp nat_cmp) (key_name key) ((codes "description", value) ∷ rest) ≡ find (slice_cmp nat_cmp) (key_name key) rest
-after_description Kernel value rest = refl
-after_description Fdt value rest = refl
-after_description Ramdisk value rest = refl
-after_description Firmware value rest = refl
-after_description Loadables value rest = refl
-after_description Script value rest = refl
+-- The property of another name is not found under a key.
+other_property : (key : Key) (name value : List ℕ) (rest : List Property) → bytes_eq (key_name key) name ≡ false →
+    find (slice_cmp nat_cmp) (key_name key) ((name, value) ∷ rest) ≡ find (slice_cmp nat_cmp) (key_name key) rest
+other_property key name value rest differ = rw (is_eq-slice_cmp (key_name key) name, differ) refl
+
+-- The description and the boards are not a list of images.
+description_differs : (key : Key) → bytes_eq (key_name key) (codes "description") ≡ false
+description_differs Kernel = refl
+description_differs Fdt = refl
+description_differs Ramdisk = refl
+description_differs Firmware = refl
+description_differs Loadables = refl
+description_differs Script = refl
+
+compatible_differs : (key : Key) → bytes_eq (key_name key) (codes "compatible") ≡ false
+compatible_differs Kernel = refl
+compatible_differs Fdt = refl
+compatible_differs Ramdisk = refl
+compatible_differs Firmware = refl
+compatible_differs Loadables = refl
+compatible_differs Script = refl
+
+after_texts : (key : Key) (value : List ℕ) (texts : List (List ℕ)) (rest : List Property) →
+    find (slice_cmp nat_cmp) (key_name key) ((codes "description", value) ∷ (list_property (codes "compatible") texts ++ rest))
+    ≡ find (slice_cmp nat_cmp) (key_name key) rest
+after_texts key value [] rest = other_property key (codes "description") value rest (description_differs key)
+after_texts key value (text ∷ later) rest =
+    other_property key (codes "description") value ((codes "compatible", strings_of (text ∷ later)) ∷ rest) (description_differs key)
+    ∙ other_property key (codes "compatible") (strings_of (text ∷ later)) rest (compatible_differs key)
 
 -- What a configuration has under a key.
 has_under : (head : HeadModel) (configuration : ConfigurationSpecModel) (key : Key) →
     get (configuration_by_name head configuration) (key_name key) ≡ list_value (configuration.lists key)
 has_under head configuration key =
     get-from_entries nat_list_cmp_total (built_configuration_properties head configuration) (key_name key)
-    ∙ after_description key (text_value head.description) (lists_of configuration all_keys)
+    ∙ after_texts key (text_value (description_of head configuration.description)) configuration.compatible
+    (lists_of configuration all_keys)
     ∙ found_key configuration key
 
 -- ---- the images that are listed
@@ -294,6 +315,8 @@ by_types_is : (images : List ImageSpecModel) → IsConfigurationSpec (names_of_i
 by_types_is images = record {
   is_name = tested_child _ _ refl refl;
   name_bytes = (tested_name configuration_name refl).0;
+  description = tt;
+  compatible = tt;
   of_images = λ key.
       each-map (λ name. IsTrue (is_among name (names_of_images images))) (λ (image : ImageSpecModel). image.name)
       (filter (λ image. bytes_eq image.image_type (type_name key)) images)

@@ -40,5 +40,5 @@ names_in_order (name ∷ names) are =
     (first_is name names parts.0, names_in_order names parts.1)
 
 -- These are the ranks of those that a text changes.
-pub built_ranked : AreRankedNames built_names (record { payload = 4; offset = 5; position = 6; size = 7; time = 19; digest = 21 })
+pub built_ranked : AreRankedNames built_names (record { payload = 5; offset = 6; position = 7; size = 8; time = 20; digest = 22 })
 built_ranked = search (rules, names_in_order)

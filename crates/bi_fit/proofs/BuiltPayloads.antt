@@ -19,6 +19,7 @@ use Rattle.bi_fit.specs.BuiltNodes.{built_payloads, built_digests}
 abbrev pub no_named_image : NamedImage
 no_named_image = record {
   name = record { ref_ptr = (0, 0); now = [] };
+  description = None;
   image_type = record { ref_ptr = (0, 0); now = [] };
   arch = record { ref_ptr = (0, 0); now = [] };
   os = record { ref_ptr = (0, 0); now = [] };
@@ -31,6 +32,8 @@ no_named_image = record {
 abbrev pub no_configuration : ConfigurationSpec
 no_configuration = record {
   name = record { ref_ptr = (0, 0); now = [] };
+  description = None;
+  compatible = record { ref_ptr = (0, 0); now = [] };
   kernel = record { ref_ptr = (0, 0); now = [] };
   fdt = record { ref_ptr = (0, 0); now = [] };
   ramdisk = record { ref_ptr = (0, 0); now = [] };

@@ -1,7 +1,7 @@
 use Rattle.std.proofs.Common.{◌≡◌, ◌≢◌, ℕ, ◌+◌, ◌<◌, ◌≤◌, ◌^◌, Bool, true, false, not, List, [], ◌∷◌, map, flat_map, codes, bytes_eq, rules}
 use Rattle.std.proofs.Common.{length}
 use Rattle.std.proofs.Common.{Option, Some, None, refl, sym, ap, subst, ◌∙◌, arith, true≢false, nat_cmp}
-use Rattle.std.specs.Prelude.{◌==◌, IsTrue}
+use Rattle.std.specs.Prelude.{◌==◌, IsTrue, IfSome}
 use Rattle.std.specs.List.{AllByRecursion, AllZip, list_all}
 use Rattle.std.specs.Cmp.Lexicographic.{slice_cmp}
 use Rattle.std.specs.FinMap.{find, get-from_entries}
@@ -27,9 +27,9 @@ use Rattle.bi_hash.specs.Digests.{digest_of}
 use Rattle.bi_hash.proofs.DigestBytes.{AreBytes-digest_of}
 use Rattle.bi_fit.specs.declared.key.Key.{Key}
 use Rattle.bi_fit.specs.declared.key.Key.TheVariants.{Kernel, Fdt, Ramdisk, Firmware, Loadables, Script}
-use Rattle.bi_fit.specs.Names.{is_payload_name, all_keys, images_name, configurations_name, default_name}
+use Rattle.bi_fit.specs.Names.{is_payload_name, key_name, all_keys, images_name, configurations_name, default_name}
 use Rattle.bi_fit.specs.ImageTree.{IsProperty, ArePropertiesByName, HaveByteNames, IsApart, IsImageTree, each_own}
-use Rattle.bi_fit.specs.Building.{HeadModel, ImageSpecModel, ConfigurationSpecModel, PlanModel, text_value, cell_property}
+use Rattle.bi_fit.specs.Building.{HeadModel, ImageSpecModel, ConfigurationSpecModel, PlanModel, text_value, description_of, cell_property}
 use Rattle.bi_fit.specs.Building.{built_root_properties, built_image_properties, built_hash_properties, built_hash_nodes, built_images}
 use Rattle.bi_fit.specs.Building.{list_property, built_configuration_properties, built_configurations, built_tree}
 use Rattle.bi_fit.specs.Building.{names_of_images, configuration_names, IsText, IsImageSpec, CanBeBuilt, IsConfigurationSpec, IsPlanFor}
@@ -78,6 +78,12 @@ good_entry : (number : Option ℕ) → AreBlobProperties (cell_property (codes "
 good_entry None = tt
 good_entry (Some number) = (tested_property _ _ (cell number) refl (AreBytes-cell number), tt)
 
+-- A description is bytes.
+bytes-description_of : (head : HeadModel) (own : Option (List ℕ)) → IsText head.description → IfSome own IsText →
+    AreBytes (description_of head own)
+bytes-description_of head None description is = description.bytes
+bytes-description_of head (Some text) description is = is.bytes
+
 -- The properties of an image node are good.
 good_image : (head : HeadModel) (image : ImageSpecModel) → IsText head.description → IsImageSpec image →
     AreBlobProperties (built_image_properties head image)
@@ -86,7 +92,9 @@ good_image head image description is = (
   (
     tested_property _ _ (text_value image.compression) refl (bytes-text_value image.compression is.compression.bytes),
     (
-      tested_property _ _ (text_value head.description) refl (bytes-text_value head.description description.bytes),
+      tested_property _ _ (text_value (description_of head image.description)) refl
+          (bytes-text_value (description_of head image.description)
+          (bytes-description_of head image.description description is.description)),
       (
         tested_property _ _ (text_value image.os) refl (bytes-text_value image.os is.os.bytes),
         (
@@ -149,33 +157,44 @@ listed_bytes images each listed are =
     (each-map AreBytes (λ (image : ImageSpecModel). image.name) images
     (each-weaker IsImageSpec (λ image. AreBytes image.name) (λ image is. is.name_bytes) images each)) among) listed are)
 
--- The property of a key is good.
-good_list : (key : Key) (listed : List (List ℕ)) → AreBytes (strings_of listed) → AreBlobProperties (list_property key listed)
-good_list key [] bytes = tt
-good_list Kernel (name ∷ later) bytes = (tested_property _ _ (strings_of (name ∷ later)) refl bytes, tt)
-good_list Fdt (name ∷ later) bytes = (tested_property _ _ (strings_of (name ∷ later)) refl bytes, tt)
-good_list Ramdisk (name ∷ later) bytes = (tested_property _ _ (strings_of (name ∷ later)) refl bytes, tt)
-good_list Firmware (name ∷ later) bytes = (tested_property _ _ (strings_of (name ∷ later)) refl bytes, tt)
-good_list Loadables (name ∷ later) bytes = (tested_property _ _ (strings_of (name ∷ later)) refl bytes, tt)
-good_list Script (name ∷ later) bytes = (tested_property _ _ (strings_of (name ∷ later)) refl bytes, tt)
+-- A property that lists texts is good if its name passes the test.
+good_list : (byte : ℕ) (later : List ℕ) (texts : List (List ℕ)) → list_all may_be_in_name (byte ∷ later) ≡ true →
+    AreBytes (strings_of texts) → AreBlobProperties (list_property (byte ∷ later) texts)
+good_list byte later [] passes bytes = tt
+good_list byte later (text ∷ texts) passes bytes = (tested_property byte later (strings_of (text ∷ texts)) passes bytes, tt)
+
+-- So the property of a key is good.
+good_key : (key : Key) (listed : List (List ℕ)) → AreBytes (strings_of listed) → AreBlobProperties (list_property (key_name key) listed)
+good_key Kernel listed bytes = good_list _ _ listed refl bytes
+good_key Fdt listed bytes = good_list _ _ listed refl bytes
+good_key Ramdisk listed bytes = good_list _ _ listed refl bytes
+good_key Firmware listed bytes = good_list _ _ listed refl bytes
+good_key Loadables listed bytes = good_list _ _ listed refl bytes
+good_key Script listed bytes = good_list _ _ listed refl bytes
 
 -- The properties of these keys are good.
 good_lists : (keys : List Key) (images : List ImageSpecModel) (configuration : ConfigurationSpecModel) →
     AllByRecursion IsImageSpec images → IsConfigurationSpec (names_of_images images) configuration →
-    AreBlobProperties (flat_map (λ key. list_property key (configuration.lists key)) keys)
+    AreBlobProperties (flat_map (λ key. list_property (key_name key) (configuration.lists key)) keys)
 good_lists [] images configuration each is = tt
 good_lists (key ∷ later) images configuration each is =
-    each-append (λ property. IsProperty property.0 property.1) (list_property key (configuration.lists key))
-    (flat_map (λ key. list_property key (configuration.lists key)) later)
-    (good_list key (configuration.lists key) (listed_bytes images each (configuration.lists key) (is.of_images key)))
+    each-append (λ property. IsProperty property.0 property.1) (list_property (key_name key) (configuration.lists key))
+    (flat_map (λ key. list_property (key_name key) (configuration.lists key)) later)
+    (good_key key (configuration.lists key) (listed_bytes images each (configuration.lists key) (is.of_images key)))
     (good_lists later images configuration each is)
 
 -- The properties of a configuration are good.
 good_configuration : (head : HeadModel) (images : List ImageSpecModel) (configuration : ConfigurationSpecModel) → CanBeBuilt head images →
     IsConfigurationSpec (names_of_images images) configuration → AreBlobProperties (built_configuration_properties head configuration)
 good_configuration head images configuration can is = (
-  tested_property _ _ (text_value head.description) refl (bytes-text_value head.description can.description.bytes),
-  good_lists all_keys images configuration can.each is,
+  tested_property _ _ (text_value (description_of head configuration.description)) refl
+      (bytes-text_value (description_of head configuration.description)
+      (bytes-description_of head configuration.description can.description is.description)),
+  each-append (λ property. IsProperty property.0 property.1) (list_property (codes "compatible") configuration.compatible)
+      (flat_map (λ key. list_property (key_name key) (configuration.lists key)) all_keys)
+      (good_list _ _ configuration.compatible refl (AreBytes-strings_of configuration.compatible
+      (each-weaker IsText AreBytes (λ text is. is.bytes) configuration.compatible is.compatible)))
+      (good_lists all_keys images configuration can.each is),
 )
 
 -- The names of the configuration nodes are those of the configurations.

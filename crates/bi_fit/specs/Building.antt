@@ -1,5 +1,5 @@
 use Rattle.std.specs.Prelude.{ℕ, ◌+◌, ◌^◌, ◌<◌, IsTrue, List, [], ◌∷◌, ◌++◌, map, flat_map}
-use Rattle.std.specs.Prelude.{Option, Some, None, codes, filter, bytes_eq, length}
+use Rattle.std.specs.Prelude.{Option, Some, None, IfSome, codes, filter, bytes_eq, length}
 use Rattle.std.specs.Fmt.{decimal}
 use Rattle.std.specs.List.{AllByRecursion}
 use Rattle.std.specs.FinMap.{empty, from_entries}
@@ -27,10 +27,12 @@ pub record HeadModel : Type 0 where
   pub description : List ℕ
   pub time : ℕ
 
--- An image to be built: its name, the names of its type, architecture, operating system and
--- compression, where it is loaded and entered, if that is given, and its payload.
+-- An image to be built: its name, its own description, if it has one, the names of its type,
+-- architecture, operating system and compression, where it is loaded and entered, if that is given,
+-- and its payload.
 pub record ImageSpecModel : Type 0 where
   pub name : List ℕ
+  pub description : Option (List ℕ)
   pub image_type : List ℕ
   pub arch : List ℕ
   pub os : List ℕ
@@ -39,9 +41,12 @@ pub record ImageSpecModel : Type 0 where
   pub entry : Option ℕ
   pub payload : List ℕ
 
--- A configuration to be built: its name, and the names of the images that it lists under each key.
+-- A configuration to be built: its name, its own description, if it has one, the boards that it is
+-- compatible with, and the names of the images that it lists under each key.
 pub record ConfigurationSpecModel : Type 0 where
   pub name : List ℕ
+  pub description : Option (List ℕ)
+  pub compatible : List (List ℕ)
   pub lists : Key → List (List ℕ)
 
 -- What is built of images: the configurations, the name of the default one, and the algorithms of
@@ -70,6 +75,11 @@ abbrev pub cell_property : List ℕ → Option ℕ → List Property
 cell_property name None = []
 cell_property name (Some number) = (name, cell number) ∷ []
 
+-- The description of an image or a configuration: its own, or else that of the tree.
+abbrev pub description_of : HeadModel → Option (List ℕ) → List ℕ
+description_of head None = head.description
+description_of head (Some text) = text
+
 -- The properties of the root.
 abbrev pub built_root_properties : HeadModel → List Property
 built_root_properties head =
@@ -83,7 +93,7 @@ abbrev pub built_image_properties : HeadModel → ImageSpecModel → List Proper
 built_image_properties head image =
     (codes "arch", text_value image.arch)
     ∷ (codes "compression", text_value image.compression)
-    ∷ (codes "description", text_value head.description)
+    ∷ (codes "description", text_value (description_of head image.description))
     ∷ (codes "os", text_value image.os)
     ∷ (codes "type", text_value image.image_type)
     ∷ (cell_property (codes "load") image.load ++ cell_property (codes "entry") image.entry)
@@ -114,16 +124,17 @@ built_images head algorithms (image ∷ later) =
     (built_hash_nodes 1 algorithms image.payload)
     (built_images head algorithms later)
 
--- The property of a key that lists these names, if there is at least one.
-abbrev pub list_property : Key → List (List ℕ) → List Property
-list_property key [] = []
-list_property key (name ∷ later) = (key_name key, strings_of (name ∷ later)) ∷ []
+-- The property with this name that lists these texts, if there is at least one.
+abbrev pub list_property : (name : List ℕ) → List (List ℕ) → List Property
+list_property name [] = []
+list_property name (text ∷ later) = (name, strings_of (text ∷ later)) ∷ []
 
 -- The properties of a configuration.
 abbrev pub built_configuration_properties : HeadModel → ConfigurationSpecModel → List Property
 built_configuration_properties head configuration =
-    (codes "description", text_value head.description)
-    ∷ flat_map (λ key. list_property key (configuration.lists key)) all_keys
+    (codes "description", text_value (description_of head configuration.description))
+    ∷ (list_property (codes "compatible") configuration.compatible
+    ++ flat_map (λ key. list_property (key_name key) (configuration.lists key)) all_keys)
 
 -- The configuration nodes.
 abbrev pub built_configurations : HeadModel → List ConfigurationSpecModel → Nodes PropertyMap
@@ -166,6 +177,8 @@ configuration_name = codes "conf-1"
 abbrev pub configuration_by_types : List ImageSpecModel → ConfigurationSpecModel
 configuration_by_types images = record {
   name = configuration_name;
+  description = None;
+  compatible = [];
   lists = λ key. names_of_type (type_name key) images;
 }
 
@@ -186,6 +199,7 @@ pub record IsText (text : List ℕ) : Type 0 where
 pub record IsImageSpec (image : ImageSpecModel) : Type 0 where
   pub is_name : IsChildName image.name
   pub name_bytes : AreBytes image.name
+  pub description : IfSome image.description IsText
   pub image_type : IsText image.image_type
   pub arch : IsText image.arch
   pub os : IsText image.os
@@ -208,6 +222,8 @@ pub record IsConfigurationSpec (image_names : List (List ℕ))
     (configuration : ConfigurationSpecModel) : Type 0 where
   pub is_name : IsChildName configuration.name
   pub name_bytes : AreBytes configuration.name
+  pub description : IfSome configuration.description IsText
+  pub compatible : AllByRecursion IsText configuration.compatible
   pub of_images : (key : Key)
       → AllByRecursion (λ name. IsTrue (is_among name image_names)) (configuration.lists key)
 

@@ -22,15 +22,18 @@ use Rattle.bi_fit.specs.Names.{images_name, configurations_name, default_name}
 use Rattle.bi_fit.specs.Text.{alignment_of, with_payloads}
 use Rattle.bi_fit.specs.declared.building.by_types.TypeLists.{TypeLists}
 use Rattle.bi_fit.specs.declared.building.document.BuiltParts.{BuiltParts}
-use Rattle.bi_fit.specs.declared.building.lists.KeyLists.{KeyLists}
+use Rattle.bi_fit.specs.declared.building.lists.ListValues.{ListValues}
 use Rattle.bi_fit.specs.NamedImages.{head_model, named_models, configuration_spec_models}
 use Rattle.bi_fit.specs.NamedImages.{plan_model}
 use Rattle.bi_fit.specs.PropertyMapModels.{PropertyMapModel, with_property_value}
 
 -- What is added to the document of a tree to be built, node by node.
 
--- These lists have the names that a configuration lists under each key.
-pub record AreKeyLists (configuration : ConfigurationSpecModel) (lists : KeyLists) : Type 0 where
+-- These values have the texts of a configuration under `compatible`, and the names that it lists
+-- under each key.
+pub record AreListValues (configuration : ConfigurationSpecModel) (lists : ListValues)
+    : Type 0 where
+  pub compatible : lists.compatible.items ≡ strings_of configuration.compatible
   pub kernel : lists.kernel.items ≡ strings_of (configuration.lists Kernel)
   pub fdt : lists.fdt.items ≡ strings_of (configuration.lists Fdt)
   pub ramdisk : lists.ramdisk.items ≡ strings_of (configuration.lists Ramdisk)
@@ -128,5 +131,5 @@ pub record ArePrepared (parts : BuiltParts) : Type 0 where
       ≡ map (λ image. built_digests parts.plan.algorithms.now image.payload.now) parts.images.now
   pub hash_names : map string_bytes parts.hash_names.now
       ≡ hash_node_names 1 parts.plan.algorithms.now
-  pub lists : AllZip AreKeyLists (configuration_spec_models parts.plan.configurations.now)
+  pub lists : AllZip AreListValues (configuration_spec_models parts.plan.configurations.now)
       parts.lists.now

@@ -1,4 +1,4 @@
-use Rattle.std.specs.Prelude.{◌≡◌, ℕ, List, [], ◌∷◌, ◌++◌, length, map, codes, Some, None}
+use Rattle.std.specs.Prelude.{◌≡◌, ℕ, List, [], ◌∷◌, ◌++◌, length, map, flat_map, codes, Some, None}
 use Rattle.bi_base.specs.Cells.{cell}
 use Rattle.bi_blob.specs.Tree.{Nodes, none, node, Root, Property, names}
 use Rattle.bi_blob.specs.Blob.{off_dt_strings, size_dt_struct, size_dt_strings}
@@ -13,7 +13,8 @@ use Rattle.bi_fit.specs.Text.{normal_tree, fit_text}
 use Rattle.bi_fit.specs.ImageTree.{ImageTree}
 use Rattle.bi_fit.specs.Judgement.{ListedImage, ListedImages, NoKey, listed_of, default_of}
 use Rattle.bi_fit.specs.Building.{HeadModel, ImageSpecModel, ConfigurationSpecModel, PlanModel}
-use Rattle.bi_fit.specs.Building.{text_value, type_name}
+use Rattle.bi_fit.specs.Building.{text_value, type_name, cell_property, list_property}
+use Rattle.bi_fit.specs.Building.{built_image_properties}
 use Rattle.bi_fit.specs.Building.{built_hash_nodes, hash_node_name, built_tree, plan_by_types}
 use Rattle.bi_fit.specs.Building.{built_configuration_properties, configuration_by_types}
 
@@ -27,6 +28,7 @@ known_head = record { description = codes "k"; time = 1 }
 abbrev pub known_kernel : ImageSpecModel
 known_kernel = record {
   name = codes "kernel-1";
+  description = None;
   image_type = codes "kernel";
   arch = codes "arm";
   os = codes "linux";
@@ -39,6 +41,7 @@ known_kernel = record {
 abbrev pub known_ramdisk : ImageSpecModel
 known_ramdisk = record {
   name = codes "ramdisk-1";
+  description = None;
   image_type = codes "ramdisk";
   arch = codes "arm";
   os = codes "linux";
@@ -196,10 +199,20 @@ lists_of_second key = []
 
 -- Both configurations.
 abbrev pub first_board : ConfigurationSpecModel
-first_board = record { name = codes "a"; lists = lists_of_first }
+first_board = record {
+  name = codes "a";
+  description = None;
+  compatible = [];
+  lists = lists_of_first;
+}
 
 abbrev pub second_board : ConfigurationSpecModel
-second_board = record { name = codes "b"; lists = lists_of_second }
+second_board = record {
+  name = codes "b";
+  description = None;
+  compatible = [];
+  lists = lists_of_second;
+}
 
 -- Two boards with the same kernel, of which the second is the default. Each image has a CRC-32 and
 -- a SHA-256.
@@ -305,3 +318,53 @@ pub record HashNodesAreKnown : Type 0 where
   pub twice : names (built_hash_nodes 1 (Crc32 ∷ Crc32 ∷ []) (codes "x"))
       ≡ codes "hash-1" ∷ codes "hash-2" ∷ []
   pub tenth : hash_node_name 10 ≡ codes "hash-10"
+
+-- The kernel of both boards with a description of its own, the first board with two names of what
+-- it is compatible with, and the second with a description of its own.
+abbrev pub described_kernel : ImageSpecModel
+described_kernel = record kernel_of_boards { description = Some (codes "Kernel") }
+
+abbrev pub compatible_board : ConfigurationSpecModel
+compatible_board =
+    record first_board { compatible = codes "acme,one" ∷ codes "acme,two" ∷ [] }
+
+abbrev pub described_board : ConfigurationSpecModel
+described_board = record second_board { description = Some (codes "second") }
+
+-- An own description is in place of that of the tree, and `compatible` has its texts in their
+-- order. Without any of them nothing is in place of the description of the tree, and there is no
+-- `compatible`.
+pub record OwnTextsAreKnown : Type 0 where
+  pub image : built_image_properties known_head described_kernel
+      ≡ (codes "arch", text_value (codes "arm"))
+      ∷ (codes "compression", text_value (codes "none"))
+      ∷ (codes "description", text_value (codes "Kernel"))
+      ∷ (codes "os", text_value (codes "linux"))
+      ∷ (codes "type", text_value (codes "kernel"))
+      ∷ (codes "load", cell 0x8000)
+      ∷ (codes "entry", cell 0x8000)
+      ∷ []
+  pub compatible : built_configuration_properties known_head compatible_board
+      ≡ (codes "description", text_value (codes "k"))
+      ∷ (codes "compatible", text_value (codes "acme,one") ++ text_value (codes "acme,two"))
+      ∷ (codes "kernel", text_value (codes "k"))
+      ∷ (codes "fdt", text_value (codes "d"))
+      ∷ []
+  pub configuration : built_configuration_properties known_head described_board
+      ≡ (codes "description", text_value (codes "second"))
+      ∷ (codes "kernel", text_value (codes "k"))
+      ∷ (codes "fdt", text_value (codes "e") ++ text_value (codes "d"))
+      ∷ []
+  pub plain_image : (head : HeadModel) (image : ImageSpecModel) → image.description ≡ None
+      → built_image_properties head image
+      ≡ (codes "arch", text_value image.arch)
+      ∷ (codes "compression", text_value image.compression)
+      ∷ (codes "description", text_value head.description)
+      ∷ (codes "os", text_value image.os)
+      ∷ (codes "type", text_value image.image_type)
+      ∷ (cell_property (codes "load") image.load ++ cell_property (codes "entry") image.entry)
+  pub plain_configuration : (head : HeadModel) (configuration : ConfigurationSpecModel)
+      → configuration.description ≡ None → configuration.compatible ≡ []
+      → built_configuration_properties head configuration
+      ≡ (codes "description", text_value head.description)
+      ∷ flat_map (λ key. list_property (key_name key) (configuration.lists key)) all_keys

@@ -1,4 +1,5 @@
 use Rattle.std.specs.Prelude.{ℕ, List, map, Some}
+use Rattle.std.specs.Option.{option_map}
 use Rattle.bi_base.specs.Slices.{bytes_of}
 use Rattle.bi_fit.specs.declared.building.ConfigurationSpec.{ConfigurationSpec}
 use Rattle.bi_fit.specs.declared.building.Head.{Head}
@@ -21,6 +22,7 @@ head_model head = record { description = head.description.now; time = head.time 
 abbrev pub named_model : NamedImage → ImageSpecModel
 named_model image = record {
   name = image.name.now;
+  description = option_map (λ text. text.now) image.description;
   image_type = image.image_type.now;
   arch = image.arch.now;
   os = image.os.now;
@@ -47,6 +49,8 @@ names_listed configuration Script = bytes_of configuration.script.now
 abbrev pub configuration_spec_model : ConfigurationSpec → ConfigurationSpecModel
 configuration_spec_model configuration = record {
   name = configuration.name.now;
+  description = option_map (λ text. text.now) configuration.description;
+  compatible = bytes_of configuration.compatible.now;
   lists = names_listed configuration;
 }
 

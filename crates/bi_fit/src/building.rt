@@ -35,7 +35,8 @@ use std::alloc::Global;
 /// What a flattened image tree to be built has in addition to its images.
 #[derive(Clone, Copy, Debug, PartialEq, Eq)]
 pub struct Head<'a> {
-    /// The description of the tree, of each image and of each configuration, without a zero byte.
+    /// The description of the tree, and of each image and each configuration that has none of its
+    /// own, without a zero byte.
     pub description: &'a [u8],
     /// The time of creation, in seconds since 1970.
     pub time: u32,
@@ -47,6 +48,8 @@ pub struct Head<'a> {
 pub struct NamedImage<'a> {
     /// The name of the image node.
     pub name: &'a [u8],
+    /// The description of the image, without a zero byte, if it has one of its own.
+    pub description: Option<&'a [u8]>,
     /// The name of the image type.
     pub image_type: &'a [u8],
     /// The name of the processor architecture.
@@ -63,12 +66,17 @@ pub struct NamedImage<'a> {
     pub payload: &'a [u8],
 }
 
-/// A configuration to be built: its name, and the names of the images that it lists under each key.
-/// The property of a key without names is left out.
+/// A configuration to be built: its name, its description, the boards that it is for, and the names
+/// of the images that it lists under each key. The property of a key without names is left out, and
+/// so is `compatible` without a board.
 #[derive(Clone, Copy, Debug, PartialEq, Eq)]
 pub struct ConfigurationSpec<'a> {
     /// The name of the configuration node.
     pub name: &'a [u8],
+    /// The description of the configuration, without a zero byte, if it has one of its own.
+    pub description: Option<&'a [u8]>,
+    /// The texts of the property `compatible`, each without a zero byte, in their order.
+    pub compatible: &'a [&'a [u8]],
     /// The images under `kernel`.
     pub kernel: &'a [&'a [u8]],
     /// The images under `fdt`.
@@ -98,10 +106,11 @@ pub struct Plan<'a> {
 /// digests of its payload by the algorithms of the plan, and `/configurations` has the
 /// configurations of the plan.
 ///
-/// Requires: the tree can be built. The description has no zero byte, each image has a different
-/// name that a node may have, and no name of a type, an architecture, an operating system or a
-/// compression has a zero byte. Each configuration has a different name that a node may have, and
-/// lists only names of images. The default is one of the configurations.
+/// Requires: the tree can be built. No description has a zero byte, each image has a different name
+/// that a node may have, and no name of a type, an architecture, an operating system or a
+/// compression has a zero byte. Each configuration has a different name that a node may have, lists
+/// only names of images, and has no text under `compatible` with a zero byte. The default is one of
+/// the configurations.
 ///
 /// Takes time linear in the length of the text and in the number of images. It also digests each
 /// payload once for each algorithm.

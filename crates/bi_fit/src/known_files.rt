@@ -11,7 +11,7 @@ ghost use Rattle.bi_fit.specs.KnownFiles.{UnusedHaveNoMeaning};
 ghost use Rattle.bi_fit.specs.KnownFaults.{WithoutImages, RegionsHaveFaults, FirstFaultCounts};
 ghost use Rattle.bi_fit.specs.KnownJudgements.{ListsAreRead, HashesAreJudged};
 ghost use Rattle.bi_fit.specs.KnownBuilds.{BuiltIsKnown, EachKeyIsKnown, BoardsAreKnown};
-ghost use Rattle.bi_fit.specs.KnownBuilds.{HashNodesAreKnown};
+ghost use Rattle.bi_fit.specs.KnownBuilds.{HashNodesAreKnown, OwnTextsAreKnown};
 ghost use Rattle.bi_fit.specs.KnownUpdates.{UpdatesAreKnown};
 ghost use Rattle.bi_fit.specs.KnownKept.{KeptOfFilesIsKnown, KeptOfPayloadsIsKnown};
 
@@ -136,6 +136,13 @@ pub fn boards_are_known()
 /// An image has as many hash nodes as there are algorithms, with known names.
 pub fn hash_nodes_are_known()
     ensures hashes { HashNodesAreKnown }
+{}
+
+/// An image and a configuration with a description of their own have it, and a configuration with
+/// boards has their texts under `compatible`. Without any of them, each has the description of the
+/// tree, and no configuration has `compatible`.
+pub fn own_texts_are_known()
+    ensures texts { OwnTextsAreKnown }
 {}
 
 /// A small tree has known nodes and properties after an update of the time, of the digests and of

@@ -6,6 +6,7 @@ use Rattle.std.specs.Option.{is_some}
 use Rattle.std.proofs.lemmas.Bool.Decides.{Decides-not}
 use Rattle.bi_base.specs.Limits.{Limits}
 use Rattle.bi_blob.specs.Layout.{is_among}
+use Rattle.bi_blob.specs.Tree.{HasNoZero}
 use Rattle.bi_blob.proofs.CheckDecisions.{le_decides, eq_decides, both_decide, all_decide, lacks_byte, lacks_byte_decides, is_new}
 use Rattle.bi_blob.proofs.CheckDecisions.{is_new_decides}
 use Rattle.bi_blob.proofs.CheckDecisions.{is_child_name, is_child_name_decides, first_failing, fault_by_test}
@@ -17,7 +18,7 @@ use Rattle.bi_fit.specs.Text.{fit_text}
 use Rattle.bi_legacy.specs.Codes.{os_names, arch_names, type_names, compression_names, name_of_code}
 use Rattle.bi_norm.specs.declared.fit_building.ImageSpec.{ImageSpec}
 use Rattle.bi_norm.specs.FitBuilding.{PlanSpecModel, ImageTextsModel, BuildCheck, HasFewImages, HasFewConfigurations, HasTextDescription}
-use Rattle.bi_norm.specs.FitBuilding.{HasFields, HasCodeNames, HasNewName, ListsImages, HasNewConfigurationName, HasDefault, FitsLimit}
+use Rattle.bi_norm.specs.FitBuilding.{HasFields, HasCodeNames, HasNewName, ListsImages, HasNewConfigurationName, HasDefault, HasOwnTexts, FitsLimit}
 use Rattle.bi_norm.specs.FitBuilding.{AreTexts, HasTypeOrTexts, HasNames, HasNamesIfNeeded, ListsOnly, HasKnownDefault, BuildPasses}
 use Rattle.bi_norm.specs.FitBuilding.{tree_of_images, build_fault, build_checks, IsBuildFaultAs}
 
@@ -108,6 +109,7 @@ build_test limits form head plan images (ListsImages at) =
     is_child_name at.configuration.name && lists_only at.image_names at.configuration
 build_test limits form head plan images (HasNewConfigurationName at) = is_new at.configuration.name at.earlier
 build_test limits form head plan images HasDefault = has_known_default plan.configurations plan.default
+build_test limits form head plan images (HasOwnTexts at) = list_all (lacks_byte 0) at.texts
 build_test limits form head plan images FitsLimit = nat_le (length (fit_text form (tree_of_images head plan images))) limits.file
 
 pub build_test_decides : (limits : Limits) (form : Form) (head : Head) (plan : PlanSpecModel) (images : List ImageSpec)
@@ -125,6 +127,8 @@ build_test_decides limits form head plan images (ListsImages at) =
     both_decide _ _ (is_child_name_decides at.configuration.name) (lists_only_decides at.image_names at.configuration)
 build_test_decides limits form head plan images (HasNewConfigurationName at) = is_new_decides at.configuration.name at.earlier
 build_test_decides limits form head plan images HasDefault = has_known_default_decides plan.configurations plan.default
+build_test_decides limits form head plan images (HasOwnTexts at) =
+    all_decide HasNoZero (lacks_byte 0) (lacks_byte_decides 0) at.texts
 build_test_decides limits form head plan images FitsLimit =
     le_decides (length (fit_text form (tree_of_images head plan images))) limits.file
 

@@ -1,6 +1,6 @@
 use Rattle.std.proofs.Common.{◌≡◌, ◌<◌, ◌≤◌, ◌^◌, ℕ, true, List, [], ◌∷◌, ◌++◌, map, length, Option, None, Some, refl, sym, ap, subst}
-use Rattle.std.proofs.Common.{◌∙◌, inl, append-nil, rules}
-use Rattle.std.specs.Prelude.{◌||◌}
+use Rattle.std.proofs.Common.{◌∙◌, inl, inr, append-nil, rules}
+use Rattle.std.specs.Prelude.{◌||◌, IfSome}
 use Rattle.std.specs.List.{AllByRecursion}
 use Rattle.std.proofs.lemmas.Slice.Eq.{bytes_eq-Decides}
 use Rattle.bi_base.specs.declared.fault.Error.{Error}
@@ -21,11 +21,12 @@ use Rattle.bi_fit.specs.Building.{names_of_images, configuration_names}
 use Rattle.bi_fit.specs.NamedImages.{head_model}
 use Rattle.bi_fit.proofs.BuiltConfigurations.{by_types_is_plan}
 use Rattle.bi_norm.specs.declared.fit_building.ImageSpec.{ImageSpec}
-use Rattle.bi_norm.specs.FitBuilding.{PlanSpecModel, GivenImage, given_images, spec_model, spec_models, whole_plan, plan_of_tree}
+use Rattle.bi_norm.specs.FitBuilding.{PlanSpecModel, GivenImage, planned_images, spec_model, spec_models, whole_plan, plan_of_tree}
+use Rattle.bi_norm.specs.FitBuilding.{own_texts_checks, own_texts_of_image, own_texts_of_configuration}
 use Rattle.bi_norm.specs.FitBuilding.{BuildCheck}
 use Rattle.bi_norm.specs.FitBuilding.{HasDefault, HasKnownDefault, BuildPasses, build_fault, spec_checks, configuration_checks}
 use Rattle.bi_norm.specs.FitBuilding.{names_of_specs, early_checks, first_image_checks, IsBuildFaultAs, IsBuildErrorAs}
-use Rattle.bi_norm.specs.BuildChecks.{AllPass, IsFirstFailure, IsImagesError}
+use Rattle.bi_norm.specs.BuildChecks.{AllPass, IsFirstFailure, IsImagesError, IsPlainImage, IsPlainConfiguration, HasTextValues}
 use Rattle.bi_norm.proofs.ImageChecks.{names_of_given, names-given_images}
 
 -- What passes the checks can be built, and an error of some checks is one of building, after the checks before them.
@@ -36,14 +37,53 @@ names-spec_model [] = refl
 names-spec_model (image ∷ later) = ap (λ l. image.spec.name.now ∷ l) (names-spec_model later)
 
 pub names-spec_models : (plan : PlanSpecModel) (images : List ImageSpec) → names_of_images (spec_models plan images) ≡ names_of_specs images
-names-spec_models plan images = names-spec_model (given_images plan.texts images) ∙ names-given_images plan.texts images
+names-spec_models plan images =
+    names-spec_model (planned_images plan images) ∙ names-given_images plan.texts plan.descriptions images
+
+-- Images that can be built without their own descriptions can be built with them, if these are texts,
+each_can_be_built : (images : List ImageSpecModel) → AllByRecursion IsPlainImage images →
+    AllByRecursion (λ image. IfSome image.description IsText) images → AllByRecursion IsImageSpec images
+each_can_be_built [] plain texts = tt
+each_can_be_built (image ∷ later) plain texts = (
+  record {
+    is_name = plain.0.is_name;
+    name_bytes = plain.0.name_bytes;
+    description = texts.0;
+    image_type = plain.0.image_type;
+    arch = plain.0.arch;
+    os = plain.0.os;
+    compression = plain.0.compression;
+    payload_bytes = plain.0.payload_bytes;
+  },
+  each_can_be_built later plain.1 texts.1,
+)
+
+-- and so can configurations.
+each_configuration : (image_names : List (List ℕ)) (configurations : List ConfigurationSpecModel) →
+    AllByRecursion (IsPlainConfiguration image_names) configurations → AllByRecursion HasTextValues configurations →
+    AllByRecursion (IsConfigurationSpec image_names) configurations
+each_configuration image_names [] plain texts = tt
+each_configuration image_names (configuration ∷ later) plain texts = (
+  record {
+    is_name = plain.0.is_name;
+    name_bytes = plain.0.name_bytes;
+    description = texts.0.description;
+    compatible = texts.0.compatible;
+    of_images = plain.0.of_images;
+  },
+  each_configuration image_names later plain.1 texts.1,
+)
 
 -- Images that pass can be built.
 pub can_be_built : (head : Head) (plan : PlanSpecModel) (images : List ImageSpec) → IsText head.description.now →
-    AllByRecursion IsImageSpec (spec_models plan images) → AreDistinct (names_of_specs images) →
+    AllByRecursion IsPlainImage (spec_models plan images) →
+    AllByRecursion (λ image. IfSome image.description IsText) (spec_models plan images) → AreDistinct (names_of_specs images) →
     CanBeBuilt (head_model head) (spec_models plan images)
-can_be_built head plan images text each distinct =
-    record { description = text; each = each; distinct = subst AreDistinct (sym (names-spec_models plan images)) distinct }
+can_be_built head plan images text plain texts distinct = record {
+  description = text;
+  each = each_can_be_built (spec_models plan images) plain texts;
+  distinct = subst AreDistinct (sym (names-spec_models plan images)) distinct;
+}
 
 -- The default is one of the configurations, even if it is only the first by default.
 default_is : (first : ConfigurationSpecModel) (later : List ConfigurationSpecModel) (default : Option (List ℕ)) (algorithms : List Algo)
@@ -63,10 +103,12 @@ whole_is_plan (first ∷ later) default algorithms images each distinct known fe
     record { each = each; distinct = distinct; default = default_is first later default algorithms images known; few = few }
 
 pub plan_is : (plan : PlanSpecModel) (images : List ImageSpec) →
-    AllByRecursion (IsConfigurationSpec (names_of_specs images)) plan.configurations →
+    AllByRecursion (IsPlainConfiguration (names_of_specs images)) plan.configurations → AllByRecursion HasTextValues plan.configurations →
     AreDistinct (configuration_names plan.configurations) → HasKnownDefault plan.configurations plan.default →
     length plan.algorithms < 2 ^ 64 → IsPlanFor (names_of_images (spec_models plan images)) (plan_of_tree plan images)
-plan_is plan images each distinct known few = search (rules, whole_is_plan, names-spec_models)
+plan_is plan images plain texts distinct known few =
+    let each = each_configuration (names_of_specs images) plan.configurations plain texts in
+    search (rules, whole_is_plan, names-spec_models)
 
 -- Checks of the first image pass where all checks of images do.
 pub first_of_images : (limits : Limits) (form : Form) (head : Head) (plan : PlanSpecModel) (all : List ImageSpec) (given : List GivenImage)
@@ -80,37 +122,50 @@ module _ (limits : Limits) (form : Form) (head : Head) (plan : PlanSpecModel) (i
   Passes = BuildPasses limits form head plan images
 
   abbrev of_images : List BuildCheck
-  of_images = spec_checks 0 [] (given_images plan.texts images)
+  of_images = spec_checks 0 [] (planned_images plan images)
 
   abbrev of_configurations : List BuildCheck
   of_configurations = configuration_checks (names_of_specs images) 0 [] plan.configurations
 
+  abbrev of_image_texts : List BuildCheck
+  of_image_texts = own_texts_checks 0 (map own_texts_of_image (spec_models plan images))
+
+  abbrev of_configuration_texts : List BuildCheck
+  of_configuration_texts = own_texts_checks 0 (map own_texts_of_configuration plan.configurations)
+
+  abbrev from_default : List BuildCheck
+  from_default = HasDefault ∷ (of_image_texts ++ of_configuration_texts)
+
   -- All pass.
   pub early_pass : length images ≤ limits.file → length plan.configurations ≤ limits.file → HasNoZero head.description.now →
       AllPass of_images → AllPass of_configurations → HasKnownDefault plan.configurations plan.default →
-      HasNoFault Passes (early_checks plan images)
-  early_pass few few_configurations text image_pass configuration_pass known = (
+      AllPass of_image_texts → AllPass of_configuration_texts → HasNoFault Passes (early_checks plan images)
+  early_pass few few_configurations text image_pass configuration_pass known texts_pass configuration_texts_pass = (
     few,
     (
       few_configurations,
       (
         text,
-        each-append Passes of_images (of_configurations ++ HasDefault ∷ []) (image_pass limits form head plan images)
-            (each-append Passes of_configurations (HasDefault ∷ []) (configuration_pass limits form head plan images) (known, tt)),
+        each-append Passes of_images (of_configurations ++ from_default) (image_pass limits form head plan images)
+            (each-append Passes of_configurations from_default (configuration_pass limits form head plan images) (
+              known,
+              each-append Passes of_image_texts of_configuration_texts (texts_pass limits form head plan images)
+                  (configuration_texts_pass limits form head plan images),
+            )),
       ),
     ),
   )
 
-  -- A fault of images, configurations or the default is one of building, after the checks before them.
+  -- A fault of images, configurations, the default or texts is one of building, after the checks before them.
   module _ (few : length images ≤ limits.file) (few_configurations : length plan.configurations ≤ limits.file)
       (text : HasNoZero head.description.now) where
     later_fault : (fault : Fault) →
-        IsFirstFault Passes (build_fault limits plan) (of_images ++ (of_configurations ++ HasDefault ∷ [])) fault →
+        IsFirstFault Passes (build_fault limits plan) (of_images ++ (of_configurations ++ from_default)) fault →
         IsBuildFaultAs limits form head plan images fault
     later_fault fault first = search (rules, IsFirstFault-front)
 
     -- An error of the checks of images.
-    pub image_error : (error : Error) → IsImagesError (given_images plan.texts images) error →
+    pub image_error : (error : Error) → IsImagesError (planned_images plan images) error →
         IsBuildErrorAs limits form head plan images error
     image_error (Refused fault) is = search (rules, later_fault, IsFirstFault-front)
     image_error OutOfMemory is = (few, (few_configurations, (text, is limits form head plan images)))
@@ -128,7 +183,7 @@ module _ (limits : Limits) (form : Form) (head : Head) (plan : PlanSpecModel) (i
           few_configurations,
           (
             text,
-            first_of_images limits form head plan images (given_images plan.texts images) []
+            first_of_images limits form head plan images (planned_images plan images) []
                 (subst (HasNoFault Passes) (sym (append-nil of_images)) (pass limits form head plan images)),
           ),
         ),
@@ -136,12 +191,38 @@ module _ (limits : Limits) (form : Form) (head : Head) (plan : PlanSpecModel) (i
       configuration_error ReadFailed is = is
       configuration_error WriteFailed is = is
 
-      -- The fault of the default.
-      pub default_fault : (fault : Fault) → AllPass of_configurations → ¬ (HasKnownDefault plan.configurations plan.default) →
-          fault ≡ build_fault limits plan HasDefault → IsBuildFaultAs limits form head plan images fault
-      default_fault fault configuration_pass fails is =
-          later_fault fault
-          (IsFirstFault-after Passes (build_fault limits plan) of_images (of_configurations ++ HasDefault ∷ []) fault
-          (pass limits form head plan images)
-          (IsFirstFault-after Passes (build_fault limits plan) of_configurations (HasDefault ∷ []) fault
-          (configuration_pass limits form head plan images) (inl (fails, is))))
+      module _ (configuration_pass : AllPass of_configurations) where
+        -- A fault of the checks from that of the default on.
+        last_fault : (fault : Fault) → IsFirstFault Passes (build_fault limits plan) from_default fault →
+            IsBuildFaultAs limits form head plan images fault
+        last_fault fault first =
+            later_fault fault
+            (IsFirstFault-after Passes (build_fault limits plan) of_images (of_configurations ++ from_default) fault
+            (pass limits form head plan images)
+            (IsFirstFault-after Passes (build_fault limits plan) of_configurations from_default fault
+            (configuration_pass limits form head plan images) first))
+
+        -- The fault of the default.
+        pub default_fault : (fault : Fault) → ¬ (HasKnownDefault plan.configurations plan.default) →
+            fault ≡ build_fault limits plan HasDefault → IsBuildFaultAs limits form head plan images fault
+        default_fault fault fails is = last_fault fault (inl (fails, is))
+
+        module _ (known : HasKnownDefault plan.configurations plan.default) where
+          -- The fault of the descriptions of images.
+          pub image_text_fault : (fault : Fault) → IsFirstFailure of_image_texts fault → IsBuildFaultAs limits form head plan images fault
+          image_text_fault fault first =
+              last_fault fault (inr (
+                known,
+                IsFirstFault-front Passes (build_fault limits plan) of_image_texts of_configuration_texts fault
+                    (first limits form head plan images),
+              ))
+
+          -- The fault of the texts of configurations.
+          pub configuration_text_fault : (fault : Fault) → AllPass of_image_texts → IsFirstFailure of_configuration_texts fault →
+              IsBuildFaultAs limits form head plan images fault
+          configuration_text_fault fault texts_pass first =
+              last_fault fault (inr (
+                known,
+                IsFirstFault-after Passes (build_fault limits plan) of_image_texts of_configuration_texts fault
+                    (texts_pass limits form head plan images) (first limits form head plan images),
+              ))

@@ -59,7 +59,17 @@ built_text_is_known any text = ((λ is. is.is_text), is_built any text)
 
 pub plan_fields_are_known : PlanFieldsAreKnown
 plan_fields_are_known any =
-    record { names = refl; lists = refl; default = refl; no_default = refl; algorithms = refl; texts = refl }
+    record {
+      names = refl;
+      lists = refl;
+      default = refl;
+      no_default = refl;
+      algorithms = refl;
+      texts = refl;
+      descriptions = refl;
+      configuration_descriptions = refl;
+      compatibles = refl;
+    }
 
 -- ---- legacy images
 

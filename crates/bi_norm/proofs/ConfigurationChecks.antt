@@ -1,4 +1,5 @@
-use Rattle.std.proofs.Common.{◌≡◌, ℕ, ◌+◌, ◌<◌, ◌≤◌, Bool, true, List, [], ◌∷◌, ◌++◌, take, drop, get_or, length, bytes_eq, refl, sym, ap}
+use Rattle.std.proofs.Common.{◌≡◌, ℕ, ◌+◌, ◌<◌, ◌≤◌, Bool, true, List, [], ◌∷◌, ◌++◌, None, take, drop, get_or, length, bytes_eq, refl, sym}
+use Rattle.std.proofs.Common.{ap}
 use Rattle.std.proofs.Common.{subst, ◌∙◌, inl, inr, arith, rules}
 use Rattle.std.specs.Prelude.{◌||◌, IsTrue}
 use Rattle.std.specs.Borrow.{Bor}
@@ -14,18 +15,18 @@ use Rattle.bi_blob.specs.NameSets.{HoldsNames}
 use Rattle.bi_blob.specs.Tree.{IsChildName, IsNew}
 use Rattle.bi_fit.specs.declared.building.ConfigurationSpec.{ConfigurationSpec}
 use Rattle.bi_fit.specs.declared.key.Key.TheVariants.{Kernel, Fdt, Ramdisk, Firmware, Loadables, Script}
-use Rattle.bi_fit.specs.Building.{ConfigurationSpecModel, configuration_names, IsConfigurationSpec}
+use Rattle.bi_fit.specs.Building.{ConfigurationSpecModel, configuration_names}
 use Rattle.bi_fit.specs.NamedImages.{configuration_spec_model, configuration_spec_models}
 use Rattle.bi_norm.specs.FitBuilding.{BuildCheck, ListsImages, HasNewConfigurationName, IndexedConfiguration, configuration_checks}
 use Rattle.bi_norm.specs.FitBuilding.{ListsOnly}
-use Rattle.bi_norm.specs.BuildChecks.{AllPass, IsFirstFailure, holds_name}
+use Rattle.bi_norm.specs.BuildChecks.{AllPass, IsFirstFailure, IsPlainConfiguration, holds_name}
 use Rattle.bi_norm.proofs.LeftChecks.{AreLeftChecks, fails_first, left_after}
 
 -- If the configurations before one pass their checks, a fault of it is the first of all, and otherwise the configurations after it decide.
 
 -- What a list of configurations gives past its end.
 abbrev pub no_configuration_model : ConfigurationSpecModel
-no_configuration_model = record { name = []; lists = λ key. [] }
+no_configuration_model = record { name = []; description = None; compatible = []; lists = λ key. [] }
 
 -- The names before the next configuration.
 pub configuration_names_more : (configurations : List ConfigurationSpecModel) (index : ℕ) (d : ConfigurationSpecModel) →
@@ -49,8 +50,8 @@ module _ (image_names : List (List ℕ)) (configurations : List ConfigurationSpe
   -- The configurations before one passed their checks, so those from it on decide.
   pub record ConfigurationsPassedTo (index : ℕ) : Type 0 where
     pub left : AreLeftChecks all (from_index index)
-    pub can : AllByRecursion (IsConfigurationSpec image_names) (drop index configurations) →
-        AllByRecursion (IsConfigurationSpec image_names) configurations
+    pub can : AllByRecursion (IsPlainConfiguration image_names) (drop index configurations) →
+        AllByRecursion (IsPlainConfiguration image_names) configurations
 
   module _ (index : ℕ) (d : ConfigurationSpecModel) (within : index < length configurations) (passed : ConfigurationsPassedTo index) where
     abbrev configuration : ConfigurationSpecModel
@@ -81,7 +82,7 @@ module _ (image_names : List (List ℕ)) (configurations : List ConfigurationSpe
         (λ limits form head plan images. inl (fails, refl))
 
     -- So is a name that is not new.
-    pub configuration_name_fails : IsConfigurationSpec image_names configuration →
+    pub configuration_name_fails : IsPlainConfiguration image_names configuration →
         ¬ (IsNew configuration.name (configuration_names (take index configurations))) →
         IsFirstFailure all (record { cause = DuplicateNode; offset = index })
     configuration_name_fails can held =
@@ -89,13 +90,13 @@ module _ (image_names : List (List ℕ)) (configurations : List ConfigurationSpe
         (λ limits form head plan images. inr ((can.is_name, can.of_images), inl (held, refl)))
 
     -- Else the configurations after it decide.
-    pub configuration_passed : IsConfigurationSpec image_names configuration →
+    pub configuration_passed : IsPlainConfiguration image_names configuration →
         IsNew configuration.name (configuration_names (take index configurations)) → ConfigurationsPassedTo (index + 1)
     configuration_passed can new = record {
       left = left_after all own_checks (from_index (index + 1)) left
           (λ limits form head plan images. ((can.is_name, can.of_images), (new, tt)));
       can = λ later.
-          passed.can (subst (AllByRecursion (IsConfigurationSpec image_names)) (sym (drop_more configurations index d within))
+          passed.can (subst (AllByRecursion (IsPlainConfiguration image_names)) (sym (drop_more configurations index d within))
           (can, later));
     }
 
@@ -107,9 +108,9 @@ module _ (image_names : List (List ℕ)) (configurations : List ConfigurationSpe
       (sym (drop_all index configurations past)) (λ limits form head plan images. tt))
 
   pub configurations_can : (index : ℕ) → length configurations ≤ index → ConfigurationsPassedTo index →
-      AllByRecursion (IsConfigurationSpec image_names) configurations
+      AllByRecursion (IsPlainConfiguration image_names) configurations
   configurations_can index past passed =
-      passed.can (subst (AllByRecursion (IsConfigurationSpec image_names)) (sym (drop_all index configurations past)) tt)
+      passed.can (subst (AllByRecursion (IsPlainConfiguration image_names)) (sym (drop_all index configurations past)) tt)
 
 -- ---- names in a set
 
@@ -177,6 +178,8 @@ past_models configurations index past = omega (arith, length-map configurations 
 abbrev pub no_configuration_spec : ConfigurationSpec
 no_configuration_spec = record {
   name = record { ref_ptr = (0, 0); now = [] };
+  description = None;
+  compatible = record { ref_ptr = (0, 0); now = [] };
   kernel = record { ref_ptr = (0, 0); now = [] };
   fdt = record { ref_ptr = (0, 0); now = [] };
   ramdisk = record { ref_ptr = (0, 0); now = [] };

@@ -89,6 +89,7 @@ later_can image (key ∷ keys) (part ∷ parts) bytes = (
   record {
     is_name = name_is_child key;
     name_bytes = name_is_bytes key;
+    description = tt;
     image_type = type_is_text key;
     arch = code_text arch_names image.arch arch_texts;
     os = code_text os_names image.os os_texts;
@@ -107,6 +108,7 @@ each_can image (key ∷ keys) (part ∷ parts) bytes = (
   record {
     is_name = name_is_child key;
     name_bytes = name_is_bytes key;
+    description = tt;
     image_type = type_is_text key;
     arch = code_text arch_names image.arch arch_texts;
     os = code_text os_names image.os os_texts;

@@ -1,23 +1,22 @@
 use Rattle.std.proofs.Common.{◌≡◌, ℕ, zero, suc, ◌+◌, ◌<◌, ◌≤◌, List, [], ◌∷◌, ◌++◌, map, take, drop, get_or, slice_get, length, Option}
 use Rattle.std.proofs.Common.{None, Some, rules}
-use Rattle.std.proofs.Common.{refl, sym, ap, subst, ◌∙◌, inl, inr, arith}
+use Rattle.std.proofs.Common.{refl, sym, ap, ap₂, subst, ◌∙◌, inl, inr, arith}
 use Rattle.std.specs.Prelude.{unwrap_or}
 use Rattle.std.specs.List.{AllByRecursion}
 use Rattle.std.specs.Option.{option_map}
 use Rattle.std.proofs.lemmas.Bool.{cases_lt}
 use Rattle.std.proofs.lemmas.List.{drop_more, drop_all, take_more, map-append}
-use Rattle.std.proofs.lemmas.Option.{slice_get-map}
 use Rattle.bi_base.specs.declared.fault.Fault.{Fault}
 use Rattle.bi_base.specs.declared.fault.Cause.TheVariants.{DuplicateNode}
 use Rattle.bi_blob.specs.Tree.{IsNew}
 use Rattle.bi_fit.specs.declared.building.NamedImage.{NamedImage}
-use Rattle.bi_fit.specs.Building.{IsImageSpec}
 use Rattle.bi_fit.specs.NamedImages.{named_model, named_models}
 use Rattle.bi_norm.specs.declared.fit_building.ImageSpec.{ImageSpec}
 use Rattle.bi_norm.specs.declared.fit_building.ImageTexts.{ImageTexts}
-use Rattle.bi_norm.specs.FitBuilding.{ImageTextsModel, image_texts_model, texts_models, GivenImage, given_images, spec_model, BuildCheck}
+use Rattle.std.specs.Borrow.{Bor}
+use Rattle.bi_norm.specs.FitBuilding.{ImageTextsModel, image_texts_model, texts_models, descriptions_models, GivenImage, given_images, spec_model, BuildCheck}
 use Rattle.bi_norm.specs.FitBuilding.{HasFields, HasCodeNames, HasNewName, spec_checks, first_image_checks, names_of_specs}
-use Rattle.bi_norm.specs.BuildChecks.{AllPass, IsFirstFailure, at_index, given_image, fields_and_names}
+use Rattle.bi_norm.specs.BuildChecks.{AllPass, IsFirstFailure, IsPlainImage, at_index, given_image, given_for, fields_and_names}
 use Rattle.bi_norm.proofs.LeftChecks.{AreLeftChecks, fails_first, left_after}
 
 -- If the images before one pass their checks, a fault of its fields, codes or name is the first of all, and otherwise the images after it
@@ -29,19 +28,19 @@ use Rattle.bi_norm.proofs.LeftChecks.{AreLeftChecks, fails_first, left_after}
 abbrev pub names_of_given : List GivenImage → List (List ℕ)
 names_of_given images = map (λ image. image.spec.name.now) images
 
--- Texts change no name,
-pub names-given_images : (texts : List (Option ImageTextsModel)) (images : List ImageSpec) →
-    names_of_given (given_images texts images) ≡ names_of_specs images
-names-given_images texts [] = refl
-names-given_images [] (spec ∷ later) = ap (λ l. spec.name.now ∷ l) (names-given_images [] later)
-names-given_images (first ∷ texts) (spec ∷ later) = ap (λ l. spec.name.now ∷ l) (names-given_images texts later)
+-- Texts and descriptions change no name,
+pub names-given_images : (texts : List (Option ImageTextsModel)) (descriptions : List (Option (List ℕ))) (images : List ImageSpec) →
+    names_of_given (given_images texts descriptions images) ≡ names_of_specs images
+names-given_images texts descriptions [] = refl
+names-given_images texts descriptions (spec ∷ later) =
+    ap (λ l. spec.name.now ∷ l) (names-given_images (drop 1 texts) (drop 1 descriptions) later)
 
 -- and there are as many images with them.
-pub length-given_images : (texts : List (Option ImageTextsModel)) (images : List ImageSpec) →
-    length (given_images texts images) ≡ length images
-length-given_images texts [] = refl
-length-given_images [] (spec ∷ later) = ap suc (length-given_images [] later)
-length-given_images (first ∷ texts) (spec ∷ later) = ap suc (length-given_images texts later)
+pub length-given_images : (texts : List (Option ImageTextsModel)) (descriptions : List (Option (List ℕ))) (images : List ImageSpec) →
+    length (given_images texts descriptions images) ≡ length images
+length-given_images texts descriptions [] = refl
+length-given_images texts descriptions (spec ∷ later) =
+    ap suc (length-given_images (drop 1 texts) (drop 1 descriptions) later)
 
 -- What a list of images gives past its end.
 abbrev pub no_spec : ImageSpec
@@ -57,28 +56,40 @@ no_spec = record {
 }
 
 abbrev pub no_given : GivenImage
-no_given = record { spec = no_spec; texts = None }
+no_given = record { spec = no_spec; texts = None; description = None }
 
--- The image at an index has the texts at the index, if there are any.
-given_at : (texts : List (Option ImageTextsModel)) (images : List ImageSpec) (index : ℕ) → index < length images →
-    get_or (given_images texts images) index no_given
-    ≡ record { spec = get_or images index no_spec; texts = unwrap_or (slice_get texts index) None }
-given_at texts [] index within = absurd (omega (arith, within))
-given_at [] (spec ∷ later) zero within = refl
-given_at [] (spec ∷ later) (suc index) within = given_at [] later index (omega (arith, within))
-given_at (first ∷ texts) (spec ∷ later) zero within = refl
-given_at (first ∷ texts) (spec ∷ later) (suc index) within = given_at texts later index (omega (arith, within))
+-- What is given after the first is given one further on,
+given_further : {X : Type 0} (given : List (Option X)) (index : ℕ) → get_or (drop 1 given) index None ≡ get_or given (suc index) None
+given_further [] index = refl
+given_further (first ∷ given) index = refl
 
--- The same for the texts of the code.
-found_texts : (found : Option (Option ImageTexts)) →
-    unwrap_or (option_map (option_map image_texts_model) found) None ≡ option_map image_texts_model (unwrap_or found None)
-found_texts None = refl
-found_texts (Some texts) = refl
+-- so the image at an index has what is given at the index.
+given_at : (texts : List (Option ImageTextsModel)) (descriptions : List (Option (List ℕ))) (images : List ImageSpec) (index : ℕ) →
+    index < length images →
+    get_or (given_images texts descriptions images) index no_given
+    ≡ record { spec = get_or images index no_spec; texts = get_or texts index None; description = get_or descriptions index None }
+given_at texts descriptions [] index within = absurd (omega (arith, within))
+given_at texts descriptions (spec ∷ later) zero within = refl
+given_at texts descriptions (spec ∷ later) (suc index) within =
+    given_at (drop 1 texts) (drop 1 descriptions) later index (omega (arith, within))
+    ∙ ap₂ (λ texts description. record { spec = get_or later index no_spec; texts = texts; description = description })
+    (given_further texts index) (given_further descriptions index)
 
-pub given_here : (texts : List (Option ImageTexts)) (images : List ImageSpec) (index : ℕ) (found : Option ImageTexts) →
-    index < length images → found ≡ unwrap_or (slice_get texts index) None →
-    given_image (get_or images index no_spec) found ≡ get_or (given_images (texts_models texts) images) index no_given
-given_here texts images index found within is = search (rules, found_texts, slice_get-map, given_at)
+-- The same for what the code finds.
+found_at : {X Y : Type 0} (model : X → Y) (given : List (Option X)) (index : ℕ) (found : Option X) →
+    found ≡ unwrap_or (slice_get given index) None → option_map model found ≡ get_or (map (option_map model) given) index None
+found_at model [] index found is = ap (option_map model) is
+found_at model (first ∷ given) zero found is = ap (option_map model) is
+found_at model (first ∷ given) (suc index) found is = found_at model given index found is
+
+pub given_here : (texts : List (Option ImageTexts)) (descriptions : List (Option (Bor (List ℕ)))) (images : List ImageSpec) (index : ℕ)
+    (found : Option ImageTexts) (description : Option (Bor (List ℕ))) → index < length images →
+    found ≡ unwrap_or (slice_get texts index) None → description ≡ unwrap_or (slice_get descriptions index) None →
+    given_image (get_or images index no_spec) found description ≡ get_or (given_for texts descriptions images) index no_given
+given_here texts descriptions images index found description within is described =
+    ap₂ (λ texts description. record { spec = get_or images index no_spec; texts = texts; description = description })
+    (found_at image_texts_model texts index found is) (found_at (λ text. text.now) descriptions index description described)
+    ∙ sym (given_at (texts_models texts) (descriptions_models descriptions) images index within)
 
 -- ---- the checks from one image on
 
@@ -89,8 +100,8 @@ checks_from images index = spec_checks index (names_of_given (take index images)
 -- The images before one passed their checks, so those from it on decide.
 pub record ArePassedTo (images : List GivenImage) (index : ℕ) : Type 0 where
   pub left : AreLeftChecks (spec_checks 0 [] images) (checks_from images index)
-  pub can : AllByRecursion (λ image. IsImageSpec (spec_model image)) (drop index images) →
-      AllByRecursion (λ image. IsImageSpec (spec_model image)) images
+  pub can : AllByRecursion (λ image. IsPlainImage (spec_model image)) (drop index images) →
+      AllByRecursion (λ image. IsPlainImage (spec_model image)) images
   pub first : 0 < index → AllPass (first_image_checks images)
 
 -- The checks of an image that look at no other, if it is the first.
@@ -149,14 +160,14 @@ module _ (images : List GivenImage) (index : ℕ) (d : GivenImage) (within : ind
   ]
 
   -- Else the images after it decide.
-  pub passed_more : AllPass (fields_and_names index image) → IsImageSpec (spec_model image) →
+  pub passed_more : AllPass (fields_and_names index image) → IsPlainImage (spec_model image) →
       IsNew image.spec.name.now (names_of_given (take index images)) → ArePassedTo images (index + 1)
   passed_more fine can new = record {
     left = left_after (spec_checks 0 [] images) own_checks (checks_from images (index + 1)) left (λ limits form head plan all.
         let both = fine limits form head plan all in
         (both.0, (both.1.0, (new, tt))));
     can = λ later.
-        passed.can (subst (AllByRecursion (λ image. IsImageSpec (spec_model image))) (sym (drop_more images index d within)) (can, later));
+        passed.can (subst (AllByRecursion (λ image. IsPlainImage (spec_model image))) (sym (drop_more images index d within)) (can, later));
     first = λ some. first_passed fine;
   }
 
@@ -165,8 +176,8 @@ pub passed_all : (images : List GivenImage) (index : ℕ) → length images ≤ 
 passed_all images index past = search (rules, left, drop_all)
 
 pub can_all : (images : List GivenImage) (index : ℕ) → length images ≤ index →
-    AllByRecursion (λ image. IsImageSpec (spec_model image)) (drop index images)
-can_all images index past = subst (AllByRecursion (λ image. IsImageSpec (spec_model image))) (sym (drop_all index images past)) tt
+    AllByRecursion (λ image. IsPlainImage (spec_model image)) (drop index images)
+can_all images index past = subst (AllByRecursion (λ image. IsPlainImage (spec_model image))) (sym (drop_all index images past)) tt
 
 -- The images with their texts, and one more.
 pub named_more : (images : List GivenImage) (index : ℕ) (d : GivenImage) → index < length images →

@@ -8,6 +8,7 @@ pub mod ConvertedParts
 pub mod Conversions
 pub mod Comparisons
 pub mod LeftChecks
+pub mod OwnTexts
 pub mod ImageChecks
 pub mod ConfigurationChecks
 pub mod BuildTests

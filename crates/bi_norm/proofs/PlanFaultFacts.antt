@@ -4,9 +4,10 @@ use Rattle.bi_blob.proofs.CheckDecisions.{lacks_byte, is_new, is_property_name, 
 use Rattle.bi_fit.specs.declared.form.Form.TheVariants.{Embedded}
 use Rattle.bi_norm.specs.declared.fit_building.ImageSpec.{ImageSpec}
 use Rattle.bi_norm.specs.FitBuilding.{PlanSpecModel, BuildCheck, HasFewConfigurations, HasFields, HasNewName, ListsImages}
-use Rattle.bi_norm.specs.FitBuilding.{HasNewConfigurationName, HasDefault, build_fault, build_checks, IsBuildFaultAs, plain_plan}
+use Rattle.bi_norm.specs.FitBuilding.{HasNewConfigurationName, HasDefault, HasOwnTexts, build_fault, build_checks, IsBuildFaultAs, plain_plan}
 use Rattle.bi_norm.specs.KnownBuildFaults.{head_like, kernel_like, narrow_limits, description_with_zero}
 use Rattle.bi_norm.specs.KnownPlans.{only_scripts, configuration_with, plan_with, plan_with_texts, firmware_texts, two_configurations}
+use Rattle.bi_norm.specs.KnownPlans.{plan_with_descriptions, bad_text, described_configuration, compatible_configuration}
 use Rattle.bi_norm.specs.KnownPlans.{two_kernels, BuildPlansAreKnown, PlanFaultsAreKnown}
 use Rattle.bi_norm.proofs.BuildTests.{build_test, first_build_fault}
 
@@ -14,7 +15,15 @@ use Rattle.bi_norm.proofs.BuildTests.{build_test, first_build_fault}
 
 pub build_plans_are_known : BuildPlansAreKnown
 build_plans_are_known any =
-    record { first_default = refl; given_default = refl; by_types = refl; first_texts = refl; second_texts = refl }
+    record {
+      first_default = refl;
+      given_default = refl;
+      by_types = refl;
+      first_texts = refl;
+      second_texts = refl;
+      first_description = refl;
+      second_description = refl;
+    }
 
 -- The first check that the test finds to fail gives the fault.
 plan_fails : (any : Bor (List ℕ)) (description : List ℕ) (plan : PlanSpecModel) (images : List ImageSpec) (check : BuildCheck) →
@@ -39,13 +48,21 @@ plan_faults_are_known any = (
     missing_image = plan_fails any (codes "k") (plan_with (configuration_with (codes "d") (codes "a" ∷ codes "c" ∷ []) ∷ []))
         (two_kernels any) (ListsImages _) refl;
     missing_script = plan_fails any (codes "k")
-        (plan_with (record { name = codes "d"; lists = only_scripts (codes "c" ∷ []) } ∷ [])) (two_kernels any) (ListsImages _) refl;
+        (plan_with (record (configuration_with (codes "d") []) { lists = only_scripts (codes "c" ∷ []) } ∷ [])) (two_kernels any) (ListsImages _) refl;
     same_names = plan_fails any (codes "k") (plan_with (configuration_with (codes "d") [] ∷ two_configurations)) []
         (HasNewConfigurationName _) refl;
     other_default = plan_fails any (codes "k") (record (plan_with two_configurations) { default = Some (codes "a") })
         (two_kernels any) HasDefault refl;
     default_of_none = plan_fails any (codes "k") (record plain_plan { default = Some (codes "conf-1") }) (two_kernels any)
         HasDefault refl;
+    image_description = plan_fails any (codes "k") (plan_with_descriptions (None ∷ Some bad_text ∷ [])) (two_kernels any)
+        (HasOwnTexts _) refl;
+    configuration_description = plan_fails any (codes "k")
+        (plan_with (described_configuration (codes "c") (codes "x") ∷ described_configuration (codes "d") bad_text ∷ []))
+        (two_kernels any) (HasOwnTexts _) refl;
+    compatible = plan_fails any (codes "k")
+        (plan_with (compatible_configuration (codes "c") []
+        ∷ compatible_configuration (codes "d") (codes "x" ∷ bad_text ∷ []) ∷ [])) (two_kernels any) (HasOwnTexts _) refl;
   },
   record {
     count_before_description = plan_fails any description_with_zero
@@ -61,5 +78,14 @@ plan_faults_are_known any = (
     same_name_before_default = plan_fails any (codes "k")
         (record (plan_with (configuration_with (codes "d") [] ∷ two_configurations)) { default = Some (codes "a") }) []
         (HasNewConfigurationName _) refl;
+    default_before_description = plan_fails any (codes "k")
+        (record (plan_with two_configurations) { default = Some (codes "a"); descriptions = Some bad_text ∷ [] }) (two_kernels any)
+        HasDefault refl;
+    image_before_configuration_text = plan_fails any (codes "k")
+        (record (plan_with (compatible_configuration (codes "c") (bad_text ∷ []) ∷ [])) { descriptions = None ∷ Some bad_text ∷ [] })
+        (two_kernels any) (HasOwnTexts _) refl;
+    compatible_before_next_description = plan_fails any (codes "k")
+        (plan_with (configuration_with (codes "b") [] ∷ compatible_configuration (codes "c") (bad_text ∷ [])
+        ∷ described_configuration (codes "d") bad_text ∷ [])) (two_kernels any) (HasOwnTexts _) refl;
   },
 )

@@ -1,4 +1,5 @@
-use Rattle.std.specs.Prelude.{ℕ, Bool, List, [], ◌∷◌, Option}
+use Rattle.std.specs.Prelude.{ℕ, Bool, List, [], ◌∷◌, Option, None, IfSome}
+use Rattle.std.specs.List.{AllByRecursion}
 use Rattle.std.specs.Borrow.{Bor}
 use Rattle.std.specs.BTreeSet.{BTreeSet, contains}
 use Rattle.std.specs.Cmp.Lexicographic.{slice_cmp}
@@ -12,11 +13,14 @@ use Rattle.bi_base.specs.Checks.{IsFirstFault, HasNoFault}
 use Rattle.bi_base.specs.Limits.{Limits}
 use Rattle.bi_fit.specs.declared.form.Form.{Form}
 use Rattle.bi_fit.specs.declared.building.Head.{Head}
+use Rattle.bi_fit.specs.Building.{ImageSpecModel, ConfigurationSpecModel, IsText}
+use Rattle.bi_fit.specs.Building.{IsImageSpec, IsConfigurationSpec}
 use Rattle.bi_norm.specs.declared.fit_building.ImageSpec.{ImageSpec}
 use Rattle.bi_norm.specs.declared.fit_building.ImageTexts.{ImageTexts}
 use Rattle.bi_norm.specs.FitBuilding.{BuildCheck, HasFields, HasCodeNames, BuildPasses, build_fault}
 use Rattle.bi_norm.specs.FitBuilding.{PlanSpecModel, ImageTextsModel, image_texts_model}
-use Rattle.bi_norm.specs.FitBuilding.{GivenImage, IndexedImage}
+use Rattle.bi_norm.specs.FitBuilding.{GivenImage, IndexedImage, given_images, texts_models}
+use Rattle.bi_norm.specs.FitBuilding.{descriptions_models}
 use Rattle.bi_norm.specs.FitBuilding.{spec_checks, first_image_checks}
 
 -- The checks of what is to be built, one after the other.
@@ -49,9 +53,28 @@ abbrev pub fields_and_names : ℕ → GivenImage → List BuildCheck
 fields_and_names index image =
     HasFields (at_index index [] image) ∷ HasCodeNames (at_index index [] image) ∷ []
 
--- An image with its texts, if there are any.
-abbrev pub given_image : ImageSpec → Option ImageTexts → GivenImage
-given_image spec texts = record { spec = spec; texts = option_map image_texts_model texts }
+-- An image with its texts and its description, if there are any.
+abbrev pub given_image : ImageSpec → Option ImageTexts → Option (Bor (List ℕ)) → GivenImage
+given_image spec texts description = record {
+  spec = spec;
+  texts = option_map image_texts_model texts;
+  description = option_map (λ text. text.now) description;
+}
+
+-- The images with what a call gives for them.
+abbrev pub given_for : List (Option ImageTexts) → List (Option (Bor (List ℕ))) → List ImageSpec
+    → List GivenImage
+given_for texts descriptions images =
+    given_images (texts_models texts) (descriptions_models descriptions) images
+
+-- An image that can be built without its own description, and a configuration that can be built
+-- without its own texts. Their checks come last.
+abbrev pub IsPlainImage : ImageSpecModel → Type 0
+IsPlainImage image = IsImageSpec (record image { description = None })
+
+abbrev pub IsPlainConfiguration : (image_names : List (List ℕ)) → ConfigurationSpecModel → Type 0
+IsPlainConfiguration image_names configuration =
+    IsConfigurationSpec image_names (record configuration { description = None; compatible = [] })
 
 -- Whether a set has a name.
 abbrev pub holds_name : BTreeSet (Bor (List ℕ)) → Bor (List ℕ) → Bool
@@ -63,3 +86,8 @@ pub record TextsAreBytes (texts : ImageTextsModel) : Type 0 where
   pub arch : AreBytes texts.arch
   pub os : AreBytes texts.os
   pub compression : AreBytes texts.compression
+
+-- A configuration whose own texts can be values of properties.
+pub record HasTextValues (configuration : ConfigurationSpecModel) : Type 0 where
+  pub description : IfSome configuration.description IsText
+  pub compatible : AllByRecursion IsText configuration.compatible

@@ -88,6 +88,7 @@ code_name names code = unwrap_or (name_of_code names code) []
 abbrev pub first_image : LegacyImage → Key → List ℕ → ImageSpecModel
 first_image image key part = record {
   name = image_name key;
+  description = None;
   image_type = type_name key;
   arch = code_name arch_names image.arch;
   os = code_name os_names image.os;
@@ -101,6 +102,7 @@ first_image image key part = record {
 abbrev pub later_image : LegacyImage → Key → List ℕ → ImageSpecModel
 later_image image key part = record {
   name = image_name key;
+  description = None;
   image_type = type_name key;
   arch = code_name arch_names image.arch;
   os = code_name os_names image.os;

@@ -1,5 +1,7 @@
 use Rattle.std.specs.Prelude.{ℕ, ◌≡◌, ◌≢◌, ◌+◌, ◌≤◌, ⊤, IsTrue, List, [], ◌∷◌, ◌++◌, length, map}
-use Rattle.std.specs.Prelude.{Option, None, Some, IsSome, IfSome, unwrap_or}
+use Rattle.std.specs.Prelude.{Option, None, Some, IsSome, IfSome, unwrap_or, option_to_list}
+use Rattle.std.specs.Prelude.{drop, get_or}
+use Rattle.std.specs.Borrow.{Bor}
 use Rattle.std.specs.List.{AllByRecursion}
 use Rattle.std.specs.Option.{option_map}
 use Rattle.bi_base.specs.Errors.{FailsWith}
@@ -50,15 +52,19 @@ image_texts_model texts = record {
 
 -- What a caller plans: configurations, the name of the default one, if it is given, the algorithms
 -- of the hash nodes of each image, and for each image, in order, the texts that are given instead
--- of its codes, if any.
+-- of its codes, if any, and its own description, if it has one.
 pub record PlanSpecModel : Type 0 where
   pub configurations : List ConfigurationSpecModel
   pub default : Option (List ℕ)
   pub algorithms : List Algo
   pub texts : List (Option ImageTextsModel)
+  pub descriptions : List (Option (List ℕ))
 
 abbrev pub texts_models : List (Option ImageTexts) → List (Option ImageTextsModel)
 texts_models texts = map (option_map image_texts_model) texts
+
+abbrev pub descriptions_models : List (Option (Bor (List ℕ))) → List (Option (List ℕ))
+descriptions_models descriptions = map (option_map (λ text. text.now)) descriptions
 
 abbrev pub plan_spec_model : PlanSpec → PlanSpecModel
 plan_spec_model plan = record {
@@ -66,24 +72,42 @@ plan_spec_model plan = record {
   default = option_map (λ name. name.now) plan.default;
   algorithms = plan.algorithms.now;
   texts = texts_models plan.texts.now;
+  descriptions = descriptions_models plan.descriptions.now;
 }
 
 -- The plan in which nothing is given but the SHA-256 of each image.
 abbrev pub plain_plan : PlanSpecModel
-plain_plan = record { configurations = []; default = None; algorithms = Sha256 ∷ []; texts = [] }
+plain_plan = record {
+  configurations = [];
+  default = None;
+  algorithms = Sha256 ∷ [];
+  texts = [];
+  descriptions = [];
+}
 
--- An image to be built, with the texts that are given instead of its codes, if there are any.
+-- An image to be built, with the texts that are given instead of its codes, if there are any, and
+-- its own description, if it has one.
 pub record GivenImage : Type 0 where
   pub spec : ImageSpec
   pub texts : Option ImageTextsModel
+  pub description : Option (List ℕ)
 
--- Images with their texts. None are given for the images after the last texts, and texts after
--- those of the last image are not looked at.
-abbrev pub given_images : List (Option ImageTextsModel) → List ImageSpec → List GivenImage
-given_images texts [] = []
-given_images [] (spec ∷ later) = record { spec = spec; texts = None } ∷ given_images [] later
-given_images (first ∷ texts) (spec ∷ later) =
-    record { spec = spec; texts = first } ∷ given_images texts later
+-- Images with their texts and descriptions. None are given for the images after the last of either,
+-- and those after the last image are not looked at.
+abbrev pub given_images : List (Option ImageTextsModel) → List (Option (List ℕ)) → List ImageSpec
+    → List GivenImage
+given_images texts descriptions [] = []
+given_images texts descriptions (spec ∷ later) =
+    record {
+      spec = spec;
+      texts = get_or texts 0 None;
+      description = get_or descriptions 0 None;
+    }
+    ∷ given_images (drop 1 texts) (drop 1 descriptions) later
+
+-- The images that a plan is for, with what it gives for them.
+abbrev pub planned_images : PlanSpecModel → List ImageSpec → List GivenImage
+planned_images plan images = given_images plan.texts plan.descriptions images
 
 -- The names of the codes of an image.
 abbrev pub names_of_codes : ImageSpec → ImageTextsModel
@@ -98,10 +122,11 @@ names_of_codes spec = record {
 abbrev pub texts_for : GivenImage → ImageTextsModel
 texts_for given = unwrap_or given.texts (names_of_codes given.spec)
 
--- The image to be built, with its texts.
+-- The image to be built, with its texts and its description.
 abbrev pub spec_model : GivenImage → ImageSpecModel
 spec_model given = record {
   name = given.spec.name.now;
+  description = given.description;
   image_type = (texts_for given).image_type;
   arch = (texts_for given).arch;
   os = (texts_for given).os;
@@ -113,7 +138,7 @@ spec_model given = record {
 
 -- The images that are built.
 abbrev pub spec_models : PlanSpecModel → List ImageSpec → List ImageSpecModel
-spec_models plan images = map spec_model (given_images plan.texts images)
+spec_models plan images = map spec_model (planned_images plan images)
 
 -- The plan of the tree. If no configuration is given, one lists the images by their types. If no
 -- default is given, it is the first configuration.
@@ -151,6 +176,11 @@ pub record IndexedConfiguration : Type 0 where
   pub image_names : List (List ℕ)
   pub configuration : ConfigurationSpecModel
 
+-- The texts that only one image or one configuration has, and its index.
+pub record IndexedTexts : Type 0 where
+  pub index : ℕ
+  pub texts : List (List ℕ)
+
 -- The checks of what is to be built.
 pub data BuildCheck : Type 0 where
   HasFewImages : BuildCheck
@@ -162,6 +192,7 @@ pub data BuildCheck : Type 0 where
   ListsImages : IndexedConfiguration → BuildCheck
   HasNewConfigurationName : IndexedConfiguration → BuildCheck
   HasDefault : BuildCheck
+  HasOwnTexts : IndexedTexts → BuildCheck
   FitsLimit : BuildCheck
 
 -- The code of multi-file images (U-Boot, include/image.h: IH_TYPE_MULTI).
@@ -222,6 +253,7 @@ BuildPasses limits form head plan images (HasNewConfigurationName at) =
     IsNew at.configuration.name at.earlier
 BuildPasses limits form head plan images HasDefault =
     HasKnownDefault plan.configurations plan.default
+BuildPasses limits form head plan images (HasOwnTexts at) = AllByRecursion HasNoZero at.texts
 BuildPasses limits form head plan images FitsLimit =
     length (fit_text form (tree_of_images head plan images)) ≤ limits.file
 
@@ -239,6 +271,7 @@ build_fault limits plan (HasNewConfigurationName at) =
     record { cause = DuplicateNode; offset = at.index }
 build_fault limits plan HasDefault =
     record { cause = BadField; offset = length plan.configurations }
+build_fault limits plan (HasOwnTexts at) = record { cause = BadField; offset = at.index }
 build_fault limits plan FitsLimit = record { cause = TooLarge; offset = limits.file }
 
 -- The checks of these images. The first of them has this index and comes after images with these
@@ -265,6 +298,21 @@ configuration_checks image_names index earlier (configuration ∷ later) =
     ListsImages at ∷ HasNewConfigurationName at
     ∷ configuration_checks image_names (index + 1) (earlier ++ configuration.name ∷ []) later
 
+-- The texts of an image that no other has: its description.
+abbrev pub own_texts_of_image : ImageSpecModel → List (List ℕ)
+own_texts_of_image image = option_to_list image.description
+
+-- The texts of a configuration that no other has: its description, and those of `compatible`.
+abbrev pub own_texts_of_configuration : ConfigurationSpecModel → List (List ℕ)
+own_texts_of_configuration configuration =
+    option_to_list configuration.description ++ configuration.compatible
+
+-- The checks of the texts of each image, or of each configuration. The first has this index.
+abbrev pub own_texts_checks : ℕ → List (List (List ℕ)) → List BuildCheck
+own_texts_checks index [] = []
+own_texts_checks index (texts ∷ later) =
+    HasOwnTexts (record { index = index; texts = texts }) ∷ own_texts_checks (index + 1) later
+
 -- The names of images.
 abbrev pub names_of_specs : List ImageSpec → List (List ℕ)
 names_of_specs images = map (λ spec. spec.name.now) images
@@ -273,9 +321,11 @@ names_of_specs images = map (λ spec. spec.name.now) images
 abbrev pub early_checks : PlanSpecModel → List ImageSpec → List BuildCheck
 early_checks plan images =
     HasFewImages ∷ HasFewConfigurations ∷ HasTextDescription
-    ∷ (spec_checks 0 [] (given_images plan.texts images)
+    ∷ (spec_checks 0 [] (planned_images plan images)
     ++ (configuration_checks (names_of_specs images) 0 [] plan.configurations
-    ++ HasDefault ∷ []))
+    ++ HasDefault
+    ∷ (own_texts_checks 0 (map own_texts_of_image (spec_models plan images))
+    ++ own_texts_checks 0 (map own_texts_of_configuration plan.configurations))))
 
 -- All checks, in their order.
 abbrev pub build_checks : PlanSpecModel → List ImageSpec → List BuildCheck
@@ -299,7 +349,7 @@ first_image_checks (image ∷ later) =
 abbrev pub checks_without_memory : PlanSpecModel → List ImageSpec → List BuildCheck
 checks_without_memory plan images =
     HasFewImages ∷ HasFewConfigurations ∷ HasTextDescription
-    ∷ first_image_checks (given_images plan.texts images)
+    ∷ first_image_checks (planned_images plan images)
 
 -- The error that building can have, except those of a sink. Memory is needed only after the checks
 -- that need none.

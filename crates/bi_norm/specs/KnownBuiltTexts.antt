@@ -64,6 +64,8 @@ names_like any names = list_like any (map (slice_like any) names)
 abbrev pub configuration_like : Bor (List ℕ) → ConfigurationSpec
 configuration_like any = record {
   name = slice_like any (codes "c");
+  description = Some (slice_like any (codes "board c"));
+  compatible = names_like any (codes "acme,one" ∷ codes "acme,two" ∷ []);
   kernel = names_like any (codes "k" ∷ []);
   fdt = names_like any (codes "d" ∷ codes "e" ∷ []);
   ramdisk = names_like any (codes "r" ∷ []);
@@ -78,11 +80,15 @@ plan_like any = record {
   configurations =
       list_like any
       (configuration_like any
-      ∷ record (configuration_like any) { name = slice_like any (codes "b") }
+      ∷ record (configuration_like any) {
+        name = slice_like any (codes "b");
+        description = None;
+      }
       ∷ []);
   default = Some (slice_like any (codes "b"));
   algorithms = list_like any (Sha256 ∷ Crc32 ∷ []);
   texts = list_like any (None ∷ Some (texts_like any firmware_texts) ∷ []);
+  descriptions = list_like any (None ∷ Some (slice_like any (codes "kernel b")) ∷ []);
 }
 
 -- The names that a plan lists in each configuration, under each key in the order of the keys.
@@ -110,6 +116,18 @@ pub record ArePlanFields (any : Bor (List ℕ)) : Type 0 where
       (plan_spec_model (record (plan_like any) { default = None })).default ≡ None
   pub algorithms : (plan_spec_model (plan_like any)).algorithms ≡ Sha256 ∷ Crc32 ∷ []
   pub texts : (plan_spec_model (plan_like any)).texts ≡ None ∷ Some firmware_texts ∷ []
+  pub descriptions : (plan_spec_model (plan_like any)).descriptions
+      ≡ None ∷ Some (codes "kernel b") ∷ []
+  pub configuration_descriptions :
+      map (λ configuration. configuration.description)
+      (plan_spec_model (plan_like any)).configurations
+      ≡ Some (codes "board c") ∷ None ∷ []
+  pub compatibles :
+      map (λ configuration. configuration.compatible)
+      (plan_spec_model (plan_like any)).configurations
+      ≡ (codes "acme,one" ∷ codes "acme,two" ∷ [])
+      ∷ (codes "acme,one" ∷ codes "acme,two" ∷ [])
+      ∷ []
 
 -- So they are, wherever the slices are.
 abbrev pub PlanFieldsAreKnown : Type 0

@@ -30,7 +30,12 @@ only_scripts names key = []
 
 -- A configuration with this name that lists these names as kernels.
 abbrev pub configuration_with : (name : List ℕ) → List (List ℕ) → ConfigurationSpecModel
-configuration_with name names = record { name = name; lists = only_kernels names }
+configuration_with name names = record {
+  name = name;
+  description = None;
+  compatible = [];
+  lists = only_kernels names;
+}
 
 -- A plan in which only these configurations are given.
 abbrev pub plan_with : List ConfigurationSpecModel → PlanSpecModel
@@ -39,6 +44,24 @@ plan_with configurations = record plain_plan { configurations = configurations }
 -- A plan in which only these texts are given.
 abbrev pub plan_with_texts : List (Option ImageTextsModel) → PlanSpecModel
 plan_with_texts texts = record plain_plan { texts = texts }
+
+-- A plan in which only these descriptions of images are given.
+abbrev pub plan_with_descriptions : List (Option (List ℕ)) → PlanSpecModel
+plan_with_descriptions descriptions = record plain_plan { descriptions = descriptions }
+
+-- A text with a zero byte.
+abbrev pub bad_text : List ℕ
+bad_text = codes "x" ++ 0 ∷ []
+
+-- A configuration with this name and this description, and one with these texts under
+-- `compatible`. Both list nothing.
+abbrev pub described_configuration : (name description : List ℕ) → ConfigurationSpecModel
+described_configuration name description =
+    record (configuration_with name []) { description = Some description }
+
+abbrev pub compatible_configuration : (name : List ℕ) → List (List ℕ) → ConfigurationSpecModel
+compatible_configuration name texts =
+    record (configuration_with name []) { compatible = texts }
 
 -- The texts of a firmware that no code has.
 abbrev pub firmware_texts : ImageTextsModel
@@ -53,6 +76,7 @@ firmware_texts = record {
 abbrev pub with_texts : List ℕ → ImageTextsModel → ImageSpecModel
 with_texts name texts = record {
   name = name;
+  description = None;
   image_type = texts.image_type;
   arch = texts.arch;
   os = texts.os;
@@ -82,7 +106,8 @@ two_kernels any = kernel_like any (codes "a") ∷ kernel_like any (codes "b") �
 
 -- The default is the first configuration, if no other is given. Without a configuration, one lists
 -- the images by their types. Each image has its own texts, if they are given, and the names of its
--- codes otherwise. Texts after those of the last image are not looked at.
+-- codes otherwise, and its own description, if it is given. Texts and descriptions after those of
+-- the last image are not looked at.
 pub record ArePlanned (any : Bor (List ℕ)) : Type 0 where
   pub first_default :
       (plan_of_tree (plan_with two_configurations) (two_kernels any)).default ≡ codes "c"
@@ -98,6 +123,18 @@ pub record ArePlanned (any : Bor (List ℕ)) : Type 0 where
       spec_models (plan_with_texts (None ∷ Some firmware_texts ∷ Some firmware_texts ∷ []))
       (two_kernels any)
       ≡ with_codes (codes "a") ∷ with_texts (codes "b") firmware_texts ∷ []
+  pub first_description :
+      spec_models (plan_with_descriptions (Some (codes "first") ∷ [])) (two_kernels any)
+      ≡ record (with_codes (codes "a")) { description = Some (codes "first") }
+      ∷ with_codes (codes "b")
+      ∷ []
+  pub second_description :
+      spec_models
+      (plan_with_descriptions (None ∷ Some (codes "second") ∷ Some (codes "third") ∷ []))
+      (two_kernels any)
+      ≡ with_codes (codes "a")
+      ∷ record (with_codes (codes "b")) { description = Some (codes "second") }
+      ∷ []
 
 -- They are planned so, wherever their slices are.
 abbrev pub BuildPlansAreKnown : Type 0
@@ -142,7 +179,8 @@ pub record HavePlanFaults (any : Bor (List ℕ)) : Type 0 where
       (two_kernels any) BadField 0
   pub missing_script :
       HasPlanFault any (codes "k")
-      (plan_with (record { name = codes "d"; lists = only_scripts (codes "c" ∷ []) } ∷ []))
+      (plan_with
+      (record (configuration_with (codes "d") []) { lists = only_scripts (codes "c" ∷ []) } ∷ []))
       (two_kernels any) BadField 0
   pub same_names :
       HasPlanFault any (codes "k")
@@ -156,10 +194,29 @@ pub record HavePlanFaults (any : Bor (List ℕ)) : Type 0 where
       HasPlanFault any (codes "k")
       (record plain_plan { default = Some (codes "conf-1") })
       (two_kernels any) BadField 0
+  pub image_description :
+      HasPlanFault any (codes "k")
+      (plan_with_descriptions (None ∷ Some bad_text ∷ []))
+      (two_kernels any) BadField 1
+  pub configuration_description :
+      HasPlanFault any (codes "k")
+      (plan_with
+      (described_configuration (codes "c") (codes "x")
+      ∷ described_configuration (codes "d") bad_text
+      ∷ []))
+      (two_kernels any) BadField 1
+  pub compatible :
+      HasPlanFault any (codes "k")
+      (plan_with
+      (compatible_configuration (codes "c") []
+      ∷ compatible_configuration (codes "d") (codes "x" ∷ bad_text ∷ [])
+      ∷ []))
+      (two_kernels any) BadField 1
 
 -- Two checks fail for each of these: the first gives the fault. All checks of images come before
--- those of configurations, and all checks of one configuration before those of the next. The text
--- of each of these trees would be longer than the limit, too.
+-- those of configurations, and all checks of one configuration before those of the next, except
+-- those of their own texts, which come after all others. The text of each of these trees would be
+-- longer than the limit, too.
 pub record PlanChecksHaveOrder (any : Bor (List ℕ)) : Type 0 where
   pub count_before_description :
       HasPlanFault any description_with_zero
@@ -191,6 +248,27 @@ pub record PlanChecksHaveOrder (any : Bor (List ℕ)) : Type 0 where
         default = Some (codes "a");
       })
       [] DuplicateNode 2
+  pub default_before_description :
+      HasPlanFault any (codes "k")
+      (record (plan_with two_configurations) {
+        default = Some (codes "a");
+        descriptions = Some bad_text ∷ [];
+      })
+      (two_kernels any) BadField 2
+  pub image_before_configuration_text :
+      HasPlanFault any (codes "k")
+      (record (plan_with (compatible_configuration (codes "c") (bad_text ∷ []) ∷ [])) {
+        descriptions = None ∷ Some bad_text ∷ [];
+      })
+      (two_kernels any) BadField 1
+  pub compatible_before_next_description :
+      HasPlanFault any (codes "k")
+      (plan_with
+      (configuration_with (codes "b") []
+      ∷ compatible_configuration (codes "c") (bad_text ∷ [])
+      ∷ described_configuration (codes "d") bad_text
+      ∷ []))
+      (two_kernels any) BadField 1
 
 -- They have these faults, wherever their slices are.
 abbrev pub PlanFaultsAreKnown : Type 0

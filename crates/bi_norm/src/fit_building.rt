@@ -14,6 +14,7 @@ ghost use Rattle.bi_norm.specs.FitBuilding.{plan_spec_model, plain_plan, plan_fo
 mod checks;
 mod configurations;
 mod images;
+mod texts;
 
 use bi_base::{Align, Error, Limits, Sink, VecSink};
 use bi_fit::{
@@ -74,11 +75,15 @@ pub struct PlanSpec<'a> {
     /// codes, if there are any. Images without an element have the names of their codes. Elements
     /// without an image are ignored.
     pub texts: &'a [Option<ImageTexts<'a>>],
+    /// For each image, in the order of the images: its description instead of that of the tree, if
+    /// it has one of its own. Images without an element have none. Elements without an image are
+    /// ignored.
+    pub descriptions: &'a [Option<&'a [u8]>],
 }
 
 impl<'a> PlanSpec<'a> {
-    /// Returns the plan of `build_fit`: no configuration, no default and no texts, and SHA-256 as
-    /// the only algorithm.
+    /// Returns the plan of `build_fit`: no configuration, no default, no texts and no descriptions,
+    /// and SHA-256 as the only algorithm.
     pub fn new() -> PlanSpec<'a>
         ensures { plan_spec_model result ≡ plain_plan }
     {
@@ -87,6 +92,7 @@ impl<'a> PlanSpec<'a> {
             default: None,
             algorithms: &[Algo::Sha256],
             texts: &[],
+            descriptions: &[],
         }
     }
 }
@@ -164,9 +170,10 @@ pub fn build_fit_into<S: Sink>(
 /// Returns a flattened image tree with these images and the configurations and hash nodes of a
 /// plan.
 ///
-/// Each configuration has the description, and for each key with at least one name, these names in
-/// their order. Each image has a hash node for each algorithm, in their order, even if an algorithm
-/// occurs twice: `hash-1`, `hash-2`, and so on.
+/// Each configuration has its description, its texts under `compatible`, if there are any, and for
+/// each key with at least one name, these names in their order. An image or a configuration without
+/// a description of its own has that of the tree. Each image has a hash node for each algorithm, in
+/// their order, even if an algorithm occurs twice: `hash-1`, `hash-2`, and so on.
 ///
 /// Fails with the first of these errors that applies:
 ///
@@ -181,6 +188,9 @@ pub fn build_fit_into<S: Sink>(
 ///   earlier configuration has its name;
 /// - BadField at the number of configurations, if there is a default and no configuration has this
 ///   name;
+/// - for each image in order, BadField at its index, if its own description has a zero byte;
+/// - for each configuration in order, BadField at its index, if its own description, or one of its
+///   texts under `compatible`, has a zero byte;
 /// - TooLarge at the limit, if the text is longer.
 ///
 /// OutOfMemory occurs only if the numbers of images and configurations, the description, and the

@@ -16,7 +16,6 @@ use Rattle.bi_legacy.specs.Reading.{IsReadLegacy, LegacyModel}
 use Rattle.bi_norm.specs.Meaning.{OfFit}
 use Rattle.bi_norm.specs.Reading.{ForLegacyImage, NeedsMemory}
 use Rattle.bi_norm.proofs.NormalForms.{needs_memory}
-use Rattle.bi_common.specs.CommonLines.{reservations_member}
 use Rattle.bi_common.specs.Json.{Json, json_array, json_line, json_object}
 use Rattle.bi_common.proofs.PrintedTexts.{json_lines_are_ascii}
 use Rattle.bi_report.specs.Checking.{Concern, allowed_by_default, concerns_member, kept_concerns}
@@ -68,8 +67,7 @@ abbrev object_with : FitModel → List Concern → (size : ℕ) → (images conf
 object_with content concerns size images configurations =
     json_object
     (shown_head_members (root_of content.blob).own size content.blob.cpu (default_of (tree_of content))
-    ++ reservations_member content.blob.reservations
-    ∷ (codes "images", json_array images)
+    ++ (codes "images", json_array images)
     ∷ (codes "configurations", json_array configurations)
     ∷ concerns_member concerns ∷ [])
 

@@ -6,7 +6,6 @@ use Rattle.bi_fit.specs.Content.{FitModel, ImageModel, tree_of}
 use Rattle.bi_fit.specs.HashNodes.{file_configurations, file_images}
 use Rattle.bi_fit.specs.Judgement.{default_of}
 use Rattle.bi_legacy.specs.Reading.{LegacyModel}
-use Rattle.bi_common.specs.CommonLines.{reservations_member}
 use Rattle.bi_common.specs.Json.{Json, Member, json_array, json_object}
 use Rattle.bi_report.specs.Checking.{allowed_by_default, concerns_member, kept_concerns}
 use Rattle.bi_report.specs.FoundConcerns.{concerns_in, found_in_fit, found_in_legacy}
@@ -62,8 +61,7 @@ abbrev pub read_fit_object : (file : List ℕ) → FitModel → Json
 read_fit_object file content =
     json_object
     (read_head_members content
-    ++ reservations_member content.blob.reservations
-    ∷ read_images_member content
+    ++ read_images_member content
     ∷ read_configurations_member content
     ∷ concerns_member
     (kept_concerns allowed_by_default (concerns_in (found_in_fit file content))) ∷ [])

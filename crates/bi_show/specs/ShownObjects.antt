@@ -23,7 +23,7 @@ use Rattle.bi_legacy.specs.Meaning.{LegacyImage}
 use Rattle.bi_legacy.specs.Reading.{LegacyModel, IsReadLegacy}
 use Rattle.bi_norm.specs.Comparing.{MeansOnly}
 use Rattle.bi_norm.specs.Meaning.{Meaning}
-use Rattle.bi_common.specs.CommonLines.{code_member, name_member, reservations_member}
+use Rattle.bi_common.specs.CommonLines.{code_member, name_member}
 use Rattle.bi_common.specs.HashedImages.{FoundHash, found_hashes}
 use Rattle.bi_common.specs.Json.{Json, Member, json_array, json_bool, json_line, json_null}
 use Rattle.bi_common.specs.Json.{json_number, json_object, json_string, string_or_null}
@@ -39,7 +39,7 @@ use Rattle.bi_report.specs.FoundConcerns.{is_skipped}
 use Rattle.bi_report.specs.Listing.{parts_member}
 use Rattle.bi_report.specs.Reports.{verdict_word}
 use Rattle.bi_report.specs.SignedTrees.{IsOverCheckBound, signature_coverage_in}
-use Rattle.bi_show.specs.AllCodes.{all_arch_names, all_os_names, all_type_names}
+use Rattle.bi_show.specs.AllCodes.{given_arch_names, given_os_names, given_type_names}
 use Rattle.bi_show.specs.FitPages.{configurations_below, has_signature, images_below, value_in}
 
 -- The page of a boot image as JSON (profile of this project).
@@ -211,7 +211,7 @@ shown_head_members own size cpu default =
     (codes "kind", json_string (codes "fit"))
     ∷ text_property own (codes "description")
     ∷ number_property own timestamp_name
-    ∷ (codes "total_size", json_number size)
+    ∷ (codes "size", json_number size)
     ∷ (codes "boot_cpu", json_number cpu)
     ∷ (codes "default", string_or_null (option_map shown_text default)) ∷ []
 
@@ -220,8 +220,7 @@ abbrev pub shown_fit_object : (file : List ℕ) → Root FileNode → ImageTree 
 shown_fit_object file root tree concerns =
     json_object
     (shown_head_members root.own (totalsize file) tree.cpu (default_of tree)
-    ++ reservations_member tree.reservations
-    ∷ (codes "images", json_array (shown_image_objects file (images_below root) tree.payloads))
+    ++ (codes "images", json_array (shown_image_objects file (images_below root) tree.payloads))
     ∷ (
       codes "configurations",
       json_array
@@ -229,8 +228,7 @@ shown_fit_object file root tree concerns =
     )
     ∷ concerns_member concerns ∷ [])
 
--- The members for the fields of a header. Each code has the name that the page prints, if it has
--- one.
+-- The members for the fields of a header. Each code has a name that can be given, if it has one.
 abbrev pub shown_legacy_members : LegacyImage → List Member
 shown_legacy_members image =
     (codes "kind", json_string (codes "legacy"))
@@ -238,9 +236,9 @@ shown_legacy_members image =
     ∷ (codes "time", json_number image.time)
     ∷ (codes "load", json_number image.load)
     ∷ (codes "entry", json_number image.entry)
-    ∷ code_member (codes "os") all_os_names image.os
-    ∷ code_member (codes "arch") all_arch_names image.arch
-    ∷ code_member (codes "type") all_type_names image.image_type
+    ∷ code_member (codes "os") given_os_names image.os
+    ∷ code_member (codes "arch") given_arch_names image.arch
+    ∷ code_member (codes "type") given_type_names image.image_type
     ∷ code_member (codes "compression") compression_names image.compression ∷ []
 
 -- A legacy image that was read, with these concerns.

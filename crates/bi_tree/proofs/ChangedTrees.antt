@@ -1,10 +1,10 @@
 use Rattle.std.proofs.Common.{◌≡◌, ℕ, Bool, true, false, List, [], ◌∷◌, ◌≤◌, ◌-◌, length}
-use Rattle.std.proofs.Common.{take, drop, get_or, refl, sym, ap, ap₂, arith, true≢false, Bor, ◌==◌}
+use Rattle.std.proofs.Common.{take, drop, get_or, refl, sym, ap, arith, true≢false, Bor, ◌==◌}
 use Rattle.std.proofs.lemmas.List.{take_all}
 use Rattle.std.proofs.Common.{bytes_eq}
-use Rattle.bi_blob.specs.Tree.{Nodes, none, node, Property, Root}
+use Rattle.bi_blob.specs.Tree.{Nodes, none, node, Root}
 use Rattle.bi_tree.specs.Changes.{with_node, with_new_node, with_change_at, with_node_at, without_node_at}
-use Rattle.bi_tree.specs.Properties.{with_own_property, with_value_at}
+use Rattle.bi_tree.specs.Properties.{TreePropertyModel, with_own_property, with_property_at}
 use Rattle.bi_base.specs.Slices.{bytes_of}
 
 -- Changes of trees, one after the other.
@@ -27,13 +27,13 @@ are_one name change first_change none = refl
 are_one name change first_change (node other own children later) =
     one_first name other change first_change own children later (are_one name change first_change later) (bytes_eq other name) refl
 
--- A value is set in a node below another one by adding the node that leads to it and setting it there.
-pub set_below : (name : List ℕ) (path : List (List ℕ)) (property value : List ℕ) (root : Root (List Property)) →
-    with_value_at (name ∷ path) property value root
-    ≡ record { own = root.own; children = with_node name (with_value_at path property value) (with_new_node [] name root.children) }
-set_below name path property value root =
+-- A property is set in a node below another one by adding the node that leads to it and setting it there.
+pub set_below : (name : List ℕ) (path : List (List ℕ)) (new : TreePropertyModel) (root : Root (List TreePropertyModel)) →
+    with_property_at (name ∷ path) new root
+    ≡ record { own = root.own; children = with_node name (with_property_at path new) (with_new_node [] name root.children) }
+set_below name path new root =
     ap (λ nodes. record { own = root.own; children = nodes })
-    (are_one name (with_change_at path (with_own_property property value)) (with_node_at [] path)
+    (are_one name (with_change_at path (with_own_property new)) (with_node_at [] path)
     (with_new_node [] name root.children))
 
 -- A node below a child is removed in the child.

@@ -3,6 +3,7 @@ pub mod PropertyLists
 pub mod ChangedTrees
 pub mod PropertyMaps
 pub mod MappedChanges
-pub mod ChangesWithoutOrder
-pub mod DistinctNames
+pub mod ChangesByName
+pub mod StayingNumbers
 pub mod Trees
+pub mod NumberedNames

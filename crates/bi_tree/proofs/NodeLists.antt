@@ -2,8 +2,9 @@ use Rattle.std.proofs.Common.{◌≡◌, ℕ, ◌<◌, Bool, true, false, List, 
 use Rattle.std.proofs.Common.{bytes_eq, option_map, slice_get, ◌≤◌, Option, Some, None, Bor, MatchOption}
 use Rattle.std.proofs.lemmas.Option.{slice_get_past, slice_get_read}
 use Rattle.std.specs.List.{HoldsAt, remove}
-use Rattle.bi_blob.specs.Tree.{none, node, Property, Root}
+use Rattle.bi_blob.specs.Tree.{none, node, Root}
 use Rattle.bi_tree.specs.Changes.{with_node, with_new_node, without_node, child_named}
+use Rattle.bi_tree.specs.Properties.{TreePropertyModel}
 use Rattle.bi_tree.specs.TreeNodes.{TreeNodeModel, below, index_named, names_of_models, nodes_of_models}
 
 -- What a change of one node makes of a list of nodes.
@@ -13,13 +14,15 @@ abbrev pub node_index : List ℕ → List TreeNodeModel → ℕ
 node_index name nodes = index_named name (names_of_models nodes)
 
 -- The first node with the name is changed.
-abbrev IsChanged : List ℕ → (Root (List Property) → Root (List Property)) → (new other : TreeNodeModel) → List TreeNodeModel → Type 0
+abbrev IsChanged : List ℕ → (Root (List TreePropertyModel) → Root (List TreePropertyModel)) → (new other : TreeNodeModel) →
+    List TreeNodeModel → Type 0
 IsChanged name change new other nodes = node_index name nodes < length nodes →
     new.name ≡ (get_or nodes (node_index name nodes) other).name → below new ≡ change (below (get_or nodes (node_index name nodes) other))
     → nodes_of_models (set nodes (node_index name nodes) new) ≡ with_node name change (nodes_of_models nodes)
 
-change_first : (first : TreeNodeModel) (later : List TreeNodeModel) (name : List ℕ) (change : Root (List Property) → Root (List Property))
-    (new other : TreeNodeModel) → IsChanged name change new other later → (b : Bool) → bytes_eq first.name name ≡ b →
+change_first : (first : TreeNodeModel) (later : List TreeNodeModel) (name : List ℕ)
+    (change : Root (List TreePropertyModel) → Root (List TreePropertyModel)) (new other : TreeNodeModel) →
+    IsChanged name change new other later → (b : Bool) → bytes_eq first.name name ≡ b →
     IsChanged name change new other (first ∷ later)
 change_first first later name change new other rest true same within named is =
     let name_is = rw same at named in
@@ -31,8 +34,8 @@ change_first first later name change new other rest false differs within named i
     let below_is = rw differs at is in
     rw differs (ap (λ l. node first.name first.own first.children l) (rest (omega (arith, less)) name_is below_is))
 
-pub change_first_named : (nodes : List TreeNodeModel) (name : List ℕ) (change : Root (List Property) →
-    Root (List Property)) (new other : TreeNodeModel) →
+pub change_first_named : (nodes : List TreeNodeModel) (name : List ℕ) (change : Root (List TreePropertyModel) →
+    Root (List TreePropertyModel)) (new other : TreeNodeModel) →
     IsChanged name change new other nodes
 change_first_named [] name change new other within named is = absurd (omega (arith, within))
 change_first_named (first ∷ later) name change new other within named is =
@@ -94,12 +97,13 @@ removed [] name within = absurd (omega (arith, within))
 removed (first ∷ later) name within = remove_first first later name (removed later name) (bytes_eq first.name name) refl within
 
 -- Without a node of the name all stay.
-abbrev IsKept : List ℕ → (Root (List Property) → Root (List Property)) → List TreeNodeModel → Type 0
+abbrev IsKept : List ℕ → (Root (List TreePropertyModel) → Root (List TreePropertyModel)) → List TreeNodeModel → Type 0
 IsKept name change nodes = node_index name nodes ≡ length nodes →
     (nodes_of_models nodes ≡ without_node name (nodes_of_models nodes))
     × (nodes_of_models nodes ≡ with_node name change (nodes_of_models nodes))
 
-keep_first : (first : TreeNodeModel) (later : List TreeNodeModel) (name : List ℕ) (change : Root (List Property) → Root (List Property)) →
+keep_first : (first : TreeNodeModel) (later : List TreeNodeModel) (name : List ℕ)
+    (change : Root (List TreePropertyModel) → Root (List TreePropertyModel)) →
     IsKept name change later → (b : Bool) → bytes_eq first.name name ≡ b → IsKept name change (first ∷ later)
 keep_first first later name change rest true same absent = let no = rw same at absent in absurd (omega (arith, no))
 keep_first first later name change rest false differs absent =
@@ -109,7 +113,8 @@ keep_first first later name change rest false differs absent =
       rw differs (ap (λ l. node first.name first.own first.children l) both.1),
     )
 
-kept : (nodes : List TreeNodeModel) (name : List ℕ) (change : Root (List Property) → Root (List Property)) → IsKept name change nodes
+kept : (nodes : List TreeNodeModel) (name : List ℕ) (change : Root (List TreePropertyModel) → Root (List TreePropertyModel)) →
+    IsKept name change nodes
 kept [] name change absent = (refl, refl)
 kept (first ∷ later) name change absent =
     keep_first first later name change (kept later name change) (bytes_eq first.name name) refl absent
@@ -161,7 +166,8 @@ module _ (nodes slice : List TreeNodeModel) (same : slice ≡ nodes) (index : �
   removed_at within =
       ap (λ n. nodes_of_models (remove nodes n)) at_place ∙ removed nodes name (subst (λ n. n < length nodes) at_place within)
 
-  pub changed_at : (change : Root (List Property) → Root (List Property)) (new other : TreeNodeModel) → index < length nodes →
+  pub changed_at : (change : Root (List TreePropertyModel) → Root (List TreePropertyModel)) (new other : TreeNodeModel) →
+      index < length nodes →
       new.name ≡ (get_or nodes index other).name → below new ≡ change (below (get_or nodes index other)) →
       nodes_of_models (set nodes index new) ≡ with_node name change (nodes_of_models nodes)
   changed_at change new other within named below_is =
@@ -173,6 +179,6 @@ module _ (nodes slice : List TreeNodeModel) (same : slice ≡ nodes) (index : �
   pub kept_without : index ≡ length nodes → nodes_of_models nodes ≡ without_node name (nodes_of_models nodes)
   kept_without absent = (kept nodes name (λ root. root) (sym at_place ∙ absent)).0
 
-  pub not_changed : (change : Root (List Property) → Root (List Property)) → index ≡ length nodes →
+  pub not_changed : (change : Root (List TreePropertyModel) → Root (List TreePropertyModel)) → index ≡ length nodes →
       nodes_of_models nodes ≡ with_node name change (nodes_of_models nodes)
   not_changed change absent = (kept nodes name change (sym at_place ∙ absent)).1

@@ -23,7 +23,7 @@ property_index new items = index_named new.name.now (tree_property_names items)
 -- The first property with the name is set.
 abbrev IsSet : TreeProperty → List TreeProperty → Type 0
 IsSet new items = property_index new items < length items →
-    tree_properties (set items (property_index new items) new) ≡ with_property_in new.name.now (cow_slice_items new.value) (tree_properties items)
+    tree_properties (set items (property_index new items) new) ≡ with_property_in (tree_property new) (tree_properties items)
 
 set_first : (first : TreeProperty) (later : List TreeProperty) (new : TreeProperty) → IsSet new later → (b : Bool) →
     bytes_eq first.name.now new.name.now ≡ b → IsSet new (first ∷ later)
@@ -39,7 +39,7 @@ set_known (first ∷ later) new within =
 -- A property with a new name is added.
 abbrev IsAdded : TreeProperty → List TreeProperty → Type 0
 IsAdded new items = property_index new items ≡ length items →
-    tree_properties (items ++ new ∷ []) ≡ with_property_in new.name.now (cow_slice_items new.value) (tree_properties items)
+    tree_properties (items ++ new ∷ []) ≡ with_property_in (tree_property new) (tree_properties items)
 
 add_later : (first : TreeProperty) (later : List TreeProperty) (new : TreeProperty) → IsAdded new later → (b : Bool) →
     bytes_eq first.name.now new.name.now ≡ b → IsAdded new (first ∷ later)
@@ -119,13 +119,13 @@ module _ (items slice : List TreeProperty) (same : slice ≡ items) (index : ℕ
   at_place name is = is ∙ ap (λ l. index_named name (tree_property_names l)) same
 
   pub set_at : (new : TreeProperty) → index ≡ property_index new slice → index < length items →
-      tree_properties (set items index new) ≡ with_property_in new.name.now (cow_slice_items new.value) (tree_properties items)
+      tree_properties (set items index new) ≡ with_property_in (tree_property new) (tree_properties items)
   set_at new is within =
       let at : index ≡ property_index new items = at_place new.name.now is in
       ap (λ n. tree_properties (set items n new)) at ∙ set_known items new (subst (λ n. n < length items) at within)
 
   pub property_added_after : (new : TreeProperty) → index ≡ property_index new slice → index ≡ length items →
-      tree_properties (items ++ new ∷ []) ≡ with_property_in new.name.now (cow_slice_items new.value) (tree_properties items)
+      tree_properties (items ++ new ∷ []) ≡ with_property_in (tree_property new) (tree_properties items)
   property_added_after new is none = set_new items new (sym (at_place new.name.now is) ∙ none)
 
   pub property_removed_at : (name : List ℕ) → index ≡ index_named name (tree_property_names slice) → index < length items →

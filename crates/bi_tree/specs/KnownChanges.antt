@@ -1,8 +1,9 @@
 use Rattle.std.specs.Prelude.{◌≡◌, ℕ, List, [], ◌∷◌, codes, Some, None}
-use Rattle.bi_blob.specs.Tree.{Nodes, none, node, Root, Property}
+use Rattle.bi_blob.specs.Tree.{Nodes, none, node, Root}
 use Rattle.bi_tree.specs.Changes.{node_by_path, with_change_at, with_node_at, without_node_at}
 use Rattle.bi_tree.specs.NodeCodes.{last_made, made_by, node_steps}
-use Rattle.bi_tree.specs.Properties.{with_own_property, with_value_at, without_own_property}
+use Rattle.bi_tree.specs.Properties.{TreePropertyModel, with_own_property, with_property_at}
+use Rattle.bi_tree.specs.Properties.{without_own_property}
 
 -- A small tree and what it is after changes, by which a reader can judge the definitions. Each node
 -- has a number.
@@ -61,33 +62,39 @@ pub record NodeChangesAreKnown : Type 0 where
       }
   pub no_addition : with_node_at 7 path_a_b (small_tree 2) ≡ small_tree 2
 
+-- A property with a number for its name.
+abbrev pub known_property : (name : List ℕ) → (number : ℕ) → (value : List ℕ) → TreePropertyModel
+known_property name number value = record { name = name; number = number; value = value }
+
 -- A node with two properties, in this order.
-abbrev pub two_property_node : (x : List ℕ) → Root (List Property)
+abbrev pub two_property_node : (x : List ℕ) → Root (List TreePropertyModel)
 two_property_node x = record {
-  own = (codes "x", x) ∷ (codes "y", codes "2") ∷ [];
+  own = known_property (codes "x") 0 x ∷ known_property (codes "y") 1 (codes "2") ∷ [];
   children = none;
 }
 
 -- A property that is there keeps its place, and one that is added is the last.
 pub record ChangesOfPropertiesAreKnown : Type 0 where
-  pub value : with_own_property (codes "x") (codes "9") (two_property_node (codes "1"))
+  pub value : with_own_property (known_property (codes "x") 0 (codes "9")) (two_property_node (codes "1"))
       ≡ two_property_node (codes "9")
-  pub addition : with_own_property (codes "a") (codes "3") (two_property_node (codes "1"))
+  pub addition : with_own_property (known_property (codes "a") 2 (codes "3")) (two_property_node (codes "1"))
       ≡ record {
-        own = (codes "x", codes "1") ∷ (codes "y", codes "2") ∷ (codes "a", codes "3") ∷ [];
+        own = known_property (codes "x") 0 (codes "1") ∷ known_property (codes "y") 1 (codes "2")
+            ∷ known_property (codes "a") 2 (codes "3") ∷ [];
         children = none;
       }
   pub removal : without_own_property (codes "x") (two_property_node (codes "1"))
-      ≡ record { own = (codes "y", codes "2") ∷ []; children = none }
+      ≡ record { own = known_property (codes "y") 1 (codes "2") ∷ []; children = none }
   pub no_removal : without_own_property (codes "a") (two_property_node (codes "1"))
       ≡ two_property_node (codes "1")
-  pub node : with_value_at (codes "n" ∷ []) (codes "a") (codes "3") (two_property_node (codes "1"))
+  pub node : with_property_at (codes "n" ∷ []) (known_property (codes "a") 2 (codes "3"))
+      (two_property_node (codes "1"))
       ≡ record {
-        own = (codes "x", codes "1") ∷ (codes "y", codes "2") ∷ [];
-        children = node (codes "n") ((codes "a", codes "3") ∷ []) none none;
+        own = (two_property_node (codes "1")).own;
+        children = node (codes "n") (known_property (codes "a") 2 (codes "3") ∷ []) none none;
       }
 
 -- Nodes are made again of the steps that they are stored as.
 abbrev pub NodesAreMadeAgain : Type 0
 NodesAreMadeAgain =
-    (nodes : Nodes (List Property)) → last_made (made_by (node_steps nodes) []) ≡ nodes
+    (nodes : Nodes (List TreePropertyModel)) → last_made (made_by (node_steps nodes) []) ≡ nodes

@@ -2,7 +2,7 @@ use Rattle.std.specs.Prelude.{◌≡◌, ℕ, List, [], ◌∷◌, ◌++◌, Opt
 use Rattle.std.proofs.Common.{ap, ◌∙◌, append_assoc}
 use Rattle.std.specs.Coded.{Coded, code_by, coded×, coded_list, coded_option, coded_ℕ}
 use Rattle.std.specs.FinMap.{code}
-use Rattle.bi_blob.specs.Tree.{Nodes, none, node, Property, PropertyMap, Root}
+use Rattle.bi_blob.specs.Tree.{Nodes, none, node, PropertyMap, Root}
 
 -- Nodes are stored as a list of steps that make them: a step makes a node of the last two lists of
 -- nodes that were made, its children and the nodes after it, or an empty list.
@@ -53,10 +53,6 @@ module _ {Own : Type 0} where
   nodes_code_by own_code =
       code_by (List (Step Own)) (coded_list (coded_option (coded× (coded_list coded_ℕ) own_code)))
       node_steps (λ steps. last_made (made_by steps [])) nodes_made_again
-
--- How nodes with lists of properties are stored.
-abbrev pub nodes_code : Coded (Nodes (List Property))
-nodes_code = nodes_code_by (coded_list (coded× (coded_list coded_ℕ) (coded_list coded_ℕ)))
 
 -- How properties by name are stored, and a tree of them.
 abbrev pub properties_code : Coded PropertyMap

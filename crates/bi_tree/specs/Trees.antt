@@ -1,21 +1,42 @@
-use Rattle.std.specs.Prelude.{ℕ, List, map, Option, option_and_then}
-use Rattle.std.specs.Cmp.Lexicographic.{slice_cmp}
+use Rattle.std.specs.Prelude.{ℕ, List, Option, option_and_then}
+use Rattle.std.specs.List.{AllByRecursion}
 use Rattle.std.specs.FinMap.{empty, from_entries, get, insert, remove}
-use Rattle.std.specs.Ordering.{nat_cmp}
-use Rattle.bi_blob.specs.Tree.{Root, Property, PropertyMap, AreDistinct, EachOwn, as_nodes}
+use Rattle.bi_blob.specs.Tree.{Root, PropertyMap, AreDistinct, EachOwn, as_nodes, with_each_node}
+use Rattle.bi_fdt.specs.Numbers.{IsNumberOf}
 use Rattle.bi_tree.specs.Changes.{node_by_path, with_change_at, with_node_at}
+use Rattle.bi_tree.specs.Properties.{TreePropertyModel, own_property_names, without_numbers}
 
 -- Trees of properties by name, and what a change of a property makes of one (Devicetree
 -- Specification, 2.2.4).
 
--- No node has two properties with one name.
-abbrev pub HasDistinctProperties : Root (List Property) → Type 0
-HasDistinctProperties root =
-    EachOwn (λ own. AreDistinct (map (λ property. property.0) own)) (as_nodes root)
+-- Properties by name, without the numbers of their names.
+abbrev pub by_name : List TreePropertyModel → PropertyMap
+by_name properties = from_entries (without_numbers properties)
+
+-- A tree with the properties of each node by name.
+abbrev pub tree_by_name : Root (List TreePropertyModel) → Root PropertyMap
+tree_by_name root = with_each_node by_name root
+
+-- The properties of a node have distinct names, and among these names the numbers that they give.
+pub record AreNumberedAmong (names : List (List ℕ)) (properties : List TreePropertyModel) : Type 0
+  where
+    pub distinct : AreDistinct (own_property_names properties)
+    pub numbered : AllByRecursion (λ property. IsNumberOf names property.name property.number)
+        properties
+
+-- So it is in each node of a tree.
+abbrev pub IsNumberedTree : List (List ℕ) → Root (List TreePropertyModel) → Type 0
+IsNumberedTree names root = EachOwn (AreNumberedAmong names) (as_nodes root)
+
+-- So it is in each node of a tree, and these names are distinct.
+pub record AreNamesOfTree (names : List (List ℕ)) (root : Root (List TreePropertyModel)) : Type 0
+  where
+    pub distinct : AreDistinct names
+    pub numbered : IsNumberedTree names root
 
 -- The value of the first of these properties with a name, if one has it.
-abbrev pub first_value : List Property → (name : List ℕ) → Option (List ℕ)
-first_value properties name = get {R = slice_cmp nat_cmp} (from_entries properties) name
+abbrev pub first_value : List TreePropertyModel → (name : List ℕ) → Option (List ℕ)
+first_value properties name = get (by_name properties) name
 
 -- The value of a property of the node at a path, if there is one.
 abbrev pub value_by_path : Root PropertyMap → (path : List (List ℕ)) → (name : List ℕ)

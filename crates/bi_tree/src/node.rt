@@ -2,20 +2,18 @@
 
 ghost use Rattle.std.specs.Prelude.{◌≡◌, ◌<◌, ◌≤◌, ℕ, [], length, take, option_map};
 ghost use Rattle.std.specs.Prelude.{OnOk, OnErr, IfOk};
-ghost use Rattle.std.specs.Cow.{cow_slice_items};
 ghost use Rattle.bi_base.specs.Slices.{bytes_of};
 ghost use Rattle.bi_blob.specs.Tree.{none};
 ghost use Rattle.bi_tree.specs.Changes.{child_named, node_by_path, with_change_at, with_new_node};
 ghost use Rattle.bi_tree.specs.Changes.{with_node_at};
 ghost use Rattle.bi_tree.specs.Changes.{without_node, without_node_at};
-ghost use Rattle.bi_tree.specs.Properties.{with_value_at, without_own_property};
+ghost use Rattle.bi_tree.specs.Properties.{tree_property, with_property_at, without_own_property};
 ghost use Rattle.bi_tree.specs.TreeNodes.{below, index_named, names_of_models};
 ghost use Rattle.bi_tree.specs.TreeNodes.{nodes_of_models};
 ghost use Rattle.bi_tree.specs.Trees.{first_value};
 
 use crate::properties::{TreeProperty, remove_value, set_value, value_of};
 use std::alloc::{AllocError, Global};
-use std::borrow::CowSlice;
 use std::marker::Model;
 
 /// A node with all nodes below it. Names are borrowed, not copied.
@@ -90,8 +88,9 @@ impl<'a> TreeNode<'a> {
         value_of(&self.properties, name)
     }
 
-    /// Sets the value of a property of the node at a path below this one, or adds the property.
-    /// Nodes of the path that are not there are added, each as the last child of its parent.
+    /// Puts a property into the node at a path below this one, in the place of the property with its
+    /// name, or as the last. Nodes of the path that are not there are added, each as the last child
+    /// of its parent.
     ///
     /// Fails if memory runs out. Some of those nodes may then have been added, and nothing else is
     /// changed.
@@ -99,22 +98,21 @@ impl<'a> TreeNode<'a> {
         &mut self,
         alloc: Global,
         path: &[&'a [u8]],
-        name: &'a [u8],
-        value: CowSlice<'a, u8, Global>,
+        property: TreeProperty<'a>,
     ) -> Result<(), AllocError>
         ensures set { OnOk result (below self.new
-            ≡ with_value_at (bytes_of path.entry.now) name.entry.now
-            (cow_slice_items value.entry) (below self.old)) }
+            ≡ with_property_at (bytes_of path.entry.now) (tree_property property.entry)
+            (below self.old)) }
         ensures failed { OnErr result ((count : ℕ) × (below self.new
             ≡ with_node_at [] (take count (bytes_of path.entry.now)) (below self.old))) }
         ensures name { self.new.name ≡ self.old.name }
     {
         let [first, later @ ..] = path else {
-            set_value(&mut self.properties, name, value)?;
+            set_value(&mut self.properties, property)?;
             return Ok(());
         };
         let index = child_or_new(alloc, &mut self.children, *first)?;
-        self.children[index].set_property(alloc, later, name, value)?;
+        self.children[index].set_property(alloc, later, property)?;
         Ok(())
     }
 

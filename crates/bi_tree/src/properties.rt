@@ -2,8 +2,8 @@
 
 ghost use Rattle.std.specs.Prelude.{◌≡◌, ◌≤◌, length, map, option_map};
 ghost use Rattle.std.specs.Prelude.{OnOk, OnErr};
-ghost use Rattle.std.specs.Cow.{cow_slice_items};
-ghost use Rattle.bi_tree.specs.Properties.{tree_properties, with_property_in, without_property_in};
+ghost use Rattle.bi_tree.specs.Properties.{tree_properties, tree_property, with_property_in};
+ghost use Rattle.bi_tree.specs.Properties.{without_property_in};
 ghost use Rattle.bi_tree.specs.TreeNodes.{index_named};
 ghost use Rattle.bi_tree.specs.Trees.{first_value};
 
@@ -15,6 +15,8 @@ use std::borrow::CowSlice;
 pub struct TreeProperty<'a> {
     /// The name.
     pub name: &'a [u8],
+    /// The number of the name: its index among the names of the tree.
+    pub number: usize,
     /// The value.
     pub value: CowSlice<'a, u8, Global>,
 }
@@ -31,20 +33,18 @@ pub(crate) fn value_of<'b>(properties: &'b [TreeProperty<'_>], name: &[u8]) -> O
     }
 }
 
-/// Sets the value of the first of these properties with this name. If there is none, it is added as
-/// the last. Fails if memory runs out, and then changes nothing.
+/// Puts this property in the place of the first of these with its name. If there is none, it is
+/// added as the last. Fails if memory runs out, and then changes nothing.
 pub(crate) fn set_value<'a>(
     properties: &mut Vec<TreeProperty<'a>>,
-    name: &'a [u8],
-    value: CowSlice<'a, u8, Global>,
+    property: TreeProperty<'a>,
 ) -> Result<(), AllocError>
     ensures set { OnOk result (tree_properties properties.new.items
-        ≡ with_property_in name.entry.now (cow_slice_items value.entry)
+        ≡ with_property_in (tree_property property.entry)
         (tree_properties properties.old.items)) }
     ensures failed { OnErr result (properties.new.items ≡ properties.old.items) }
 {
-    let index = find_property(properties, name);
-    let property = TreeProperty { name, value };
+    let index = find_property(properties, property.name);
     if index < properties.len() {
         properties[index] = property;
     } else {

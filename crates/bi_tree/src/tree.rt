@@ -3,13 +3,14 @@
 ghost use Rattle.std.specs.Prelude.{◌≡◌, OnOk, option_map, is_some};
 ghost use Rattle.std.specs.Cow.{cow_slice_items};
 ghost use Rattle.bi_base.specs.Slices.{bytes_of};
-ghost use Rattle.bi_blob.specs.Tree.{tree_without_order};
 ghost use Rattle.bi_tree.specs.Changes.{node_by_path, without_node_at};
 ghost use Rattle.bi_tree.specs.TreeNodes.{below};
-ghost use Rattle.bi_tree.specs.Trees.{HasDistinctProperties, value_by_path, with_value_by_path};
-ghost use Rattle.bi_tree.specs.Trees.{without_value_by_path};
+ghost use Rattle.bi_tree.specs.Trees.{AreNamesOfTree, tree_by_name, value_by_path};
+ghost use Rattle.bi_tree.specs.Trees.{with_value_by_path, without_value_by_path};
 
+use crate::names::number_name;
 use crate::node::TreeNode;
+use crate::properties::TreeProperty;
 use std::alloc::{AllocError, Global};
 use std::borrow::CowSlice;
 use std::marker::Model;
@@ -20,30 +21,35 @@ use std::marker::Model;
 pub struct Tree<'a> {
     /// The root.
     pub root: TreeNode<'a>,
+    /// The names that properties may have, each once. A property gives the number of its name among
+    /// them, so that properties can be put in order, and written, without comparing names.
+    pub names: Vec<&'a [u8]>,
 }
 
 impl<'a> Model for Tree<'a> {
-    ghost use Rattle.bi_blob.specs.Tree.{Root, PropertyMap, tree_without_order};
+    ghost use Rattle.bi_base.specs.Slices.{bytes_of};
+    ghost use Rattle.bi_blob.specs.Tree.{Root, PropertyMap};
     ghost use Rattle.bi_tree.specs.NodeCodes.{root_code};
     ghost use Rattle.bi_tree.specs.TreeNodes.{below};
-    ghost use Rattle.bi_tree.specs.Trees.{HasDistinctProperties};
+    ghost use Rattle.bi_tree.specs.Trees.{AreNamesOfTree, tree_by_name};
 
     ghost Value = { Root PropertyMap };
 
     ghost coded = { root_code };
 
-    ghost view = { λ tree. tree_without_order (below tree.root) };
+    ghost view = { λ tree. tree_by_name (below tree.root) };
 
-    ghost invariant = { λ tree. HasDistinctProperties (below tree.root) };
+    ghost invariant = { λ tree. AreNamesOfTree (bytes_of tree.names.items) (below tree.root) };
 }
 
 impl<'a> Tree<'a> {
-    /// Returns the tree with this root. Requires: no node has two properties with the same name.
-    pub fn new(root: TreeNode<'a>) -> Tree<'a>
-        requires { HasDistinctProperties (below root) }
-        ensures { result ≡ tree_without_order (below root.entry) }
+    /// Returns the tree with this root. Requires: the names are distinct, no node has two
+    /// properties with the same name, and each property gives the number of its name.
+    pub fn new(root: TreeNode<'a>, names: Vec<&'a [u8]>) -> Tree<'a>
+        requires { AreNamesOfTree (bytes_of names.items) (below root) }
+        ensures { result ≡ tree_by_name (below root.entry) }
     {
-        Tree { root }
+        Tree { root, names }
     }
 
     /// Returns whether there is a node at a path.
@@ -94,7 +100,13 @@ impl<'a> Tree<'a> {
         ensures { OnOk result (self.new ≡ with_value_by_path (bytes_of path.entry.now)
             name.entry.now (cow_slice_items value.entry) self.old) }
     {
-        self.root.set_property(alloc, path, name, value)?;
+        let number = number_name(&mut self.names, name)?;
+        let property = TreeProperty {
+            name,
+            number,
+            value,
+        };
+        self.root.set_property(alloc, path, property)?;
         Ok(())
     }
 }

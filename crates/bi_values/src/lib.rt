@@ -7,7 +7,7 @@ mod getting;
 pub mod known_values;
 pub mod laws;
 mod outputs;
-mod paths;
+pub mod paths;
 mod properties;
 mod value_form;
 mod value_name;

@@ -19,8 +19,10 @@ const MOST_STEPS: usize = 63;
 
 /// Returns the names of the nodes on the way from the root to a node, by its path as it is printed.
 /// Returns None if the text is not such a path: for example if a name is printed otherwise, or if
-/// there are more than 63 names. Fails if memory runs out.
-pub(crate) fn path_shown_as(alloc: Global, text: &[u8]) -> Result<Option<Vec<Vec<u8>>>, Error>
+/// there are more than 63 names.
+///
+/// Fails only with OutOfMemory.
+pub fn path_shown_as(alloc: Global, text: &[u8]) -> Result<Option<Vec<Vec<u8>>>, Error>
     ensures some { IfOk result (λ found. IfSome found (λ names.
         IsPathWord text.now (names_of_path names.items))) }
     ensures none { IfOk result (λ found. IfNone found (IsNoPath text.now)) }
@@ -91,8 +93,10 @@ fn position_of_slash(text: &[u8]) -> Option<usize>
 }
 
 /// Returns the name of a child that is printed as this text. Returns None if no such name is
-/// printed so. Fails if memory runs out.
-fn child_name_shown_as(alloc: Global, text: &[u8]) -> Result<Option<Vec<u8>>, Error>
+/// printed so.
+///
+/// Fails only with OutOfMemory.
+pub fn child_name_shown_as(alloc: Global, text: &[u8]) -> Result<Option<Vec<u8>>, Error>
     ensures some { IfOk result (λ found. IfSome found (λ name.
         IsShownChildName text.now name.items)) }
     ensures none { IfOk result (λ found. IfNone found (IsNoChildName text.now)) }
@@ -109,8 +113,10 @@ fn child_name_shown_as(alloc: Global, text: &[u8]) -> Result<Option<Vec<u8>>, Er
 }
 
 /// Returns the name of a property that is printed as this text. Returns None if no such name is
-/// printed so. Fails if memory runs out.
-pub(crate) fn property_name_shown_as(alloc: Global, text: &[u8]) -> Result<Option<Vec<u8>>, Error>
+/// printed so.
+///
+/// Fails only with OutOfMemory.
+pub fn property_name_shown_as(alloc: Global, text: &[u8]) -> Result<Option<Vec<u8>>, Error>
     ensures some { IfOk result (λ found. IfSome found (λ name.
         IsShownPropertyName text.now name.items)) }
     ensures none { IfOk result (λ found. IfNone found (IsNoPropertyName text.now)) }

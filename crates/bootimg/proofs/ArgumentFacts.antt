@@ -1,4 +1,4 @@
-use Rattle.std.proofs.Common.{◌≡◌, ◌≢◌, ◌++◌, ◌∷◌, [], ◌∙◌, ◌<◌, ◌≤◌, ◌^◌, ◌&&◌, ℕ, Bool, true, false, List, Some, None, length}
+use Rattle.std.proofs.Common.{◌≡◌, ◌++◌, ◌∷◌, [], ◌∙◌, ◌<◌, ◌≤◌, ◌^◌, ◌&&◌, ℕ, Bool, true, false, List, Some, None, length}
 use Rattle.std.proofs.Common.{take, drop}
 use Rattle.std.proofs.Common.{codes, bytes_eq, ap, refl, subst, sym, inl, inr, lit<, lit≤, arith}
 use Rattle.std.specs.Prelude.{nat_lt}

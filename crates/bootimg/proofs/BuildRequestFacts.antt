@@ -182,6 +182,8 @@ read_keys (text ∷ texts) (list ∷ lists) are =
 abbrev model_of_word : List ℕ → ConfigurationSpecModel
 model_of_word word = record {
   name = get_or (parts_of word) 0 [];
+  description = None;
+  compatible = [];
   lists = listed_under (drop 1 (parts_of word));
 }
 
@@ -302,7 +304,7 @@ models_of image_names words configurations are =
     )
 
 -- A configuration that lists the kernel `k`.
-abbrev vec_of : {X : Type 0} → (items : List X) → length items ≡ 1 → Vec X
+abbrev pub vec_of : {X : Type 0} → (items : List X) → length items ≡ 1 → Vec X
 vec_of items one = record {
   ptr = null_ptr;
   len = 1;
@@ -346,6 +348,8 @@ kernel_is_good = record {
         no_slash = (λ is. omega (arith, is), tt);
       };
       name_bytes = bytes_by_test (codes "a") refl;
+      description = tt;
+      compatible = tt;
       of_images = only_kernel;
     },
     tt,

@@ -1,7 +1,7 @@
-use Rattle.std.proofs.Common.{◌≡◌, ◌∙◌, ◌⊎◌, ℕ, true, true≢false, List, [], ◌∷◌, Option, Some, Ok, Err}
+use Rattle.std.proofs.Common.{◌≡◌, ◌∙◌, ◌⊎◌, ℕ, true, true≢false, List, [], ◌∷◌, Option, None, Some, Ok, Err}
 use Rattle.std.proofs.Common.{codes, length, map, inl, inr, ap, refl, sym, subst, arith}
 use Rattle.std.specs.Borrow.{Bor}
-use Rattle.std.specs.List.{AllZip}
+use Rattle.std.specs.List.{AllByRecursion, AllZip}
 use Rattle.bi_base.specs.Commands.{PipeError, OfCommand, InputTooLong, NoMemory, NoRead, NoWrite}
 use Rattle.bi_base.specs.declared.fault.Cause.TheVariants.{BadPart}
 use Rattle.bi_base.specs.declared.fault.Error.{Error}
@@ -91,6 +91,7 @@ legacy_of plan parts first known limits output is built =
 abbrev model_with : ImageFields → List ℕ → ImageSpecModel
 model_with fields payload = record {
   name = fields.name;
+  description = None;
   image_type = code_name type_names fields.image_type;
   arch = code_name arch_names fields.arch;
   os = code_name os_names fields.os;
@@ -104,38 +105,50 @@ abbrev models_with : List ImageFields → List (List ℕ) → List ImageSpecMode
 models_with (fields ∷ later) (payload ∷ payloads) = model_with fields payload ∷ models_with later payloads
 models_with fields payloads = []
 
-models_are : (images : List ImageSpec) →
-    spec_models plain_plan images ≡ models_with (map image_fields images) (map (λ image. image.payload.now) images)
-models_are [] = refl
-models_are (image ∷ later) = ap (λ models. model_with (image_fields image) image.payload.now ∷ models) (models_are later)
+-- Without descriptions of images, in whatever way, the plan is the plain one.
+abbrev plan_with_nothing : List (Option (List ℕ)) → PlanSpecModel
+plan_with_nothing descriptions = record plain_plan { descriptions = descriptions }
+
+models_are : (descriptions : List (Option (List ℕ))) → AllByRecursion (λ description. description ≡ None) descriptions →
+    (images : List ImageSpec) → spec_models (plan_with_nothing descriptions) images
+    ≡ models_with (map image_fields images) (map (λ image. image.payload.now) images)
+models_are descriptions none [] = refl
+models_are [] none (image ∷ later) =
+    ap (λ models. model_with (image_fields image) image.payload.now ∷ models) (models_are [] tt later)
+models_are (description ∷ descriptions) none (image ∷ later) =
+    rw (none.0)
+    (ap (λ models. model_with (image_fields image) image.payload.now ∷ models) (models_are descriptions none.1 later))
 
 abbrev text_of_models : Head → List ImageSpecModel → List ℕ
 text_of_models head models = fit_text Embedded (built_tree (head_model head) (plan_for plain_plan models) models)
 
 plain_text : (any : Bor (List ℕ)) (limits : Limits) (output : List ℕ) →
-    IsFitOutput limits Embedded (head_like any (codes "k")) plain_plan (kernel_and_ramdisk any) hello_and_abc [] output →
-    output ≡ known_text
+    IsFitOutput limits Embedded (head_like any (codes "k")) (plan_with_nothing (None ∷ None ∷ [])) (kernel_and_ramdisk any) hello_and_abc
+    [] output → output ≡ known_text
 plain_text any limits output is =
     let contents = given_contents hello_and_abc (codes "hello" ∷ codes "abc" ∷ []) is.contents refl is.filled.given in
     let fields : map image_fields is.images ≡ map image_fields (kernel_and_ramdisk any) = is.have.same_fields in
     is.built.is_text
     ∙ ap (text_of_models (head_like any (codes "k")))
-    (models_are is.images ∙ (λ i. models_with (fields i) ((is.have.have_payloads ∙ contents) i)))
+    (models_are (None ∷ None ∷ []) (refl, (refl, tt)) is.images ∙ (λ i. models_with (fields i) ((is.have.have_payloads ∙ contents) i)))
 
 fit_of_plan : (any : Bor (List ℕ)) (plan : FitPlan) (limits : Limits) (output : List ℕ) → IsPlainPlan any plan →
     (build_promise (Fit plan) hello_and_abc limits).is_output tt [] output → output ≡ known_text
 fit_of_plan any plan limits output plain is =
     plain_text any limits output
-    (subst (λ (form : Form). IsFitOutput limits form (head_like any (codes "k")) plain_plan (kernel_and_ramdisk any) hello_and_abc []
-    output)
+    (subst (λ (form : Form). IsFitOutput limits form (head_like any (codes "k")) nothing_given (kernel_and_ramdisk any) hello_and_abc
+    [] output)
     plain.form
-    (subst (λ (head : Head). IsFitOutput limits plan.form head plain_plan (kernel_and_ramdisk any) hello_and_abc [] output) plain.head
+    (subst (λ (head : Head). IsFitOutput limits plan.form head nothing_given (kernel_and_ramdisk any) hello_and_abc [] output) plain.head
     (subst (λ (spec : PlanSpecModel). IsFitOutput limits plan.form plan.head spec (kernel_and_ramdisk any) hello_and_abc [] output) spec_is
     (subst (λ (images : List ImageSpec). IsFitOutput limits plan.form plan.head (plan_of_options plan) images hello_and_abc [] output)
     plain.images is))))
   where
-    spec_is : plan_of_options plan ≡ plain_plan
-    spec_is = rw (plain.configurations, plain.default, plain.algorithms, plain.texts) refl
+    nothing_given : PlanSpecModel
+    nothing_given = plan_with_nothing (None ∷ None ∷ [])
+
+    spec_is : plan_of_options plan ≡ nothing_given
+    spec_is = rw (plain.configurations, plain.default, plain.algorithms, plain.texts, plain.images, plain.descriptions) refl
 
 pub build_promises_are_known : BuildPromisesAreKnown
 build_promises_are_known = record {

@@ -1,8 +1,9 @@
+use Rattle.std.proofs.Common.{cond}
 use Rattle.std.proofs.Common.{◌≡◌, ◌≢◌, ◌==◌, ◌∙◌, false, inl, inr, is_some, count_by, true, Bool, ◌+◌, zero, suc, take, get_or, map}
-use Rattle.std.proofs.Common.{option_map, unwrap_or, slice_get, codes, ◌<◌, ◌++◌, ℕ, Bor, List, [], ◌∷◌, Option, Some, None, Result, Ok}
+use Rattle.std.proofs.Common.{option_map, slice_get, codes, ◌<◌, ◌++◌, ℕ, Bor, List, [], ◌∷◌, Option, Some, None, Result, Ok}
 use Rattle.std.proofs.Common.{Err, IfNone, IfSome, IfErr, MatchOption, length, ap, sym, subst, refl, arith}
 use Rattle.std.specs.List.{AllZip, position_or_len, before_first, after_first}
-use Rattle.std.specs.Option.{ok_or, option_map_or}
+use Rattle.std.specs.Option.{ok_or, option_map_or, UnwrapsOrElse}
 use Rattle.std.specs.Result.{IsErrAnd}
 use Rattle.std.specs.Prelude.{OnOk}
 use Rattle.std.specs.Str.{bytes_eq}
@@ -20,7 +21,10 @@ use Rattle.clap.specs.declared.parser.matches.MatchedArg.{MatchedArg}
 use Rattle.bootimg.specs.CommandLine.{given_count, list_of, option_of, texts_of, AreEscaped, AreGiven, AreImages, ArePartSources}
 use Rattle.bootimg.specs.Words.{parts_of}
 use Rattle.bootimg.specs.CommandLine.{IsAllFailure, IsAllRequest, IsNoneGiven, IsFailureOutcome, IsEntry, IsFirstBad, IsSelection}
-use Rattle.bootimg.specs.CommandLine.{IsSelectionFailure}
+use Rattle.bootimg.specs.CommandLine.{AreImageSources, AreSources, IsImageSource, IsSelectionFailure, is_standard}
+use Rattle.bootimg.specs.declared.command_line.source.ImageSource.{ImageSource}
+use Rattle.bootimg.specs.declared.command_line.source.ImageSource.TheVariants.{File, Standard}
+use Rattle.std.proofs.lemmas.List.Sums.{sum_by-cons}
 use Rattle.bootimg.specs.CommandLine.{IsAddress, IsBadValue, IsImage, IsImageText, IsNameOf, IsPartSource, NoneIs, SelectsDefault}
 use Rattle.bootimg.specs.Numbers.{IsNumber}
 use Rattle.bootimg.specs.declared.codes.CodeField.TheVariants.{Os, Arch, ImageType, Compression}
@@ -166,13 +170,13 @@ not_dash argument result is not same =
     absurd (let e : true ≡ false = sym yes ∙ sym is ∙ not in cc)
 
 -- The arguments of an argument are none if it has no entry.
-pub words_are : (found : Option (Bor (List (Bor (List ℕ))))) (entry : Option MatchedArg) (none result : Bor (List (Bor (List ℕ)))) →
-    option_map (λ s. map (λ v. v.now) s.now) found ≡ option_map raw_values entry → result ≡ unwrap_or found none → none.now ≡ [] →
-    texts_of result.now ≡ option_map_or raw_values entry []
-words_are None None none result same is empty = rw (is, empty) refl
-words_are None (Some entry) none result same is empty = absurd cc
-words_are (Some arguments) None none result same is empty = absurd cc
-words_are (Some arguments) (Some entry) none result same is empty = rw (is) (cc)
+pub words_are : (found : Option (Bor (List (Bor (List ℕ))))) (entry : Option MatchedArg) (result : Bor (List (Bor (List ℕ)))) →
+    option_map (λ s. map (λ v. v.now) s.now) found ≡ option_map raw_values entry →
+    UnwrapsOrElse found (λ words. words.now ≡ []) result → texts_of result.now ≡ option_map_or raw_values entry []
+words_are None None result same is = rw (is) refl
+words_are None (Some entry) result same is = absurd cc
+words_are (Some arguments) None result same is = absurd cc
+words_are (Some arguments) (Some entry) result same is = rw (is) (cc)
 
 -- One more argument of a list.
 pub texts_push : (arguments : List (Bor (List ℕ))) (index : ℕ) (d : Bor (List ℕ)) → index < length arguments →
@@ -285,6 +289,41 @@ pub parts_next : (arguments : List (Bor (List ℕ))) (index : ℕ) (d : Bor (Lis
 parts_next arguments index d parts next part within are is one =
     rw (texts_push arguments index d within, is)
     (zip_push IsPartSource (texts_of (take index arguments)) parts (get_or arguments index d).now part are one)
+
+-- The images of `list` and others so far, and one more.
+pub sources_next : (arguments : List (Bor (List ℕ))) (index : ℕ) (d : Bor (List ℕ)) (sources next : List ImageSource)
+    (source : ImageSource) → index < length arguments → AreImageSources (texts_of (take index arguments)) sources
+    → next ≡ sources ++ source ∷ [] → IsImageSource (Some (get_or arguments index d).now) source
+    → AreImageSources (texts_of (take (index + 1) arguments)) next
+sources_next arguments index d sources next source within are is one =
+    rw (texts_push arguments index d within, is)
+    (zip_push (λ argument. IsImageSource (Some argument)) (texts_of (take index arguments)) sources (get_or arguments index d).now source
+    are one)
+
+-- However arguments name images, as many are standard input.
+pub same_inputs : (arguments : List (List ℕ)) (one other : List ImageSource) → AreImageSources arguments one
+    → AreImageSources arguments other → count_by is_standard one ≡ count_by is_standard other
+same_inputs [] [] [] are also = refl
+same_inputs [] [] (source ∷ other) are also = absurd also
+same_inputs [] (source ∷ one) other are also = absurd are
+same_inputs (argument ∷ arguments) [] other are also = absurd are
+same_inputs (argument ∷ arguments) (source ∷ one) [] are also = absurd also
+same_inputs (argument ∷ arguments) (Standard ∷ one) (Standard ∷ other) are also =
+    sum_by-cons (λ source. cond (is_standard source) 1 0) Standard one ∙ ap (λ n. 1 + n) (same_inputs arguments one other are.1 also.1)
+    ∙ sym (sum_by-cons (λ source. cond (is_standard source) 1 0) Standard other)
+same_inputs (argument ∷ arguments) (File name ∷ one) (File another ∷ other) are also =
+    sum_by-cons (λ source. cond (is_standard source) 1 0) (File name) one ∙ ap (λ n. 0 + n) (same_inputs arguments one other are.1 also.1)
+    ∙ sym (sum_by-cons (λ source. cond (is_standard source) 1 0) (File another) other)
+same_inputs (argument ∷ arguments) (Standard ∷ one) (File name ∷ other) are also = absurd (also.0.1 are.0)
+same_inputs (argument ∷ arguments) (File name ∷ one) (Standard ∷ other) are also = absurd (are.0.1 also.0)
+
+-- No images are named by arguments of which two are standard input.
+pub two_inputs : (arguments : List (List ℕ)) (sources : List ImageSource) → AreImageSources arguments sources
+    → 1 < count_by is_standard sources → NoneIs (AreSources arguments)
+two_inputs arguments sources are two value named =
+    let same = same_inputs arguments value sources named.each are in
+    let most = named.one_input in
+    absurd (omega (arith, same, most, two))
 
 -- The images so far, and one more.
 pub images_next : (arguments : List (Bor (List ℕ))) (index : ℕ) (d : Bor (List ℕ)) (images more : List ImageSpec)

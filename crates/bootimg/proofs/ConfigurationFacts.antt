@@ -1,9 +1,10 @@
 use Rattle.std.proofs.Common.{◌≡◌, ◌≢◌, ◌∙◌, ◌+◌, ◌<◌, ℕ, suc, zero, Bor, List, [], ◌∷◌, ◌++◌, length, take, get_or}
-use Rattle.std.proofs.Common.{map, ap, sym, subst, refl}
-use Rattle.std.proofs.Common.{Bool, true, false, true≢false, bytes_eq, Option, Some}
+use Rattle.std.proofs.Common.{map, ap, sym, subst, refl, arith}
+use Rattle.std.proofs.Common.{Bool, true, false, true≢false, bytes_eq, Option, None, Some, option_map}
+use Rattle.bi_base.specs.Slices.{bytes_of}
 use Rattle.std.specs.Prelude.{◌||◌}
 use Rattle.std.specs.List.{AllByRecursion, AllZip, list_any}
-use Rattle.std.proofs.lemmas.List.{map-append, take_more}
+use Rattle.std.proofs.lemmas.List.{map-append, take_more, length-map, get_or-map}
 use Rattle.bi_blob.specs.Layout.{is_among}
 use Rattle.bi_base.proofs.ListMembers.{each-append}
 use Rattle.bi_blob.specs.Tree.{AreDistinct, IsChildName, IsNew}
@@ -17,7 +18,9 @@ use Rattle.bootimg.specs.CommandLine.{texts_of, NoneIs}
 use Rattle.bootimg.specs.ConfigurationWords.{configuration_model, configuration_models, names_under, AreConfigurations, AreLists}
 use Rattle.bootimg.specs.ConfigurationWords.{name_of_word, IsConfigurationWord, IsDefault, IsFirstBadConfiguration, IsListText}
 use Rattle.bootimg.specs.Words.{parts_of}
+use Rattle.bootimg.specs.OwnTexts.{planned_configuration, planned_configurations, text_named, texts_named}
 use Rattle.bootimg.specs.declared.command_line.configurations.ConfigurationWord.{ConfigurationWord}
+use Rattle.bootimg.specs.declared.command_line.texts.OwnTexts.{OwnTexts}
 use Rattle.bootimg.proofs.CommandLines.{texts_push, zip_push}
 use Rattle.bootimg.proofs.KeyLists.{same_listed_names}
 use Rattle.bootimg.proofs.ListedTexts.{distinct_here, values_around}
@@ -25,12 +28,13 @@ use Rattle.bootimg.proofs.ListedTexts.{distinct_here, values_around}
 -- A word is one configuration, and words are the configurations that are parsed from them one by one, up to the first that is none.
 
 abbrev pub model_of : (name : List ℕ) (lists : Key → List (List ℕ)) → ConfigurationSpecModel
-model_of name lists = record { name = name; lists = lists }
+model_of name lists = record { name = name; description = None; compatible = []; lists = lists }
 
 -- Configurations with the same name and the same lists.
 pub equal_models : (name other : List ℕ) (lists others : Key → List (List ℕ)) → name ≡ other → ((key : Key) → lists key ≡ others key) →
     model_of name lists ≡ model_of other others
-equal_models name other lists others names same = λ i. record { name = names i; lists = λ key. same key i }
+equal_models name other lists others names same =
+    λ i. record { name = names i; description = None; compatible = []; lists = λ key. same key i }
 
 -- A word is one configuration.
 pub same_configuration : (word : List ℕ) (one other : ConfigurationWord) → IsConfigurationWord word one → IsConfigurationWord word other →
@@ -179,14 +183,46 @@ names_next configurations next configuration more =
 -- ---- configurations that are lent
 
 -- The configurations so far were lent, and one more.
-pub configuration_lent_next : (words : List ConfigurationWord) (index : ℕ) (d : ConfigurationWord) (lent next : List ConfigurationSpec)
-    (spec : ConfigurationSpec) → index < length words → configuration_spec_models lent ≡ configuration_models (take index words) →
-    next ≡ lent ++ spec ∷ [] → configuration_spec_model spec ≡ configuration_model (get_or words index d) →
-    configuration_spec_models next ≡ configuration_models (take (index + 1) words)
-configuration_lent_next words index d lent next spec within are more same =
+pub configuration_lent_next : (texts : OwnTexts) (words : List ConfigurationWord) (index : ℕ) (d : ConfigurationWord)
+    (lent next : List ConfigurationSpec) (spec : ConfigurationSpec) → index < length words →
+    configuration_spec_models lent ≡ planned_configurations texts (take index words) → next ≡ lent ++ spec ∷ [] →
+    configuration_spec_model spec ≡ planned_configuration texts (get_or words index d) →
+    configuration_spec_models next ≡ planned_configurations texts (take (index + 1) words)
+configuration_lent_next texts words index d lent next spec within are more same =
     ap configuration_spec_models more ∙ map-append configuration_spec_model lent (spec ∷ []) ∙ (λ i. are i ++ same i ∷ [])
-    ∙ sym (ap configuration_models (take_more words index d within)
-    ∙ map-append configuration_model (take index words) (get_or words index d ∷ []))
+    ∙ sym (ap (planned_configurations texts) (take_more words index d within)
+    ∙ map-append (planned_configuration texts) (take index words) (get_or words index d ∷ []))
+
+-- The texts at the index of a configuration are its own.
+pub compatibles_at : {V : Type 0} (bytes : V → List (List ℕ)) (all : List V) (texts : OwnTexts) (words : List ConfigurationWord)
+    (index : ℕ) (one : V) (d : ConfigurationWord) →
+    map bytes all ≡ map (λ word. texts_named texts.compatibles.items word.name.now) words → index < length words →
+    one ≡ get_or all index one → bytes one ≡ texts_named texts.compatibles.items (get_or words index d).name.now
+compatibles_at bytes all texts words index one d same within is =
+    let below : index < length all =
+    omega (
+      arith,
+      within,
+      ap length same,
+      length-map all bytes,
+      length-map words (λ (word : ConfigurationWord). texts_named texts.compatibles.items word.name.now),
+    ) in
+    ap bytes is
+    ∙ sym (get_or-map bytes all index one [] below)
+    ∙ ap (λ l. get_or l index []) same
+    ∙ get_or-map (λ (word : ConfigurationWord). texts_named texts.compatibles.items word.name.now) words index d [] within
+
+-- The configuration with these texts of its own.
+pub lent_configuration : (texts : OwnTexts) (word : ConfigurationWord) (spec lent : ConfigurationSpec)
+    (description : Option (Bor (List ℕ))) (compatible : Bor (List (Bor (List ℕ)))) →
+    configuration_spec_model spec ≡ configuration_model word →
+    option_map (λ text. text.now) description ≡ text_named texts.configurations.items word.name.now →
+    bytes_of compatible.now ≡ texts_named texts.compatibles.items word.name.now →
+    lent ≡ record spec { description = description; compatible = compatible } →
+    configuration_spec_model lent ≡ planned_configuration texts word
+lent_configuration texts word spec lent description compatible same described are is =
+    ap configuration_spec_model is
+    ∙ (λ i. record (same i) { description = described i; compatible = are i })
 
 -- ---- a word
 

@@ -1,6 +1,8 @@
 use Rattle.std.proofs.Common.{◌≡◌, ◌∙◌, ◌<◌, ℕ, suc, zero, false, List, [], ◌∷◌, None, Some}
-use Rattle.std.proofs.Common.{codes, length, lit≤, ◌⊎◌, inl, inr, ap, refl, sym, subst, subst₂, arith, slice_get, true≢false}
+use Rattle.std.proofs.Common.{codes, length, map, lit<, lit≤, ◌⊎◌, inl, inr, ap, refl, sym, subst, subst₂, arith, slice_get, true≢false}
+use Rattle.std.specs.Global.{Vec}
 use Rattle.std.specs.List.{AllZip}
+use Rattle.std.specs.Ptr.{null_ptr}
 use Rattle.bi_base.specs.Limits.{Limits, widest}
 use Rattle.bi_base.proofs.EqualBytes.{other_bytes}
 use Rattle.bi_commands.specs.KnownChoices.{lent}
@@ -10,24 +12,26 @@ use Rattle.bi_hash.specs.declared.algo.Algo.TheVariants.{Sha256}
 use Rattle.bi_norm.specs.FitBuilding.{names_of_specs}
 use Rattle.clap.specs.declared.parser.matches.ArgMatches.{ArgMatches}
 use Rattle.clap.proofs.OnLiterals.{clap_on_literals}
-use Rattle.bootimg.specs.CommandLine.{ChangesHashes, HasFitValues, HasNoForm, IsBadPlan, IsChanges, IsChangesFailure}
+use Rattle.bootimg.specs.CommandLine.{AreOwnTexts, ChangesHashes, HasFitValues, HasNoForm, IsBadPlan, IsChanges, IsChangesFailure}
 use Rattle.bootimg.specs.CommandLine.{IsFirstBad, IsFitPlanFailure, IsForm, IsFormWith, IsImageText, IsLimits, IsNewTime}
 use Rattle.bootimg.specs.CommandLine.{IsTaskFailure, NoneIs, NotAllowed, NotChanged, NotCompared, NotExplained, NotFit, NotFormed}
 use Rattle.bootimg.specs.CommandLine.{NotFormedChanged, NotLegacy, NotLimited, NotNamed, NotPlaced, NotSelected, NotShown, align_option, external_flag}
 use Rattle.bootimg.specs.CommandLine.{given_offset, hashes_flag, limit_of, option_of, value_of, values_of}
-use Rattle.bootimg.specs.ConfigurationWords.{AreHashes, IsDefault, IsFirstBadConfiguration}
-use Rattle.bootimg.specs.KnownBuildRequests.{FirstFailuresAreKnown, IsTheOne}
+use Rattle.bootimg.specs.ConfigurationWords.{AreHashes, IsDefault, IsFirstBadConfiguration, name_of_word}
+use Rattle.bootimg.specs.KnownBuildRequests.{FirstFailuresAreKnown, IsTheOne, text_for_name}
 use Rattle.bootimg.specs.Numbers.{IsNumber}
+use Rattle.bootimg.specs.OwnTexts.{AreDescriptions, AreNamedTexts}
 use Rattle.bootimg.specs.Program.{program_app}
 use Rattle.bootimg.specs.Words.{parts_of}
 use Rattle.bootimg.specs.declared.codes.CodeField.TheVariants.{Os, Arch, ImageType, Compression}
-use Rattle.bootimg.specs.declared.command_line.Task.TheVariants as task
 use Rattle.bootimg.specs.declared.command_line.image.ImageWord.{ImageWord}
 use Rattle.bootimg.specs.declared.command_line.part.PartSource.TheVariants as part
+use Rattle.bootimg.specs.declared.command_line.texts.NamedText.{NamedText}
+use Rattle.bootimg.specs.declared.command_line.texts.OwnTexts.{OwnTexts}
 use Rattle.bootimg.specs.declared.failure.Failure.{Failure}
 use Rattle.bootimg.specs.declared.failure.Failure.TheVariants.{BadConfiguration, BadImage, BadValue, NoChange}
 use Rattle.bootimg.proofs.ArgumentFacts.{code_with_name, decimal_digits, is_no_number}
-use Rattle.bootimg.proofs.BuildRequestFacts.{first_is_bad, no_first_word, unknown_md4, without_list}
+use Rattle.bootimg.proofs.BuildRequestFacts.{first_is_bad, no_first_word, unknown_md4, vec_of, without_list}
 use Rattle.bootimg.proofs.OptionFacts.{found_values}
 use Rattle.bootimg.proofs.RequestFacts.{flag_is, no_change_fails, no_time_given, not_given_and_missing, option_is, value_is}
 use Rattle.bootimg.proofs.TaskNames.{not_a_task}
@@ -150,10 +154,55 @@ some_form options flag align none =
     none.no_form Embedded
     (subst₂ (λ e a. IsFormWith e a Embedded) (sym (none.is_external.not_given flag)) (sym align) refl)
 
+-- No texts of one image or one configuration.
+abbrev no_texts : Vec NamedText
+no_texts = record {
+  ptr = null_ptr;
+  len = 0;
+  cap = 0;
+  alloc = record { memory = record { seal = tt } };
+  items = [];
+  ok = (refl, lit≤ tt);
+  small = lit< tt;
+}
+
+without_texts : (options : ArgMatches) → values_of options (codes "compatible") ≡ [] →
+    values_of options (codes "describe-config") ≡ [] → values_of options (codes "describe-image") ≡ [] →
+    AreOwnTexts options (record { compatibles = no_texts; configurations = no_texts; images = no_texts })
+without_texts options compatible configurations images = record {
+  compatibles = subst (λ words. AreNamedTexts (map name_of_word (values_of options (codes "config"))) words []) (sym compatible)
+      (record { each = tt; known = tt });
+  configurations = subst (λ words. AreDescriptions (map name_of_word (values_of options (codes "config"))) words [])
+      (sym configurations) (record { texts = record { each = tt; known = tt }; distinct = tt });
+  images = subst (λ words. AreDescriptions (map name_of_word (values_of options (codes "images"))) words []) (sym images)
+      (record { texts = record { each = tt; known = tt }; distinct = tt });
+}
+
+-- A description of the image `a` alone.
+abbrev description_of_a : Vec NamedText
+description_of_a = vec_of (text_for_name (codes "a") (codes "x") ∷ []) refl
+
+with_description : (options : ArgMatches) → values_of options (codes "compatible") ≡ [] →
+    values_of options (codes "describe-config") ≡ [] → values_of options (codes "describe-image") ≡ codes "a:x" ∷ [] →
+    values_of options (codes "images") ≡ codes "a" ∷ [] →
+    AreOwnTexts options (record { compatibles = no_texts; configurations = no_texts; images = description_of_a })
+with_description options compatible configurations described images = record {
+  compatibles = subst (λ words. AreNamedTexts (map name_of_word (values_of options (codes "config"))) words []) (sym compatible)
+      (record { each = tt; known = tt });
+  configurations = subst (λ words. AreDescriptions (map name_of_word (values_of options (codes "config"))) words [])
+      (sym configurations) (record { texts = record { each = tt; known = tt }; distinct = tt });
+  images = subst₂ (λ images words. AreDescriptions (map name_of_word images) words (text_for_name (codes "a") (codes "x") ∷ []))
+      (sym images) (sym described) (record {
+        texts = record { each = (record { name = refl; is = refl; some = λ e. absurd cc }, tt); known = (refl, tt) };
+        distinct = (tt, tt);
+      });
+}
+
 -- Without these options the values are good.
 module _ (options : ArgMatches) (time : value_of options (codes "time") (codes "0") ≡ codes "0")
     (flag : external_flag options ≡ Some (codes "false")) (align : align_option options ≡ None)
-    (default : option_of options (codes "default") ≡ None) (hash : option_of options (codes "hash") ≡ None) where
+    (default : option_of options (codes "default") ≡ None) (hash : option_of options (codes "hash") ≡ None)
+    (own : OwnTexts) (are_own : AreOwnTexts options own) where
   good_values : HasFitValues options
   good_values = record {
     time = 0;
@@ -164,6 +213,8 @@ module _ (options : ArgMatches) (time : value_of options (codes "time") (codes "
     is_default = subst (λ o. IsDefault (values_of options (codes "config")) o None) (sym default) refl;
     algorithms = Sha256 ∷ [];
     are_algorithms = subst (λ o. AreHashes o (Sha256 ∷ [])) (sym hash) refl;
+    own_texts = own;
+    are_own_texts = are_own;
   }
 
   no_bad_value : ¬ (IsFitPlanFailure options BadValue)
@@ -398,12 +449,50 @@ first_failures_are_known = record {
       value_fails options
       (λ has.
       subst₂ (λ e a. IsFormWith e a has.form) (has.is_form.is_external.not_given flag) align has.is_form.is_form);
+  compatible_before_image = λ options is.
+      let line = codes "build-fit --config c --compatible d:x a" in
+      let words : values_of options (codes "compatible") ≡ codes "d:x" ∷ [] =
+      found_values line (codes "build-fit") options is (codes "compatible") ∙ refl in
+      let configurations : values_of options (codes "config") ≡ codes "c" ∷ [] =
+      found_values line (codes "build-fit") options is (codes "config") ∙ refl in
+      value_fails options
+      (λ has.
+      let bad = subst₂ (λ configurations words. AreNamedTexts (map name_of_word configurations) words has.own_texts.compatibles.items)
+      configurations words has.are_own_texts.compatibles in
+      true≢false (sym bad.known.0));
+  description_before_image = λ options is.
+      let line = codes "build-fit --describe-image b:x a" in
+      let words : values_of options (codes "describe-image") ≡ codes "b:x" ∷ [] =
+      found_values line (codes "build-fit") options is (codes "describe-image") ∙ refl in
+      let images : values_of options (codes "images") ≡ codes "a" ∷ [] =
+      found_values line (codes "build-fit") options is (codes "images") ∙ refl in
+      value_fails options
+      (λ has.
+      let bad = subst₂ (λ images words. AreDescriptions (map name_of_word images) words has.own_texts.images.items) images words
+      has.are_own_texts.images in
+      true≢false (sym bad.texts.known.0));
+  image_after_description = λ options is.
+      let line = codes "build-fit --describe-image a:x a" in
+      let name = codes "build-fit" in
+      image_fails options (value_is line name options is (codes "time") (codes "0") ∙ refl)
+      (flag_is line name options is (codes "external") ∙ refl) (option_is line name options is (codes "align") ∙ refl)
+      (option_is line name options is (codes "default") ∙ refl) (option_is line name options is (codes "hash") ∙ refl)
+      _ (with_description options (found_values line name options is (codes "compatible") ∙ refl)
+      (found_values line name options is (codes "describe-config") ∙ refl)
+      (found_values line name options is (codes "describe-image") ∙ refl)
+      (found_values line name options is (codes "images") ∙ refl))
+      (codes "a" ∷ []) 0 (found_values line name options is (codes "images") ∙ refl)
+      (first_image_is_bad (codes "a") [] (few_fields (codes "a") refl))
+      (λ images. no_first (codes "a") [] images (few_fields (codes "a") refl));
   image_before_configuration = λ options is.
       let line = codes "build-fit --config c a" in
       let name = codes "build-fit" in
       image_fails options (value_is line name options is (codes "time") (codes "0") ∙ refl)
       (flag_is line name options is (codes "external") ∙ refl) (option_is line name options is (codes "align") ∙ refl)
       (option_is line name options is (codes "default") ∙ refl) (option_is line name options is (codes "hash") ∙ refl)
+      _ (without_texts options (found_values line name options is (codes "compatible") ∙ refl)
+      (found_values line name options is (codes "describe-config") ∙ refl)
+      (found_values line name options is (codes "describe-image") ∙ refl))
       (codes "a" ∷ []) 0 (found_values line name options is (codes "images") ∙ refl)
       (first_image_is_bad (codes "a") [] (few_fields (codes "a") refl))
       (λ images. no_first (codes "a") [] images (few_fields (codes "a") refl));
@@ -413,6 +502,9 @@ first_failures_are_known = record {
       image_fails options (value_is line name options is (codes "time") (codes "0") ∙ refl)
       (flag_is line name options is (codes "external") ∙ refl) (option_is line name options is (codes "align") ∙ refl)
       (option_is line name options is (codes "default") ∙ refl) (option_is line name options is (codes "hash") ∙ refl)
+      _ (without_texts options (found_values line name options is (codes "compatible") ∙ refl)
+      (found_values line name options is (codes "describe-config") ∙ refl)
+      (found_values line name options is (codes "describe-image") ∙ refl))
       (codes "a" ∷ codes "b" ∷ []) 0 (found_values line name options is (codes "images") ∙ refl)
       (first_image_is_bad (codes "a") (codes "b" ∷ []) (few_fields (codes "a") refl))
       (λ images. no_first (codes "a") (codes "b" ∷ []) images (few_fields (codes "a") refl));
@@ -422,6 +514,9 @@ first_failures_are_known = record {
       image_fails options (value_is line name options is (codes "time") (codes "0") ∙ refl)
       (flag_is line name options is (codes "external") ∙ refl) (option_is line name options is (codes "align") ∙ refl)
       (option_is line name options is (codes "default") ∙ refl) (option_is line name options is (codes "hash") ∙ refl)
+      _ (without_texts options (found_values line name options is (codes "compatible") ∙ refl)
+      (found_values line name options is (codes "describe-config") ∙ refl)
+      (found_values line name options is (codes "describe-image") ∙ refl))
       (kernel_text ∷ codes "b" ∷ codes "a" ∷ []) 1 (found_values line name options is (codes "images") ∙ refl)
       (second_image_is_bad kernel_text (codes "b") (codes "a" ∷ []) kernel_image kernel_is_image (few_fields (codes "b") refl))
       (λ images. second_of kernel_text (codes "b") (codes "a" ∷ []) images (few_fields (codes "b") refl));
@@ -431,6 +526,9 @@ first_failures_are_known = record {
       configuration_fails options (value_is line name options is (codes "time") (codes "0") ∙ refl)
       (flag_is line name options is (codes "external") ∙ refl) (option_is line name options is (codes "align") ∙ refl)
       (option_is line name options is (codes "default") ∙ refl) (option_is line name options is (codes "hash") ∙ refl)
+      _ (without_texts options (found_values line name options is (codes "compatible") ∙ refl)
+      (found_values line name options is (codes "describe-config") ∙ refl)
+      (found_values line name options is (codes "describe-image") ∙ refl))
       kernel_text kernel_image kernel_is_image (codes "c" ∷ []) 0
       (found_values line name options is (codes "images") ∙ refl) (found_values line name options is (codes "config") ∙ refl)
       (λ names.
@@ -453,6 +551,9 @@ first_failures_are_known = record {
       (image_fails options (value_is line name options is (codes "time") (codes "0") ∙ refl)
       (flag_is line name options is (codes "external") ∙ refl) (option_is line name options is (codes "align") ∙ refl)
       (option_is line name options is (codes "default") ∙ refl) (option_is line name options is (codes "hash") ∙ refl)
+      _ (without_texts options (found_values line name options is (codes "compatible") ∙ refl)
+      (found_values line name options is (codes "describe-config") ∙ refl)
+      (found_values line name options is (codes "describe-image") ∙ refl))
       (codes "a" ∷ []) 0 (found_values line name options is (codes "images") ∙ refl)
       (first_image_is_bad (codes "a") [] (few_fields (codes "a") refl))
       (λ images. no_first (codes "a") [] images (few_fields (codes "a") refl)));

@@ -1,4 +1,4 @@
-use Rattle.std.proofs.Common.{◌≡◌, ◌∙◌, ℕ, List, [], ◌∷◌, Option, Some, None, codes, length, map, ap, refl, sym}
+use Rattle.std.proofs.Common.{◌≡◌, ◌∙◌, ℕ, List, [], Option, Some, None, codes, length, map, ap, refl, sym}
 use Rattle.std.proofs.lemmas.List.{length-map}
 use Rattle.bi_base.proofs.EqualBytes.{other_bytes}
 use Rattle.bi_values.specs.KnownValues.{load_and_default}

@@ -20,7 +20,7 @@ use Rattle.bootimg.specs.Failures.{failure_to_save}
 use Rattle.bootimg.specs.Runs.{Inputs, Work, source_failure, IsNotRead, IsImageRead, InputRead, FileRead, IsImageNotRead, InputNotRead}
 use Rattle.bootimg.specs.Runs.{FileNotRead, IsFileRead, IsFileNotRead, OpenedNotRead}
 use Rattle.bootimg.specs.Runs.{IsComparedWork, IsCompareWork, BothRead, OtherNotRead, IsFailedWork, IsBuildWork}
-use Rattle.bootimg.specs.Runs.{IsExplainWork, IsImageWork, IsJobWork, IsHeldWork, IsHeldFailure, failure_in_memory, Run, work_of}
+use Rattle.bootimg.specs.Runs.{IsExplainWork, IsJobWork, IsPlanWork, IsHeldWork, IsHeldFailure, failure_in_memory, Run, work_of}
 use Rattle.bootimg.specs.Runs.{inputs_before, inputs_after, IsOutputRun, IsSavedWork, OutputSaved, OutputNotSaved, ToStandardOutput, ToFile}
 use Rattle.bi_files.proofs.NewFiles.{steps_in_turn}
 
@@ -123,7 +123,7 @@ other_not_read files later plan limits work old new one middle failure one_read 
 
 -- The job is to do a task with one image.
 pub task_is_done : (files : KnownFiles) (job : Job) (plan : ImagePlan) (limits : Limits) (work : Work)
-    (old new : Option (List FileStep)) → job ≡ RunTask plan → IsImageWork files plan limits work old new
+    (old new : Option (List FileStep)) → job ≡ RunTask plan → IsPlanWork files plan limits work old new
     → IsJobWork files job limits work old new
 task_is_done files job plan limits work old new is done = subst (λ j. IsJobWork files j limits work old new) (sym is) done
 

@@ -1,5 +1,6 @@
 use Rattle.std.proofs.Common.{◌≡◌, ◌∙◌, ◌<◌, ◌⊎◌, ℕ, Bool, true, false, true≢false, List, [], ◌∷◌, ◌++◌, Option, None, Some, IfSome, Err}
 use Rattle.std.proofs.Common.{codes, length, lit≤, inl, inr, ap, refl, sym, subst, arith}
+use Rattle.std.specs.Global.{Vec}
 use Rattle.bi_base.specs.Cells.{cell, cell8, u32_at}
 use Rattle.bi_base.specs.Limits.{Limits, widest}
 use Rattle.bi_base.specs.Reading.{IsInput}
@@ -7,7 +8,9 @@ use Rattle.bi_blob.specs.KnownTexts.{smallest_text, smallest_tree}
 use Rattle.bi_blob.specs.Layout.{text_of_events, text_of_blocks, tree_with_places}
 use Rattle.bi_blob.specs.Tree.{none}
 use Rattle.bi_common.specs.declared.format.Format.TheVariants.{Json}
+use Rattle.bi_describe.specs.declared.ignored.Ignored.{Ignored}
 use Rattle.bi_describe.specs.KnownRefusals.{longer_meaning, shorter_meaning}
+use Rattle.bi_describe.proofs.ComparedWithoutFacts.{compared_without_is_known, ignoring_errors_are_known}
 use Rattle.bi_describe.proofs.DescribedFileFacts.{compared_texts_are_known}
 use Rattle.bi_describe.proofs.RefusalFacts.{describing_errors_are_known, reading_errors_are_known}
 use Rattle.bi_files.specs.Files.{FileStep, KnownFiles, NotOpened, TookSteps}
@@ -73,77 +76,78 @@ input_of_file remaining bytes input is has = subst (λ r. IsInput r input) is ha
 
 -- ---- compare
 
-no_files_opened : (work : Work) (new : Option (List FileStep)) → ComparesFiles without_files work new →
-    FailsToOpen (codes "a") work.outcome × IfSome new (λ steps. steps ≡ NotOpened (codes "a") ∷ [])
-no_files_opened work new (BothRead one other middle read also compared) =
-    absurd (file_was_read _ _ _ _ _ _ _ refl read).was_opened.is_open.is_file
-no_files_opened work new (OneNotRead failure read failed) = by (file_was_not_read _ _ _ _ _ _ _ refl read) where
-  by : IsFileNotRead without_files (limited_to 64) (codes "a") failure (Some []) new →
+module _ (ignored : Vec Ignored) where
+  no_files_opened : (work : Work) (new : Option (List FileStep)) → ComparesFiles ignored without_files work new →
       FailsToOpen (codes "a") work.outcome × IfSome new (λ steps. steps ≡ NotOpened (codes "a") ∷ [])
-  by (CouldNotOpen was is) =
-      (failed.outcome ∙ ap (λ f. Err (source_failure compared_plan.one f)) is, first_step new (NotOpened (codes "a")) was.steps)
-  by (OpenedNotRead opened end was not_read) = absurd was.is_open.is_file
-no_files_opened work new (OtherNotRead one middle failure read also failed) =
-    absurd (file_was_read _ _ _ _ _ _ _ refl read).was_opened.is_open.is_file
+  no_files_opened work new (BothRead one other middle read also compared) =
+      absurd (file_was_read _ _ _ _ _ _ _ refl read).was_opened.is_open.is_file
+  no_files_opened work new (OneNotRead failure read failed) = by (file_was_not_read _ _ _ _ _ _ _ refl read) where
+    by : IsFileNotRead without_files (limited_to 64) (codes "a") failure (Some []) new →
+        FailsToOpen (codes "a") work.outcome × IfSome new (λ steps. steps ≡ NotOpened (codes "a") ∷ [])
+    by (CouldNotOpen was is) =
+        (failed.outcome ∙ ap (λ f. Err (source_failure (compared_plan ignored).one f)) is, first_step new (NotOpened (codes "a")) was.steps)
+    by (OpenedNotRead opened end was not_read) = absurd was.is_open.is_file
+  no_files_opened work new (OtherNotRead one middle failure read also failed) =
+      absurd (file_was_read _ _ _ _ _ _ _ refl read).was_opened.is_open.is_file
 
-only_other_there : (work : Work) (new : Option (List FileStep)) → ComparesFiles (one_file (codes "b") []) work new →
-    FailsToOpen (codes "a") work.outcome
-only_other_there work new (BothRead one other middle read also compared) =
-    absurd (file_was_read _ _ _ _ _ _ _ refl read).was_opened.is_open.is_file
-only_other_there work new (OneNotRead failure read failed) = by (file_was_not_read _ _ _ _ _ _ _ refl read) where
-  by : IsFileNotRead (one_file (codes "b") []) (limited_to 64) (codes "a") failure (Some []) new →
+  only_other_there : (work : Work) (new : Option (List FileStep)) → ComparesFiles ignored (one_file (codes "b") []) work new →
       FailsToOpen (codes "a") work.outcome
-  by (CouldNotOpen was is) = failed.outcome ∙ ap (λ f. Err (source_failure compared_plan.one f)) is
-  by (OpenedNotRead opened end was not_read) = absurd was.is_open.is_file
-only_other_there work new (OtherNotRead one middle failure read also failed) =
-    absurd (file_was_read _ _ _ _ _ _ _ refl read).was_opened.is_open.is_file
+  only_other_there work new (BothRead one other middle read also compared) =
+      absurd (file_was_read _ _ _ _ _ _ _ refl read).was_opened.is_open.is_file
+  only_other_there work new (OneNotRead failure read failed) = by (file_was_not_read _ _ _ _ _ _ _ refl read) where
+    by : IsFileNotRead (one_file (codes "b") []) (limited_to 64) (codes "a") failure (Some []) new →
+        FailsToOpen (codes "a") work.outcome
+    by (CouldNotOpen was is) = failed.outcome ∙ ap (λ f. Err (source_failure (compared_plan ignored).one f)) is
+    by (OpenedNotRead opened end was not_read) = absurd was.is_open.is_file
+  only_other_there work new (OtherNotRead one middle failure read also failed) =
+      absurd (file_was_read _ _ _ _ _ _ _ refl read).was_opened.is_open.is_file
 
-only_one_there : (work : Work) (new : Option (List FileStep)) → ComparesFiles (one_file (codes "a") []) work new →
-    FailsAbout (codes "a") work.outcome ⊎ FailsToOpen (codes "b") work.outcome
-only_one_there work new (BothRead one other middle read also compared) =
-    absurd (file_was_read _ _ _ _ _ _ _ refl also).was_opened.is_open.is_file
-only_one_there work new (OneNotRead failure read failed) = inl (about (codes "a") failure compared_plan.one work refl failed)
-only_one_there work new (OtherNotRead one middle failure read also failed) = by (file_was_not_read _ _ _ _ _ _ _ refl also) where
-  by : IsFileNotRead (one_file (codes "a") []) (limited_to 64) (codes "b") failure middle.steps new →
+  only_one_there : (work : Work) (new : Option (List FileStep)) → ComparesFiles ignored (one_file (codes "a") []) work new →
       FailsAbout (codes "a") work.outcome ⊎ FailsToOpen (codes "b") work.outcome
-  by (CouldNotOpen was is) = inr (failed.outcome ∙ ap (λ f. Err (source_failure compared_plan.other f)) is)
-  by (OpenedNotRead opened end was not_read) = absurd was.is_open.is_file
+  only_one_there work new (BothRead one other middle read also compared) =
+      absurd (file_was_read _ _ _ _ _ _ _ refl also).was_opened.is_open.is_file
+  only_one_there work new (OneNotRead failure read failed) = inl (about (codes "a") failure (compared_plan ignored).one work refl failed)
+  only_one_there work new (OtherNotRead one middle failure read also failed) = by (file_was_not_read _ _ _ _ _ _ _ refl also) where
+    by : IsFileNotRead (one_file (codes "a") []) (limited_to 64) (codes "b") failure middle.steps new →
+        FailsAbout (codes "a") work.outcome ⊎ FailsToOpen (codes "b") work.outcome
+    by (CouldNotOpen was is) = inr (failed.outcome ∙ ap (λ f. Err (source_failure (compared_plan ignored).other f)) is)
+    by (OpenedNotRead opened end was not_read) = absurd was.is_open.is_file
 
--- A file over the limit is not read.
-too_long : (files : KnownFiles) (name bytes input : List ℕ) (old new : Option (List FileStep)) → 64 < length bytes →
-    (is : IsFileRead files (limited_to 64) name input old new) → is.opened.remaining ≡ Some bytes → ⊥
-too_long files name bytes input old new long is remaining =
-    let same = input_of_file is.opened.remaining bytes input remaining is.is_read.whole.is_input in
-    omega (arith, long, is.is_read.within, ap length same)
+  -- A file over the limit is not read.
+  too_long : (files : KnownFiles) (name bytes input : List ℕ) (old new : Option (List FileStep)) → 64 < length bytes →
+      (is : IsFileRead files (limited_to 64) name input old new) → is.opened.remaining ≡ Some bytes → ⊥
+  too_long files name bytes input old new long is remaining =
+      let same = input_of_file is.opened.remaining bytes input remaining is.is_read.whole.is_input in
+      omega (arith, long, is.is_read.within, ap length same)
 
-one_is_long : (bytes : List ℕ) → 64 < length bytes → (work : Work) (new : Option (List FileStep)) →
-    ComparesFiles (two_files bytes []) work new → FailsAbout (codes "a") work.outcome
-one_is_long bytes long work new (BothRead one other middle read also compared) =
-    let is = file_was_read _ _ _ _ _ _ _ refl read in
-    absurd (too_long (two_files bytes []) (codes "a") bytes one _ _ long is is.was_opened.is_open.is_file)
-one_is_long bytes long work new (OneNotRead failure read failed) = about (codes "a") failure compared_plan.one work refl failed
-one_is_long bytes long work new (OtherNotRead one middle failure read also failed) =
-    let is = file_was_read _ _ _ _ _ _ _ refl read in
-    absurd (too_long (two_files bytes []) (codes "a") bytes one _ _ long is is.was_opened.is_open.is_file)
+  one_is_long : (bytes : List ℕ) → 64 < length bytes → (work : Work) (new : Option (List FileStep)) →
+      ComparesFiles ignored (two_files bytes []) work new → FailsAbout (codes "a") work.outcome
+  one_is_long bytes long work new (BothRead one other middle read also compared) =
+      let is = file_was_read _ _ _ _ _ _ _ refl read in
+      absurd (too_long (two_files bytes []) (codes "a") bytes one _ _ long is is.was_opened.is_open.is_file)
+  one_is_long bytes long work new (OneNotRead failure read failed) = about (codes "a") failure (compared_plan ignored).one work refl failed
+  one_is_long bytes long work new (OtherNotRead one middle failure read also failed) =
+      let is = file_was_read _ _ _ _ _ _ _ refl read in
+      absurd (too_long (two_files bytes []) (codes "a") bytes one _ _ long is is.was_opened.is_open.is_file)
 
-other_is_long : (bytes : List ℕ) → 64 < length bytes → (work : Work) (new : Option (List FileStep)) →
-    ComparesFiles (two_files [] bytes) work new → FailsAbout (codes "a") work.outcome ⊎ FailsAbout (codes "b") work.outcome
-other_is_long bytes long work new (BothRead one other middle read also compared) =
-    let is = file_was_read _ _ _ _ _ _ _ refl also in
-    absurd (too_long (two_files [] bytes) (codes "b") bytes other _ _ long is is.was_opened.is_open.is_file)
-other_is_long bytes long work new (OneNotRead failure read failed) =
-    inl (about (codes "a") failure compared_plan.one work refl failed)
-other_is_long bytes long work new (OtherNotRead one middle failure read also failed) =
-    inr (about (codes "b") failure compared_plan.other work refl failed)
+  other_is_long : (bytes : List ℕ) → 64 < length bytes → (work : Work) (new : Option (List FileStep)) →
+      ComparesFiles ignored (two_files [] bytes) work new → FailsAbout (codes "a") work.outcome ⊎ FailsAbout (codes "b") work.outcome
+  other_is_long bytes long work new (BothRead one other middle read also compared) =
+      let is = file_was_read _ _ _ _ _ _ _ refl also in
+      absurd (too_long (two_files [] bytes) (codes "b") bytes other _ _ long is is.was_opened.is_open.is_file)
+  other_is_long bytes long work new (OneNotRead failure read failed) =
+      inl (about (codes "a") failure (compared_plan ignored).one work refl failed)
+  other_is_long bytes long work new (OtherNotRead one middle failure read also failed) =
+      inr (about (codes "b") failure (compared_plan ignored).other work refl failed)
 
-pub compared_inputs_are_known : ComparedInputsAreKnown
-compared_inputs_are_known = record {
-  no_files = no_files_opened;
-  only_other = only_other_there;
-  only_one = only_one_there;
-  one_too_long = one_is_long;
-  other_too_long = other_is_long;
-}
+  pub compared_inputs_are_known : ComparedInputsAreKnown ignored
+  compared_inputs_are_known = record {
+    no_files = no_files_opened;
+    only_other = only_other_there;
+    only_one = only_one_there;
+    one_too_long = one_is_long;
+    other_too_long = other_is_long;
+  }
 
 -- ---- outputs of compare
 
@@ -181,7 +185,7 @@ module _ (one_legacy : OneLegacyMeaning) where
         one_file_meaning one_legacy (limited_to 88) (limited_to 88) smallest_text other shorter_meaning means smallest_within;
   }
 
-  quiet_output : (same : Bool) (text : List ℕ) → IsCompareOutput true Json widest kernel_file multi_file same text →
+  quiet_output : (same : Bool) (text : List ℕ) → IsCompareOutput [] true Json widest kernel_file multi_file same text →
       (same ≡ false) × (text ≡ [])
   quiet_output false text is = (refl, is.1)
   quiet_output true text is = absurd ((compared_files_are_known one_legacy).other_image.no_other is.0)
@@ -191,8 +195,10 @@ module _ (one_legacy : OneLegacyMeaning) where
     quiet = quiet_output;
     quiet_same = ((compared_files_are_known one_legacy).same.are_compared, refl);
     differences = (compared_texts_are_known one_legacy).different;
+    ignored = (compared_without_is_known one_legacy).same_json;
     not_read = reading_errors_are_known.only_first;
     other_not_read = inl reading_errors_are_known.only_second;
+    ignored_not_described = (ignoring_errors_are_known one_legacy).too_long;
     not_described = inr (record {
       compared = record {
         meaning = longer_meaning;
@@ -235,4 +241,4 @@ images_at_are_known = record {
 -- ---- explain
 
 pub explanations_are_known : ExplanationsAreKnown
-explanations_are_known = record { one = refl; other = refl; line = refl; concern = refl; names = refl; kinds = refl; all = refl }
+explanations_are_known = record { one = refl; other = refl; line = refl; concern = refl; message = refl; names = refl; all = refl }

@@ -1,4 +1,4 @@
-use Rattle.std.proofs.Common.{◌≡◌, ◌∷◌, [], ◌∙◌, ℕ, List, Bor, Option, Some, None, Result, Ok, Err, ap, refl}
+use Rattle.std.proofs.Common.{◌≡◌, ◌∷◌, [], ◌∙◌, ℕ, Bool, true, false, List, Bor, Option, Some, None, Result, Ok, Err, ap, refl}
 use Rattle.std.specs.Prelude.{IfSome}
 use Rattle.bi_base.specs.Limits.{Limits}
 use Rattle.bi_base.specs.Traces.{ReadTrace, WriteTrace}
@@ -8,7 +8,6 @@ use Rattle.bootimg.specs.declared.command_line.Job.{Job}
 use Rattle.bootimg.specs.declared.command_line.Job.TheVariants.{Run as RunTask, Compare, Build, Explain}
 use Rattle.bootimg.specs.declared.command_line.Request.{Request}
 use Rattle.bootimg.specs.declared.command_line.extract.AllRequest.{AllRequest}
-use Rattle.bootimg.specs.declared.command_line.ImagePlan.{ImagePlan}
 use Rattle.bootimg.specs.declared.command_line.build.BuildPlan.{BuildPlan}
 use Rattle.bootimg.specs.declared.command_line.part.PartSource.{PartSource}
 use Rattle.bootimg.specs.declared.command_line.part.PartSource.TheVariants as part
@@ -17,17 +16,24 @@ use Rattle.bootimg.specs.declared.command_line.source.ImageSource.{ImageSource}
 use Rattle.bootimg.specs.declared.failure.Failure.{Failure}
 use Rattle.bootimg.specs.declared.jobs.SourceFailure.{SourceFailure}
 use Rattle.bootimg.specs.declared.tasks.Done.{Done}
-use Rattle.bootimg.specs.CommandLine.{IsAllRequested, IsRequest, sources_of}
+use Rattle.bootimg.specs.CommandLine.{IsAllRequested, IsImagesRequested, IsRequest, sources_of}
 use Rattle.bi_files.specs.Files.{FileStep, KnownFiles, Names, Opened, NotOpened, ReaderClosed, WasOpened, WasNotOpened}
 use Rattle.clap.specs.declared.error.kind.ErrorKind.{ErrorKind}
 use Rattle.bi_files.specs.FilesAfter.{after_steps, AreSameNames, HasDirectory, HasFile, HaveContents}
 use Rattle.bootimg.specs.LeftFiles.{LeavesFiles, DirectoryIsThere, OutputIsThere, NoFileIsNamed, NothingIsRequested, HasFailed}
-use Rattle.bootimg.specs.Runs.{Inputs, Run, Work, IsFileRead, IsFileNotRead, CouldNotOpen, OpenedNotRead, IsImageRead, InputRead, FileRead}
+use Rattle.bootimg.specs.LeftFiles.{NoFileIsNamedForEach, TextsAreThere}
+use Rattle.bootimg.specs.SeveralImages.{AreHeld, AreSaved, IsImageDone, OneHasFailed, Streams, TextsNotSaved, TextsSaved, is_last}
+use Rattle.bi_labels.specs.InTurn.{AllDone, AreDoneInTurn, LastDone, NextDone}
+use Rattle.bootimg.specs.ProgramRuns.{EachToFile, EachToStandardOutput, IsImagesRun, RanEach, streams_after, streams_before}
+use Rattle.bootimg.specs.declared.command_line.images.ImagesRequest.{ImagesRequest}
+use Rattle.bootimg.specs.Runs.{Inputs, Promise, Run, Work, IsFileRead, IsFileNotRead, CouldNotOpen, OpenedNotRead, IsImageRead}
+use Rattle.bootimg.specs.Runs.{InputRead, FileRead}
 use Rattle.bootimg.specs.Runs.{IsImageNotRead, InputNotRead, FileNotRead, IsPart, ArePartsRead, IsImageWork, DoneOnInput, DoneOnFile}
 use Rattle.bootimg.specs.Runs.{FileNotOpened, IsCompareWork, BothRead, OneNotRead, OtherNotRead, IsBuildWork, BuiltWithInput, BuiltOfFiles}
 use Rattle.bootimg.specs.Runs.{PartNotRead, NoRoom, IsJobWork, IsSavedWork, OutputSaved, OutputNotSaved, NoOutput, IsOutputRun}
 use Rattle.bootimg.specs.Runs.{ToStandardOutput, ToFile, IsEnd, EndsWell, EndsWithFailure, IsTextRun, IsWritten, IsNotWritten}
-use Rattle.bootimg.specs.Runs.{IsUsage, IsRun, RanJob, ExtractedAll, Rejected, WroteText, inputs_before, inputs_after}
+use Rattle.bootimg.specs.Runs.{IsUsage, inputs_before, inputs_after}
+use Rattle.bootimg.specs.ProgramRuns.{IsRun, RanJob, ExtractedAll, Rejected, WroteText}
 use Rattle.bootimg.specs.Runs.{IsAllWork, PayloadsSaved, PayloadsNotSaved, NotExtracted, NothingRead}
 use Rattle.bootimg.specs.Tasks.{status_of}
 use Rattle.bi_files.proofs.FilesAfter.{KeepsNames, keeps_same, keeps_in_turn, keeps_with, LeftAfterFailure, kept_is_left, not_saved_leaves}
@@ -85,12 +91,12 @@ parts_keep base files limits (s ∷ sources) (p ∷ parts) old new are =
     keeps_in_turn base old are.0 new (part_keeps base files limits s p old are.0 are.1)
     (parts_keep base files limits sources parts are.0 new are.2)
 
-image_work_keeps : (base : Names) (files : KnownFiles) (plan : ImagePlan) (limits : Limits) (work : Work)
-    (old new : Option (List FileStep)) → IsImageWork files plan limits work old new → KeepsNames base old new
-image_work_keeps base files plan limits work old new (DoneOnInput standard done same) = keeps_same base old new same
-image_work_keeps base files plan limits work old new (DoneOnFile name file opened end is done same) =
+image_work_keeps : (base : Names) (files : KnownFiles) (promise : Promise) (source : ImageSource) (limits : Limits) (work : Work)
+    (old new : Option (List FileStep)) → IsImageWork files promise source limits work old new → KeepsNames base old new
+image_work_keeps base files promise source limits work old new (DoneOnInput standard done same) = keeps_same base old new same
+image_work_keeps base files promise source limits work old new (DoneOnFile name file opened end is done same) =
     opened_keeps base files name.now opened end old new is
-image_work_keeps base files plan limits work old new (FileNotOpened name file none failed same) =
+image_work_keeps base files promise source limits work old new (FileNotOpened name file none failed same) =
     not_opened_keeps base files name.now old new none
 
 compare_work_keeps : (base : Names) (files : KnownFiles) (plan : ComparePlan) (limits : Limits) (work : Work)
@@ -118,7 +124,7 @@ build_work_keeps base files plan limits work old new (NoRoom first is same) =
 
 job_work_keeps_names : (base : Names) (files : KnownFiles) (job : Job) (limits : Limits) (work : Work) (old new : Option (List FileStep))
     → IsJobWork files job limits work old new → KeepsNames base old new
-job_work_keeps_names base files (RunTask plan) limits work old new done = image_work_keeps base files plan limits work old new done
+job_work_keeps_names base files (RunTask plan) limits work old new done = image_work_keeps base files _ plan.source limits work old new done
 job_work_keeps_names base files (Compare plan) limits work old new done = compare_work_keeps base files plan limits work old new done
 job_work_keeps_names base files (Explain cause) limits work old new done = keeps_same base old new done.1
 job_work_keeps_names base files (Build plan) limits work old new done = build_work_keeps base files plan limits work old new done
@@ -210,6 +216,76 @@ output_run_leaves base names arguments request run outcome output is named are (
     saved_work_leaves base names arguments request name (inputs_before run) (inputs_after run) run.errors run.new_errors run.status outcome
     is named are saved end contents
 
+-- ---- several images
+
+image_done_keeps : (base : Names) (files : KnownFiles) (request : ImagesRequest) (is_held : Bool) (source : ImageSource)
+    (outcome : Result Done SourceFailure) (old new : Streams) → IsImageDone files request is_held source outcome old new
+    → KeepsNames base old.steps new.steps
+image_done_keeps base files request is_held source outcome old new is =
+    image_work_keeps base files _ source request.limits _ old.steps new.steps is.work
+
+done_in_turn_keeps_names : (base : Names) (files : KnownFiles) (request : ImagesRequest) (is_held : Bool) (sources : List ImageSource)
+    (outcomes : List (Result Done SourceFailure)) (old new : Streams)
+    → AreDoneInTurn (IsImageDone files request is_held) is_last sources outcomes old new → KeepsNames base old.steps new.steps
+done_in_turn_keeps_names base files request is_held sources outcomes old new (AllDone streams) = keeps_same base old.steps new.steps refl
+done_in_turn_keeps_names base files request is_held sources outcomes old new
+    (NextDone source later outcome others first middle last done not rest) =
+    keeps_in_turn base old.steps middle.steps new.steps (image_done_keeps base files request is_held source outcome old middle done)
+    (done_in_turn_keeps_names base files request is_held later others middle new rest)
+done_in_turn_keeps_names base files request is_held sources outcomes old new (LastDone source later outcome first last done is) =
+    image_done_keeps base files request is_held source outcome old new done
+
+held_images_keep : (base : Names) (files : KnownFiles) (request : ImagesRequest) (before after : Inputs) (errors new_errors : WriteTrace)
+    (status : ℕ) (held : Option (List ℕ)) → AreHeld files request before after errors new_errors status held
+    → KeepsNames base before.steps after.steps
+held_images_keep base files request before after errors new_errors status held are =
+    done_in_turn_keeps_names base files request true _ are.done.outcomes _ _ are.done.in_turn
+
+saved_images_leave : (base names : Names) (arguments : List (List ℕ)) (request : ImagesRequest) (name : Bor (List ℕ))
+    (before after : Inputs) (errors new_errors : WriteTrace) (status : ℕ) → IsImagesRequested arguments request
+    → request.output ≡ Some name → AreNames base names before.steps
+    → AreSaved (Some names) request name before after errors new_errors status → IfSome after.steps HaveContents
+    → RunLeaves base names arguments before.input.remaining status after.steps
+saved_images_leave base names arguments request name before after errors new_errors status is named are
+    (TextsSaved output worked held less saved) contents =
+    there after.steps
+    (saved_leaves base names name.now output worked after.steps
+    (kept_names base names before.steps worked are (held_images_keep base (Some names) request _ _ errors new_errors status _ held)) saved
+    contents)
+  where
+    there : (new : Option (List FileStep)) → IfSome new (λ l. HasFile names (after_steps base l) name.now output)
+        → RunLeaves base names arguments before.input.remaining status new
+    there None has = tt
+    there (Some l) has =
+        TextsAreThere request name output before (record { input = after.input; steps = worked }) errors new_errors is named refl held less
+        has
+saved_images_leave base names arguments request name before after errors new_errors status is named are
+    (TextsNotSaved output worked middle other held less failure not reports ends) contents =
+    failure_leaves base names arguments before.input.remaining status after.steps ends
+    (not_saved_leaves base names name.now output failure worked after.steps
+    (kept_names base names before.steps worked are (held_images_keep base (Some names) request _ _ errors middle other _ held)) not)
+saved_images_leave base names arguments request name before after errors new_errors status is named are
+    (OneHasFailed held all ends) contents =
+    failure_leaves base names arguments before.input.remaining status after.steps ends
+    (kept_is_left base names before.steps after.steps are
+    (held_images_keep base (Some names) request before after errors new_errors status held all))
+
+images_run_leaves : (base names : Names) (arguments : List (List ℕ)) (request : ImagesRequest) (run : Run)
+    (output : Option (Bor (List ℕ))) → IsImagesRequested arguments request → request.output ≡ output → AreNames base names run.steps
+    → IsImagesRun (Some names) request run output → IfSome run.new_steps HaveContents
+    → RunLeaves base names arguments run.input.remaining run.status run.new_steps
+images_run_leaves base names arguments request run output is named are (EachToStandardOutput done) contents =
+    kept run.new_steps
+    (done_in_turn_keeps_names base (Some names) request false _ done.outcomes (streams_before run) (streams_after run) done.in_turn)
+  where
+    kept : (new : Option (List FileStep)) → KeepsNames base run.steps new
+        → RunLeaves base names arguments run.input.remaining run.status new
+    kept None keeps = tt
+    kept (Some after) keeps = NoFileIsNamedForEach request is named (names_kept base names run.steps after are keeps)
+images_run_leaves base names arguments request run output is named are (EachToFile name saved same) contents =
+    saved_images_leave base names arguments request name (inputs_before run) (inputs_after run) run.errors run.new_errors run.status is
+    named are saved contents
+
 all_work_leaves : (base names : Names) (arguments : List (List ℕ)) (request : AllRequest) (before after : Inputs)
     (errors new_errors : WriteTrace) (status : ℕ) (outcome : Result Done SourceFailure) → IsAllRequested arguments request
     → AreNames base names before.steps → IsAllWork (Some names) request before after outcome → IsEnd errors new_errors status outcome
@@ -258,6 +334,8 @@ pub run_leaves : (base names : Names) (arguments : List (List ℕ)) (run : Run) 
     → RunLeaves base names arguments run.input.remaining run.status run.new_steps
 run_leaves base names arguments run (RanJob request is lengths ran) are contents =
     output_run_leaves base names arguments request run ran.outcome request.output is refl are ran.done ran.end contents
+run_leaves base names arguments run (RanEach request is ran) are contents =
+    images_run_leaves base names arguments request run request.output is refl are ran contents
 run_leaves base names arguments run (ExtractedAll request is ran) are contents =
     all_work_leaves base names arguments request (inputs_before run) (inputs_after run) run.errors run.new_errors run.status ran.outcome is
     are ran.done ran.end contents

@@ -3,7 +3,8 @@ use Rattle.std.specs.Prelude.{IfSome}
 use Rattle.bi_files.specs.Files.{FileStep, KnownFiles}
 use Rattle.bi_files.specs.FilesAfter.{AreRecorded, HaveContents, after_steps, no_names}
 use Rattle.bootimg.specs.LeftFiles.{LeavesFiles, LeavesKnownFiles}
-use Rattle.bootimg.specs.Runs.{IsRun, Run}
+use Rattle.bootimg.specs.Runs.{Run}
+use Rattle.bootimg.specs.ProgramRuns.{IsRun}
 use Rattle.bootimg.proofs.LeftFiles.{run_leaves}
 
 -- What a run leaves of files whose steps are recorded.

@@ -14,7 +14,7 @@ use Rattle.clap.specs.declared.parser.matches.ArgMatches.TheViews.{out-ArgMatche
 use Rattle.bootimg.specs.CommandLine.{limit_of, Gives, HasNoText, HasText, IsBadValue, IsFailureOutcome, IsJob, IsLimits, IsNoRequest}
 use Rattle.bootimg.specs.CommandLine.{IsOutcomeOf}
 use Rattle.bootimg.specs.CommandLine.{IsAllFailure, IsAllRequest, IsAllRequested, IsNoneGiven, IsTaskFailure, NoJob, NoLimits, NoMemory}
-use Rattle.bootimg.specs.CommandLine.{NotAll, SelectsAll}
+use Rattle.bootimg.specs.CommandLine.{IsImagesFailure, NamesImages, NotAll, NotEach, SelectsAll}
 use Rattle.bootimg.specs.declared.command_line.extract.AllRequest.{AllRequest}
 use Rattle.bootimg.specs.Program.{program_app, IsCommandName}
 use Rattle.bootimg.specs.declared.command_line.Job.{Job}
@@ -130,6 +130,17 @@ no_job arguments name options result failed gives is bad = passed_on arguments r
   where
     no_request : (failed : NoRequest) → IsFailureOutcome (IsTaskFailure name options) failed → IsNoRequest arguments failed
     no_request (outcome.Failure failure) (inl why) = NoJob name options gives why
+    no_request (outcome.Failure failure) (inr memory) = NoMemory memory
+    no_request (outcome.Text text) none = absurd none
+
+-- The options for several images request nothing.
+pub not_each : {T : Type 0} (arguments : List (List ℕ)) (name : List ℕ) (options : ArgMatches) (result : Result T NoRequest)
+    (failed : NoRequest) → Gives arguments name options → NamesImages name options → IsErrAnd result (λ given. given ≡ failed)
+    → IsFailureOutcome (IsImagesFailure name options) failed → IfErr result (IsNoRequest arguments)
+not_each arguments name options result failed gives names is bad = passed_on arguments result failed is (no_request failed bad)
+  where
+    no_request : (failed : NoRequest) → IsFailureOutcome (IsImagesFailure name options) failed → IsNoRequest arguments failed
+    no_request (outcome.Failure failure) (inl why) = NotEach name options gives names why
     no_request (outcome.Failure failure) (inr memory) = NoMemory memory
     no_request (outcome.Text text) none = absurd none
 

@@ -3,7 +3,7 @@ use Rattle.bi_norm.specs.FitBuilding.{names_of_specs}
 use Rattle.bi_norm.specs.declared.fit_building.ImageSpec.{ImageSpec}
 use Rattle.bi_norm.specs.declared.fit_building.ImageTexts.{ImageTexts}
 use Rattle.bootimg.specs.CommandLine.{option_of, value_of, values_of, AreImages, HasFitValues, IsBadConfiguration, IsBadImage, IsBadValue}
-use Rattle.bootimg.specs.CommandLine.{IsFormFailure}
+use Rattle.bootimg.specs.CommandLine.{AreOwnTexts, IsFormFailure}
 use Rattle.bootimg.specs.CommandLine.{IsFirstBad, IsFitPlanFailure}
 use Rattle.bootimg.specs.ConfigurationWords.{AreHashes, IsDefault, IsFirstBadConfiguration}
 use Rattle.bootimg.specs.Numbers.{IsNumber}
@@ -33,6 +33,10 @@ module _ (options : ArgMatches) where
       IsFitPlanFailure options failure
   bad_hashes failure bad =
       subst (IsFitPlanFailure options) (sym bad.0) (inl (λ (has : HasFitValues options). bad.1 has.algorithms has.are_algorithms))
+
+  pub bad_own_texts : (failure : Failure) → IsBadValue (AreOwnTexts options) failure → IsFitPlanFailure options failure
+  bad_own_texts failure bad =
+      subst (IsFitPlanFailure options) (sym bad.0) (inl (λ (has : HasFitValues options). bad.1 has.own_texts has.are_own_texts))
 
   -- A bad image.
   pub bad_image : (words : List (List ℕ)) (failure : Failure) → HasFitValues options → words ≡ values_of options (codes "images") →

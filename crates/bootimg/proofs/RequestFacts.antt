@@ -43,7 +43,6 @@ use Rattle.bootimg.specs.Numbers.{IsNumber}
 use Rattle.bootimg.specs.Program.{program_app}
 use Rattle.bootimg.specs.declared.codes.CodeField.{CodeField}
 use Rattle.bootimg.specs.declared.codes.CodeField.TheVariants.{Os, Arch, ImageType, Compression}
-use Rattle.bootimg.specs.declared.command_line.Task.TheVariants as task
 use Rattle.bootimg.specs.declared.command_line.build.BuildPlan.{BuildPlan}
 use Rattle.bootimg.specs.declared.command_line.build.BuildPlan.TheVariants as build
 use Rattle.bootimg.specs.declared.command_line.extract.Selected.{Selected}

@@ -1,4 +1,6 @@
 use Rattle.std.proofs.Common.{◌≡◌, ℕ, List, Ok, Err, inl, inr, refl}
+use Rattle.std.specs.Global.{Vec}
+use Rattle.bi_describe.specs.declared.ignored.Ignored.{Ignored}
 use Rattle.std.specs.Fmt.{digits}
 use Rattle.bi_base.specs.Traces.{WriteTrace}
 use Rattle.clap.specs.declared.error.kind.ErrorKind.{ErrorKind}
@@ -81,9 +83,9 @@ extract_lines_are_known = record {
 pub value_lines_are_known : ValueLinesAreKnown
 value_lines_are_known = record { no_property = refl; no_text = refl; no_number = refl; of_input = refl }
 
-pub compare_lines_are_known : CompareLinesAreKnown
+pub compare_lines_are_known : (ignored : Vec Ignored) → CompareLinesAreKnown ignored
 unfolding digits
-compare_lines_are_known = record { one = refl; other = refl; out_of_memory = refl }
+compare_lines_are_known ignored = record { one = refl; other = refl; out_of_memory = refl }
 
 pub notes_are_known : NotesAreKnown
 unfolding digits

@@ -8,14 +8,13 @@ use Rattle.bi_base.specs.Writing.{WroteAll, WriteStopped}
 use Rattle.bi_base.specs.declared.fault.Error.{Error}
 use Rattle.bi_base.specs.Limits.{Limits}
 use Rattle.bi_base.specs.Pipes.{IsTracedPipe}
-use Rattle.bootimg.specs.declared.command_line.ImagePlan.{ImagePlan}
 use Rattle.bootimg.specs.declared.command_line.source.ImageSource.{ImageSource}
 use Rattle.bootimg.specs.declared.failure.Failure.{Failure}
 use Rattle.bi_files.specs.Files.{FileStep, KnownFiles}
 use Rattle.bootimg.specs.declared.tasks.Done.{Done}
-use Rattle.bootimg.specs.Runs.{IsPlainRun, IsRun, IsTaskWork, Logs, IsLogged, HasStopped, IsRejection, Reports, Run, Work, Succeeded}
+use Rattle.bootimg.specs.Runs.{IsTaskWork, Promise, Logs, IsLogged, HasStopped, IsRejection, Reports, Run, Work, Succeeded}
+use Rattle.bootimg.specs.ProgramRuns.{IsPlainRun, IsRun}
 use Rattle.bootimg.specs.Runs.{HasFailed, IsAskedFor, IsMistake, source_failure}
-use Rattle.bootimg.specs.Tasks.{plan_promise}
 
 -- A run of the program over traced streams is one over plain streams, and it succeeds, fails or is rejected as its calls do.
 
@@ -74,23 +73,18 @@ run_is_rejected source failure run read written changed reports status = record 
 }
 
 -- A task that was done, or that failed, is work on it.
-pub run_succeeds : (plan : ImagePlan) (limits : Limits) (work : Work) (result : Result Done Failure) (done : Done) → result ≡ Ok done
-    → IsTracedPipe (plan_promise plan limits) limits work.input work.new_input work.output work.new_output result
-    → work.outcome ≡ Ok done → IsTaskWork plan limits work
-run_succeeds plan limits work result done same piped outcome =
+pub run_succeeds : (promise : Promise) (source : ImageSource) (limits : Limits) (work : Work) (result : Result Done Failure) (done : Done)
+    → result ≡ Ok done → IsTracedPipe promise limits work.input work.new_input work.output work.new_output result
+    → work.outcome ≡ Ok done → IsTaskWork promise source limits work
+run_succeeds promise source limits work result done same piped outcome =
     Succeeded done
-    (subst
-    (λ (r : Result Done Failure). IsTracedPipe (plan_promise plan limits) limits work.input work.new_input work.output work.new_output r)
-    same piped)
+    (subst (λ (r : Result Done Failure). IsTracedPipe promise limits work.input work.new_input work.output work.new_output r) same piped)
     outcome
 
-pub has_failed : (plan : ImagePlan) (limits : Limits) (work : Work) (result : Result Done Failure) (failure : Failure)
-    → result ≡ Err failure
-    → IsTracedPipe (plan_promise plan limits) limits work.input work.new_input work.output work.new_output result
-    → work.outcome ≡ Err (source_failure plan.source failure) → IsTaskWork plan limits work
-has_failed plan limits work result failure same piped outcome =
+pub has_failed : (promise : Promise) (source : ImageSource) (limits : Limits) (work : Work) (result : Result Done Failure)
+    (failure : Failure) → result ≡ Err failure → IsTracedPipe promise limits work.input work.new_input work.output work.new_output result
+    → work.outcome ≡ Err (source_failure source failure) → IsTaskWork promise source limits work
+has_failed promise source limits work result failure same piped outcome =
     HasFailed failure
-    (subst
-    (λ (r : Result Done Failure). IsTracedPipe (plan_promise plan limits) limits work.input work.new_input work.output work.new_output r)
-    same piped)
+    (subst (λ (r : Result Done Failure). IsTracedPipe promise limits work.input work.new_input work.output work.new_output r) same piped)
     outcome

@@ -1,11 +1,10 @@
-use Rattle.std.proofs.Common.{◌≡◌, ◌∙◌, ℕ, List, Option, None, Some, Bor, Result, ap}
+use Rattle.std.proofs.Common.{Bool, true, false, ◌≡◌, ◌∙◌, ℕ, List, Option, None, Some, Bor, Result, ap, refl}
 use Rattle.clap.specs.declared.error.kind.ErrorKind.{ErrorKind}
 use Rattle.bi_base.specs.Limits.{Limits}
 use Rattle.bi_base.specs.Traces.{WriteTrace}
 use Rattle.bi_commands.specs.declared.parts.Part.{Part}
 use Rattle.bootimg.specs.declared.command_line.Job.{Job}
 use Rattle.bootimg.specs.declared.command_line.Job.TheVariants.{Run as RunTask, Compare, Build, Explain}
-use Rattle.bootimg.specs.declared.command_line.ImagePlan.{ImagePlan}
 use Rattle.bootimg.specs.declared.command_line.build.BuildPlan.{BuildPlan}
 use Rattle.bootimg.specs.declared.command_line.source.ComparePlan.{ComparePlan}
 use Rattle.bootimg.specs.declared.command_line.source.ImageSource.{ImageSource}
@@ -16,7 +15,7 @@ use Rattle.bootimg.specs.declared.command_line.Request.{Request}
 use Rattle.bootimg.specs.declared.command_line.extract.AllRequest.{AllRequest}
 use Rattle.bootimg.specs.declared.jobs.SourceFailure.{SourceFailure}
 use Rattle.bootimg.specs.declared.tasks.Done.{Done}
-use Rattle.bootimg.specs.Runs.{Inputs, Run, Work, no_input, work_of, with_input, Logs, IsLogged, HasStopped, Notes}
+use Rattle.bootimg.specs.Runs.{Inputs, Promise, Run, Work, no_input, work_of, with_input, Logs, IsLogged, HasStopped, Notes}
 use Rattle.bootimg.specs.Runs.{NotesCount, NotesAlignment, note_line, alignment_line, positions_line}
 use Rattle.bi_fit.specs.declared.kept.Kept.{Kept}
 use Rattle.bootimg.specs.Runs.{HasNone, HasSome, IsRejection, IsTaskWork, Succeeded, HasFailed, IsImageWork, DoneOnInput, DoneOnFile}
@@ -25,8 +24,15 @@ use Rattle.bootimg.specs.Runs.{WroteDifferences, NotAllWritten, NotCompared, IsC
 use Rattle.bootimg.specs.Runs.{IsExplainWork, WroteExplanation, ExplanationNotWritten, NoMemoryForExplanation, IsBuiltWork, WasBuilt}
 use Rattle.bootimg.specs.Runs.{WasNotBuilt, IsBuildWork, BuiltWithInput, BuiltOfFiles, PartNotRead, NoRoom, IsJobWork, IsHeldWork}
 use Rattle.bootimg.specs.Runs.{IsSavedWork, OutputSaved, OutputNotSaved, NoOutput, IsOutputRun, ToStandardOutput, ToFile, IsEnd, EndsWell}
-use Rattle.bootimg.specs.Runs.{EndsWithFailure, IsRequestRun, IsTextRun, IsWritten, IsNotWritten, IsUsage, IsRun, RanJob, Rejected}
-use Rattle.bootimg.specs.Runs.{WroteText, ExtractedAll, IsAllRun, IsAllWork, PayloadsSaved, PayloadsNotSaved, NotExtracted, NothingRead}
+use Rattle.bootimg.specs.Runs.{EndsWithFailure, IsRequestRun, IsTextRun, IsWritten, IsNotWritten, IsUsage}
+use Rattle.bootimg.specs.declared.command_line.images.ImagesRequest.{ImagesRequest}
+use Rattle.bootimg.specs.SeveralImages.{AreHeld, AreSaved, IsImageDone, OneHasFailed, Streams, TextsNotSaved, TextsSaved}
+use Rattle.bootimg.specs.SeveralImages.{is_last}
+use Rattle.bi_labels.specs.InTurn.{AllDone, AreDoneInTurn, LastDone, NextDone}
+use Rattle.bootimg.specs.ProgramRuns.{EachToFile, EachToStandardOutput, IsImagesRun, RanEach, streams_after, streams_before}
+use Rattle.bootimg.specs.ProgramRuns.{IsRun, RanJob, Rejected}
+use Rattle.bootimg.specs.Runs.{IsAllRun, IsAllWork, PayloadsSaved, PayloadsNotSaved, NotExtracted, NothingRead}
+use Rattle.bootimg.specs.ProgramRuns.{WroteText, ExtractedAll}
 
 -- A run has the same streams before and after it.
 
@@ -77,18 +83,21 @@ pub record KeepsWork (work : Work) : Type 0 where
   pub reader : work.new_input.reader ≡ work.input.reader
   pub writer : work.new_output.writer ≡ work.output.writer
 
-task_work_keeps : (plan : ImagePlan) (limits : Limits) (work : Work) → IsTaskWork plan limits work → KeepsWork work
-task_work_keeps plan limits work (Succeeded done piped outcome) =
+task_work_keeps : (promise : Promise) (source : ImageSource) (limits : Limits) (work : Work) → IsTaskWork promise source limits work
+    → KeepsWork work
+task_work_keeps promise source limits work (Succeeded done piped outcome) =
     record { reader = piped.same_streams.same_reader; writer = piped.same_streams.same_writer }
-task_work_keeps plan limits work (HasFailed failure piped outcome) =
+task_work_keeps promise source limits work (HasFailed failure piped outcome) =
     record { reader = piped.same_streams.same_reader; writer = piped.same_streams.same_writer }
 
-image_work_keeps : (files : KnownFiles) (plan : ImagePlan) (limits : Limits) (work : Work) (old new : Option (List FileStep))
-    → IsImageWork files plan limits work old new → KeepsWork work
-image_work_keeps files plan limits work old new (DoneOnInput standard done steps) = task_work_keeps _ _ _ done
-image_work_keeps files plan limits work old new (DoneOnFile name file opened end is done same) =
-    record { reader = ap (λ trace. trace.reader) same; writer = (task_work_keeps plan limits (with_input work opened end) done).writer }
-image_work_keeps files plan limits work old new (FileNotOpened name file none failed same) =
+image_work_keeps : (files : KnownFiles) (promise : Promise) (source : ImageSource) (limits : Limits) (work : Work)
+    (old new : Option (List FileStep)) → IsImageWork files promise source limits work old new → KeepsWork work
+image_work_keeps files promise source limits work old new (DoneOnInput standard done steps) = task_work_keeps _ _ _ _ done
+image_work_keeps files promise source limits work old new (DoneOnFile name file opened end is done same) = record {
+  reader = ap (λ trace. trace.reader) same;
+  writer = (task_work_keeps promise source limits (with_input work opened end) done).writer;
+}
+image_work_keeps files promise source limits work old new (FileNotOpened name file none failed same) =
     record { reader = ap (λ trace. trace.reader) same; writer = ap (λ trace. trace.writer) failed.nothing_written }
 
 -- The output is the same after two images were compared.
@@ -145,7 +154,7 @@ build_work_keeps files plan limits work old new (NoRoom first is same) =
 -- A job keeps its input and its output.
 pub job_work_keeps : (files : KnownFiles) (job : Job) (limits : Limits) (work : Work) (old new : Option (List FileStep))
     → IsJobWork files job limits work old new → KeepsWork work
-job_work_keeps files (RunTask plan) limits work old new done = image_work_keeps _ _ _ _ _ _ done
+job_work_keeps files (RunTask plan) limits work old new done = image_work_keeps _ _ _ _ _ _ _ done
 job_work_keeps files (Compare plan) limits work old new done = compare_work_keeps _ _ _ _ _ _ done
 job_work_keeps files (Explain cause) limits work old new done = explain_work_keeps _ _ done.0
 job_work_keeps files (Build plan) limits work old new done = build_work_keeps _ _ _ _ _ _ done
@@ -212,9 +221,65 @@ text_run_keeps kind text run (IsUsage why logs output input steps status) = reco
   log = logs_keep _ _ _ logs;
 }
 
+-- ---- several images
+
+-- Two states of the streams are of the same streams.
+pub record AreSameStreams (old new : Streams) : Type 0 where
+  pub reader : new.input.reader ≡ old.input.reader
+  pub writer : new.output.writer ≡ old.output.writer
+  pub log : new.errors.writer ≡ old.errors.writer
+
+image_done_keeps : (files : KnownFiles) (request : ImagesRequest) (in_memory : Bool) (source : ImageSource)
+    (outcome : Result Done SourceFailure) (old new : Streams) → IsImageDone files request in_memory source outcome old new
+    → AreSameStreams old new
+image_done_keeps files request in_memory source outcome old new is =
+    let keeps = image_work_keeps files _ source request.limits _ old.steps new.steps is.work in
+    record { reader = keeps.reader; writer = keeps.writer; log = end_keeps _ _ _ _ is.end }
+
+pub done_in_turn_keeps : (files : KnownFiles) (request : ImagesRequest) (in_memory : Bool) (sources : List ImageSource)
+    (outcomes : List (Result Done SourceFailure)) (old new : Streams)
+    → AreDoneInTurn (IsImageDone files request in_memory) is_last sources outcomes old new
+    → AreSameStreams old new
+done_in_turn_keeps files request in_memory sources outcomes old new (AllDone streams) = record { reader = refl; writer = refl; log = refl }
+done_in_turn_keeps files request in_memory sources outcomes old new (NextDone source later outcome others first middle last done not rest) =
+    let one = image_done_keeps files request in_memory source outcome old middle done in
+    let others = done_in_turn_keeps files request in_memory later others middle new rest in
+    record { reader = others.reader ∙ one.reader; writer = others.writer ∙ one.writer; log = others.log ∙ one.log }
+done_in_turn_keeps files request in_memory sources outcomes old new (LastDone source later outcome first last done is) =
+    image_done_keeps files request in_memory source outcome old new done
+
+held_images_keep : (files : KnownFiles) (request : ImagesRequest) (before after : Inputs) (errors new_errors : WriteTrace) (status : ℕ)
+    (held : Option (List ℕ)) → AreHeld files request before after errors new_errors status held
+    → (after.input.reader ≡ before.input.reader) × (new_errors.writer ≡ errors.writer)
+held_images_keep files request before after errors new_errors status held are =
+    let keeps = done_in_turn_keeps files request true _ are.done.outcomes _ _ are.done.in_turn in
+    (keeps.reader, keeps.log)
+
+saved_images_keep : (files : KnownFiles) (request : ImagesRequest) (name : Bor (List ℕ)) (before after : Inputs)
+    (errors new_errors : WriteTrace) (status : ℕ) → AreSaved files request name before after errors new_errors status
+    → (after.input.reader ≡ before.input.reader) × (new_errors.writer ≡ errors.writer)
+saved_images_keep files request name before after errors new_errors status (TextsSaved output worked held less saved) =
+    held_images_keep _ request _ _ _ _ _ _ held
+saved_images_keep files request name before after errors new_errors status
+    (TextsNotSaved output worked middle other held less failure not reports is) =
+    let keeps = held_images_keep _ request _ _ _ _ _ _ held in
+    (keeps.0, logs_keep _ _ _ reports ∙ keeps.1)
+saved_images_keep files request name before after errors new_errors status (OneHasFailed held are is) =
+    held_images_keep _ request _ _ _ _ _ _ are
+
+images_run_keeps : (files : KnownFiles) (request : ImagesRequest) (run : Run) (output : Option (Bor (List ℕ)))
+    → IsImagesRun files request run output → KeepsStreams run
+images_run_keeps files request run output (EachToStandardOutput done) =
+    let keeps = done_in_turn_keeps files request false _ done.outcomes (streams_before run) (streams_after run) done.in_turn in
+    record { reader = keeps.reader; writer = keeps.writer; log = keeps.log }
+images_run_keeps files request run output (EachToFile name saved same) =
+    let keeps = saved_images_keep files request name _ _ run.errors run.new_errors run.status saved in
+    record { reader = keeps.0; writer = ap (λ trace. trace.writer) same; log = keeps.1 }
+
 -- A run keeps its streams.
 pub run_keeps : (arguments : List (List ℕ)) (files : KnownFiles) (run : Run) → IsRun arguments files run → KeepsStreams run
 run_keeps arguments files run (RanJob request is lengths ran) = request_run_keeps _ request _ ran
+run_keeps arguments files run (RanEach request is ran) = images_run_keeps _ request _ _ ran
 run_keeps arguments files run (ExtractedAll request is ran) = all_run_keeps _ request _ ran
 run_keeps arguments files run (Rejected failure why rejection) = rejection_keeps _ _ _ rejection
 run_keeps arguments files run (WroteText kind text answers is) = text_run_keeps _ _ _ is

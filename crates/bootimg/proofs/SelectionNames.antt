@@ -4,7 +4,6 @@ use Rattle.bi_base.specs.declared.fault.Error.{Error}
 use Rattle.bi_base.specs.Limits.{Limits}
 use Rattle.bi_norm.specs.Meaning.{Meaning}
 use Rattle.bi_commands.specs.declared.extract.Select.{Select}
-use Rattle.bi_commands.specs.declared.extract.Select.TheVariants.{Config}
 use Rattle.bi_commands.specs.declared.extract.ExtractError.{ExtractError}
 use Rattle.bi_commands.specs.declared.extract.ExtractError.TheVariants as error
 use Rattle.bi_commands.specs.Extracting.{choice_of, IsChosen, IsExtractError, IsReason}

@@ -50,6 +50,22 @@ list_task options flag (task.Get plan) is = absurd (other_bytes (codes "list") (
 list_task options flag (task.Extract selection) is = absurd (other_bytes (codes "list") (codes "extract") refl is.0)
 list_task options flag task.Convert is = absurd (other_bytes (codes "list") (codes "convert") refl is.0)
 
+-- The task of `verify --json`.
+pub verify_task : (options : ArgMatches) → json_flag options ≡ Some (codes "true") → (given : Task) →
+    IsTask (codes "verify") options given →
+    given ≡ task.Verify Json
+verify_task options flag (task.Normalise form) is = absurd (other_bytes (codes "verify") (codes "normalise") refl is.0)
+verify_task options flag (task.Show how) is = absurd (other_bytes (codes "verify") (codes "show") refl is.0)
+verify_task options flag (task.List format) is = absurd (other_bytes (codes "verify") (codes "list") refl is.0)
+verify_task options flag (task.Describe format) is = absurd (other_bytes (codes "verify") (codes "describe") refl is.0)
+verify_task options flag (task.Verify format) is = ap task.Verify (is.1.given flag)
+verify_task options flag (task.Check policy format) is = absurd (other_bytes (codes "verify") (codes "check") refl is.0)
+verify_task options flag (task.Scan format) is = absurd (other_bytes (codes "verify") (codes "scan") refl is.0)
+verify_task options flag (task.Update changes form) is = absurd (other_bytes (codes "verify") (codes "update") refl is.0)
+verify_task options flag (task.Get plan) is = absurd (other_bytes (codes "verify") (codes "get") refl is.0)
+verify_task options flag (task.Extract selection) is = absurd (other_bytes (codes "verify") (codes "extract") refl is.0)
+verify_task options flag task.Convert is = absurd (other_bytes (codes "verify") (codes "convert") refl is.0)
+
 -- No task is an update without a change.
 pub no_update_task : (options : ArgMatches) → option_of options (codes "time") ≡ None → hashes_flag options ≡ Some (codes "false") →
     (given : Task) → ¬ (IsTask (codes "update") options given)

@@ -42,7 +42,7 @@ use Rattle.bi_norm.proofs.ComparisonFacts.{kernel_with_rest_means, no_magic_is_e
 use Rattle.bi_norm.proofs.KindLaws.{one_file_fault}
 use Rattle.clap.specs.declared.parser.matches.ArgMatches.{ArgMatches}
 use Rattle.clap.proofs.OnLiterals.{clap_on_literals}
-use Rattle.bootimg.specs.CommandLine.{Gives, IsExplained, IsJob}
+use Rattle.bootimg.specs.CommandLine.{Gives, IsExplained, IsJob, TakesImages}
 use Rattle.bootimg.specs.Explanations.{explain_text}
 use Rattle.bootimg.specs.Failures.{failure_of}
 use Rattle.bootimg.specs.KnownInputs.{two_files, without_files}
@@ -51,16 +51,19 @@ use Rattle.bootimg.specs.KnownWorks.{OutputsInFilesAreKnown, PartsOfFilesAreKnow
 use Rattle.bootimg.specs.KnownWorks.{all_of_in, bytes_in_part, explanation, file_in, in_job, in_plan, normalising, only_in, parts_a_and_b}
 use Rattle.bootimg.specs.Program.{program_app}
 use Rattle.bootimg.specs.Runs.{ArePartsRead, AreFirstRead, DoneOnFile, DoneOnInput, EndsWell, EndsWithFailure, ExplanationNotWritten}
-use Rattle.bootimg.specs.Runs.{ExtractedAll, FileNotOpened, HasFailed, HasNone, HasSome, Inputs, IsAllWork, IsEnd, IsExplainWork}
-use Rattle.bootimg.specs.Runs.{IsFileNotRead, CouldNotOpen, OpenedNotRead, IsHeldFailure, IsHeldWork, IsImageWork, IsJobWork, IsOutputRun}
-use Rattle.bootimg.specs.Runs.{IsPart, IsPartNotRead, IsRun, IsSavedWork, IsTaskWork, NoMemoryForExplanation, NoOutput, NotExtracted, Notes}
-use Rattle.bootimg.specs.Runs.{NothingRead, OutputNotSaved, OutputSaved, PayloadsNotSaved, PayloadsSaved, RanJob, Rejected, Run, Succeeded}
-use Rattle.bootimg.specs.Runs.{ToFile, ToStandardOutput, Work, WroteExplanation, WroteText, failure_in_memory, source_failure}
+use Rattle.bootimg.specs.Runs.{FileNotOpened, HasFailed, HasNone, HasSome, Inputs, IsAllWork, IsEnd, IsExplainWork}
+use Rattle.bootimg.specs.ProgramRuns.{ExtractedAll, RanEach}
+use Rattle.bootimg.specs.Runs.{IsFileNotRead, CouldNotOpen, OpenedNotRead, IsHeldFailure, IsHeldWork, IsJobWork, IsPlanWork, IsOutputRun}
+use Rattle.bootimg.specs.Runs.{IsPart, IsPartNotRead, IsSavedWork, IsTaskWork, NoMemoryForExplanation, NoOutput, NotExtracted, Notes}
+use Rattle.bootimg.specs.ProgramRuns.{IsRun}
+use Rattle.bootimg.specs.Runs.{NothingRead, OutputNotSaved, OutputSaved, PayloadsNotSaved, PayloadsSaved, Run, Succeeded}
+use Rattle.bootimg.specs.ProgramRuns.{RanJob, Rejected}
+use Rattle.bootimg.specs.Runs.{ToFile, ToStandardOutput, Work, WroteExplanation, failure_in_memory, source_failure}
+use Rattle.bootimg.specs.ProgramRuns.{WroteText}
 use Rattle.bootimg.specs.Runs.{NotesAlignment, NotesCount, inputs_after, inputs_before, note_line, positions_line, with_input, work_of}
 use Rattle.bootimg.specs.Tasks.{IsCallFailure, EndedWith, plan_promise, status_of}
 use Rattle.bootimg.specs.declared.command_line.Job.{Job}
 use Rattle.bootimg.specs.declared.command_line.Job.TheVariants.{Run as RunTask, Compare, Build, Explain}
-use Rattle.bootimg.specs.declared.command_line.Task.TheVariants as task
 use Rattle.bootimg.specs.declared.command_line.build.BuildPlan.TheVariants as build
 use Rattle.bootimg.specs.declared.command_line.part.PartSource.{PartSource}
 use Rattle.bootimg.specs.declared.command_line.part.PartSource.TheVariants as part
@@ -247,6 +250,14 @@ standard_output : (files : KnownFiles) (job : Job) (limits : Limits) (run : Run)
 standard_output files job limits run outcome output none (ToStandardOutput work) = work
 standard_output files job limits run outcome output none (ToFile name saved same) = absurd cc
 
+-- `explain` takes no image.
+explain_takes_none : ¬ (TakesImages (codes "explain"))
+explain_takes_none (inl is) = other_bytes (codes "explain") (codes "list") refl is
+explain_takes_none (inr (inl is)) = other_bytes (codes "explain") (codes "verify") refl is
+explain_takes_none (inr (inr (inl is))) = other_bytes (codes "explain") (codes "check") refl is
+explain_takes_none (inr (inr (inr (inl is)))) = other_bytes (codes "explain") (codes "scan") refl is
+explain_takes_none (inr (inr (inr (inr never)))) = never
+
 -- What was done is the explanation of all causes, and how the run ends.
 explain_run : (run : Run) → IsRun (words_of_line explain_line) without_files run →
     ((outcome : Result Done SourceFailure) × IsExplainWork None (work_of run outcome) × (run.new_steps ≡ run.steps)
@@ -261,6 +272,9 @@ explain_run run (RanJob request is lengths ran) =
     let work = standard_output without_files request.job request.limits run ran.outcome request.output none ran.done in
     let explains = subst (λ job. IsJobWork without_files job request.limits (work_of run ran.outcome) run.steps run.new_steps) job work in
     inl (ran.outcome, explains.0, explains.1, ran.end)
+explain_run run (RanEach request is ran) =
+    absurd (explain_takes_none
+    (subst TakesImages (command_is explain_line is.name is.options is.given (codes "explain") refl) is.is.names.takes))
 explain_run run (ExtractedAll request is ran) =
     absurd (other_bytes (codes "extract") (codes "explain") refl (command_is explain_line (codes "extract") is.options is.given
     (codes "explain") refl))
@@ -337,14 +351,15 @@ normalised source old new output new_output done piped has =
     let normal = subst (λ input. IsNormalForm widest Embedded input moved.output) (sym input) moved.is_output.holds.0.output.normal in
     subst (λ bytes. Writes output bytes new_output) (kernel_output moved.output normal) moved.written
 
-task_done : (source : ImageSource) (work : Work) (done : Done) → IsTaskWork (normalising source) widest work → work.outcome ≡ Ok done →
+task_done : (source : ImageSource) (work : Work) (done : Done) →
+    IsTaskWork (plan_promise (normalising source) widest) source widest work → work.outcome ≡ Ok done →
     work.input.remaining ≡ Some kernel_file_with_rest → Writes work.output kernel_file work.new_output
 task_done source work done (Succeeded other piped is) good has =
     normalised source work.input work.new_input work.output work.new_output other piped has
 task_done source work done (HasFailed failure piped is) good has = absurd (not_failed work.outcome good is)
 
 of_input : (work : Work) (done : Done) (old new : Option (List FileStep)) →
-    IsImageWork without_files (normalising Standard) widest work old new → work.input.remaining ≡ Some kernel_file_with_rest →
+    IsPlanWork without_files (normalising Standard) widest work old new → work.input.remaining ≡ Some kernel_file_with_rest →
     work.outcome ≡ Ok done → Writes work.output kernel_file work.new_output × (new ≡ old)
 of_input work done old new (DoneOnInput source did same) has good = (task_done Standard work done did good has, same)
 of_input work done old new (DoneOnFile name source opened end was did same) has good = absurd cc
@@ -354,7 +369,7 @@ of_input work done old new (FileNotOpened name source was failed same) has good 
 is_in : (name : Bor (List ℕ)) → file_in ≡ File name → lent (codes "in") ≡ name
 is_in name same = cc
 
-of_file : (work : Work) (done : Done) (old new : Option (List FileStep)) → IsImageWork only_in in_plan widest work old new →
+of_file : (work : Work) (done : Done) (old new : Option (List FileStep)) → IsPlanWork only_in in_plan widest work old new →
     work.outcome ≡ Ok done → Writes work.output kernel_file work.new_output × (work.new_input ≡ work.input)
 of_file work done old new (DoneOnInput source did same) good = absurd cc
 of_file work done old new (DoneOnFile name source opened end was did same) good =
@@ -362,7 +377,7 @@ of_file work done old new (DoneOnFile name source opened end was did same) good 
     (task_done file_in (with_input work opened end) done did good opens.is_open.is_file, same)
 of_file work done old new (FileNotOpened name source was failed same) good = absurd (not_failed work.outcome good failed.outcome)
 
-no_file : (work : Work) (new : Option (List FileStep)) → IsImageWork without_files in_plan widest work (Some []) new →
+no_file : (work : Work) (new : Option (List FileStep)) → IsPlanWork without_files in_plan widest work (Some []) new →
     (work.outcome ≡ Err (source_failure file_in CannotOpen)) × (work.new_output ≡ work.output) × (work.new_input ≡ work.input)
     × IfSome new (λ steps. steps ≡ NotOpened (codes "in") ∷ [])
 no_file work new (DoneOnInput source did same) = absurd cc
@@ -425,7 +440,7 @@ not_held before after failed is =
       failure = (is.failure ∙ ap (λ (f : SourceFailure). failure_in_memory f.failure) cause) i;
     }
   where
-    in_memory_fails : {work : Work} {old new : Option (List FileStep)} → IsImageWork without_files in_plan widest work old new →
+    in_memory_fails : {work : Work} {old new : Option (List FileStep)} → IsPlanWork without_files in_plan widest work old new →
         work.outcome ≡ Err (source_failure file_in CannotOpen)
     in_memory_fails (DoneOnInput source did same) = absurd cc
     in_memory_fails (DoneOnFile name source opened end was did same) = absurd was.is_open.is_file

@@ -8,8 +8,6 @@ use Rattle.std.specs.Option.{option_map_or}
 use Rattle.bi_base.specs.declared.align.Align.{Align}
 use Rattle.bi_base.specs.Aligns.{align_bytes}
 use Rattle.bi_base.specs.Limits.{Limits}
-use Rattle.bi_base.specs.Causes.{name_of}
-use Rattle.bi_base.specs.declared.fault.Cause.{Cause}
 use Rattle.bi_base.specs.declared.fault.Error.TheVariants.{OutOfMemory}
 use Rattle.bi_fit.specs.Names.{key_name}
 use Rattle.bi_fit.specs.declared.changes.Changes.{Changes}
@@ -23,7 +21,9 @@ use Rattle.bi_norm.specs.declared.fit_building.ImageSpec.{ImageSpec}
 use Rattle.bi_norm.specs.declared.fit_building.ImageTexts.{ImageTexts}
 use Rattle.bootimg.specs.CodeWords.{IsCode, text_of_code, four_texts}
 use Rattle.bootimg.specs.ConfigurationWords.{AreConfigurations, AreHashes, IsDefault}
-use Rattle.bootimg.specs.Explanations.{name_of_topic}
+use Rattle.bootimg.specs.ConfigurationWords.{name_of_word}
+use Rattle.bootimg.specs.OwnTexts.{AreDescriptions, AreNamedTexts}
+use Rattle.bootimg.specs.Explanations.{IsAbout}
 use Rattle.bootimg.specs.declared.explanations.Topic.{Topic}
 use Rattle.bootimg.specs.ConfigurationWords.{IsFirstBadConfiguration}
 use Rattle.bootimg.specs.Words.{listed_words, parts_of}
@@ -45,16 +45,21 @@ use Rattle.bootimg.specs.declared.command_line.build.FitPlan.{FitPlan}
 use Rattle.bootimg.specs.declared.command_line.build.LegacyPlan.{LegacyPlan}
 use Rattle.bootimg.specs.declared.command_line.image.ImageFields.{ImageFields}
 use Rattle.bootimg.specs.declared.command_line.image.ImageWord.{ImageWord}
+use Rattle.bootimg.specs.declared.command_line.images.ImagesRequest.{ImagesRequest}
 use Rattle.bootimg.specs.declared.command_line.part.PartSource.{PartSource}
 use Rattle.bootimg.specs.declared.command_line.part.PartSource.TheVariants as part
 use Rattle.bootimg.specs.declared.command_line.show.ShowForm.{ShowForm}
 use Rattle.bootimg.specs.declared.command_line.show.ShowForm.TheVariants as show_form
+use Rattle.bootimg.specs.declared.command_line.texts.OwnTexts.{OwnTexts}
 use Rattle.bootimg.specs.declared.command_line.source.ComparePlan.{ComparePlan}
 use Rattle.bootimg.specs.declared.command_line.source.ImageSource.{ImageSource}
 use Rattle.bootimg.specs.declared.command_line.source.ImageSource.TheVariants.{Standard, File}
 use Rattle.bi_common.specs.declared.format.Format.{Format}
 use Rattle.bi_common.specs.declared.format.Format.TheVariants.{Lines, Json}
 use Rattle.bi_common.specs.Unshown.{IsNameShownAs}
+use Rattle.bi_describe.specs.IgnoredWords.{AreWordsOfValues}
+use Rattle.bi_describe.specs.Ignoring.{Ignored}
+use Rattle.bi_describe.specs.MadeWords.{ignored_words}
 use Rattle.bi_report.specs.Checking.{kind_word, allows as allows_kind}
 use Rattle.bi_report.specs.declared.check.Allowed.{Allowed}
 use Rattle.bi_report.specs.declared.check.Policy.{Policy}
@@ -81,7 +86,7 @@ use Rattle.clap.specs.declared.error.Error.{Error as ClapError}
 use Rattle.clap.specs.declared.error.kind.ErrorKind.{ErrorKind}
 use Rattle.clap.specs.declared.error.kind.ErrorKind.TheVariants as error_kind
 use Rattle.clap.specs.declared.parser.matches.ArgMatches.{ArgMatches}
-use Rattle.bootimg.specs.Program.{program_app}
+use Rattle.bootimg.specs.Program.{IsAmongNames, program_app}
 
 -- What the arguments of the program request (profile of this project).
 
@@ -242,6 +247,41 @@ IsImageSource None (File name) = ⊥
 IsImageSource (Some argument) Standard = argument ≡ codes "-"
 IsImageSource (Some argument) (File name) = (name.now ≡ argument) × (argument ≢ codes "-")
 
+-- ---- several images
+
+-- The command of this name takes any number of images.
+abbrev pub TakesImages : List ℕ → Type 0
+TakesImages name =
+    IsAmongNames (codes "list" ∷ codes "verify" ∷ codes "check" ∷ codes "scan" ∷ []) name
+
+-- The arguments that name images.
+abbrev pub image_arguments : ArgMatches → List (List ℕ)
+image_arguments options = values_of options (codes "file")
+
+-- Several images are named, and the command takes them.
+pub record NamesImages (name : List ℕ) (options : ArgMatches) : Type 0 where
+  pub takes : TakesImages name
+  pub several : 2 ≤ length (image_arguments options)
+
+-- At most one image is named, if the command takes any number of them.
+abbrev pub NamesNoMore : List ℕ → ArgMatches → Type 0
+NamesNoMore name options = TakesImages name → length (image_arguments options) ≤ 1
+
+-- Each argument names an image.
+abbrev pub AreImageSources : List (List ℕ) → List ImageSource → Type 0
+AreImageSources arguments sources =
+    AllZip (λ argument. IsImageSource (Some argument)) arguments sources
+
+-- Whether an image is standard input.
+abbrev pub is_standard : ImageSource → Bool
+is_standard Standard = true
+is_standard (File name) = false
+
+-- The arguments name these images. At most one of them is standard input.
+pub record AreSources (arguments : List (List ℕ)) (sources : List ImageSource) : Type 0 where
+  pub each : AreImageSources arguments sources
+  pub one_input : count_by is_standard sources ≤ 1
+
 -- ---- compare
 
 -- The text of the flag `--quiet`: `true` or `false`.
@@ -257,12 +297,17 @@ abbrev pub NamesAFile : (one other : ImageSource) → Type 0
 NamesAFile Standard Standard = ⊥
 NamesAFile one other = ⊤
 
+-- The values of `--ignore` leave this out of both images.
+abbrev pub IsIgnored : ArgMatches → List Ignored → Type 0
+IsIgnored options words = AreWordsOfValues (values_of options (codes "ignore")) words
+
 -- The options of `compare` are this plan.
 pub record IsComparePlan (options : ArgMatches) (plan : ComparePlan) : Type 0 where
   pub one : IsImageSource (option_of options (codes "one")) plan.one
   pub other : IsImageSource (option_of options (codes "other")) plan.other
   pub quiet : IsQuiet options plan.quiet
   pub format : IsFormat options plan.format
+  pub ignored : IsIgnored options (ignored_words plan.ignored.items)
   pub names_a_file : NamesAFile plan.one plan.other
 
 -- ---- check
@@ -344,14 +389,11 @@ pub record IsGetPlan (options : ArgMatches) (plan : GetPlan) : Type 0 where
 
 -- ---- explain
 
--- The argument is the name of this cause.
-abbrev pub NamesCause : List ℕ → Cause → Type 0
-NamesCause argument cause = argument ≡ name_of cause
-
--- The argument names this, a cause or a kind of concerns. Without an argument there is nothing.
+-- The argument is about this: a cause, a kind of concerns, or another message. Without an argument
+-- there is nothing.
 abbrev pub IsExplained : Option (List ℕ) → Option Topic → Type 0
 IsExplained None None = ⊤
-IsExplained (Some argument) (Some topic) = argument ≡ name_of_topic topic
+IsExplained (Some argument) (Some topic) = IsAbout argument topic
 IsExplained argument topic = ⊥
 
 -- ---- extract
@@ -563,6 +605,17 @@ pub record AreImages (arguments : List (List ℕ)) (images : List ImageSpec)
   pub texts_are : texts ≡ map (λ (word : ImageWord). word.texts) words
   pub payloads_are : payloads ≡ map (λ (word : ImageWord). word.payload) words
 
+-- The options of `build-fit` that give a text to one image or one configuration give these: to a
+-- configuration of a word of `--config`, and to the image of an argument, each by what the word or
+-- the argument has before its first colon.
+pub record AreOwnTexts (options : ArgMatches) (texts : OwnTexts) : Type 0 where
+  pub compatibles : AreNamedTexts (map name_of_word (values_of options (codes "config")))
+      (values_of options (codes "compatible")) texts.compatibles.items
+  pub configurations : AreDescriptions (map name_of_word (values_of options (codes "config")))
+      (values_of options (codes "describe-config")) texts.configurations.items
+  pub images : AreDescriptions (map name_of_word (values_of options (codes "images")))
+      (values_of options (codes "describe-image")) texts.images.items
+
 -- The options of `build-fit` are this plan.
 pub record IsFitPlan (options : ArgMatches) (plan : FitPlan) : Type 0 where
   pub description : plan.head.description.now ≡ value_of options (codes "description") []
@@ -574,6 +627,7 @@ pub record IsFitPlan (options : ArgMatches) (plan : FitPlan) : Type 0 where
   pub default : IsDefault (values_of options (codes "config")) (option_of options (codes "default"))
       (option_map (λ name. name.now) plan.default)
   pub algorithms : AreHashes (option_of options (codes "hash")) plan.algorithms.items
+  pub own_texts : AreOwnTexts options plan.own_texts
   pub form : IsForm options plan.form
 
 -- The first argument that is not an image has this index.
@@ -595,7 +649,8 @@ IsBadConfiguration image_names words (BadConfiguration index) =
     IsFirstBadConfiguration image_names words index
 IsBadConfiguration image_names words failure = ⊥
 
--- The options of `build-fit` have good values: the time, the form, the default and the algorithms.
+-- The options of `build-fit` have good values: the time, the form, the default, the algorithms, and
+-- the texts of one image or one configuration.
 pub record HasFitValues (options : ArgMatches) : Type 0 where
   pub time : ℕ
   pub is_time : IsNumber (value_of options (codes "time") (codes "0")) time
@@ -606,6 +661,8 @@ pub record HasFitValues (options : ArgMatches) : Type 0 where
       (option_of options (codes "default")) default
   pub algorithms : List Algo
   pub are_algorithms : AreHashes (option_of options (codes "hash")) algorithms
+  pub own_texts : OwnTexts
+  pub are_own_texts : AreOwnTexts options own_texts
 
 -- The images of `build-fit` are good, and the first word that is not a configuration has this
 -- index.
@@ -667,6 +724,7 @@ pub record IsImagePlan (name : List ℕ) (options : ArgMatches) (plan : ImagePla
   pub task : IsTask name options plan.task
   pub offset : IsNumber (given_offset options) plan.offset
   pub source : IsImageSource (option_of options (codes "file")) plan.source
+  pub no_more : NamesNoMore name options
 
 -- The command of this name, with its options, builds this.
 abbrev pub IsBuildPlan : List ℕ → ArgMatches → BuildPlan → Type 0
@@ -712,6 +770,24 @@ pub data IsTaskFailure (name : List ℕ) (options : ArgMatches) (failure : Failu
       → IsBadValue (IsExplained (option_of options (codes "cause"))) failure
       → IsTaskFailure name options failure
 
+-- The command of this name, with its options, is to be done with each of several images.
+pub record IsImagesRequest (name : List ℕ) (options : ArgMatches) (request : ImagesRequest) : Type 0
+  where
+    pub names : NamesImages name options
+    pub task : IsTask name options request.task
+    pub offset : IsNumber (given_offset options) request.offset
+    pub sources : AreSources (image_arguments options) request.sources.items
+    pub limits : IsLimits (limit_of options) request.limits
+    pub output : option_map (λ name. name.now) request.output ≡ option_of options (codes "output")
+
+-- Why the options of the command of this name, with several images, are not such a request.
+pub data IsImagesFailure (name : List ℕ) (options : ArgMatches) (failure : Failure) : Type 0 where
+  NoTaskForEach : IsTaskFailure name options failure → IsImagesFailure name options failure
+  TwoInputs : IsBadValue (AreSources (image_arguments options)) failure
+      → IsImagesFailure name options failure
+  NoLimitsForEach : IsBadValue (IsLimits (limit_of options)) failure
+      → IsImagesFailure name options failure
+
 -- ---- the arguments
 
 -- clap accepts the arguments, and they give this command these options.
@@ -727,12 +803,16 @@ pub data IsOutcomeOf (error : ClapError) (given : NoRequest) : Type 0 where
       → IsOutcomeOf error given
 
 -- Why the arguments request nothing, though clap accepts them: the options of the command are not a
--- job or are not limits, or those of `extract --all` are not a request, or memory ran out.
+-- job or are not limits, or those for several images or of `extract --all` are not a request, or
+-- memory ran out.
 pub data IsRejected (arguments : List (List ℕ)) (failure : Failure) : Type 0 where
   NoJob : (name : List ℕ) (options : ArgMatches) → Gives arguments name options
       → IsTaskFailure name options failure → IsRejected arguments failure
   NoLimits : (name : List ℕ) (options : ArgMatches) (job : Job) → Gives arguments name options
       → IsJob name options job → IsBadValue (IsLimits (limit_of options)) failure
+      → IsRejected arguments failure
+  NotEach : (name : List ℕ) (options : ArgMatches) → Gives arguments name options
+      → NamesImages name options → IsImagesFailure name options failure
       → IsRejected arguments failure
   NotAll : (options : ArgMatches) → Gives arguments (codes "extract") options
       → SelectsAll options true → IsAllFailure options failure → IsRejected arguments failure
@@ -765,17 +845,27 @@ pub record IsAllRequested (arguments : List (List ℕ)) (request : AllRequest) :
   pub none : IsNoneGiven options
   pub is : IsAllRequest options request
 
+-- The arguments request that something is done with each of several images.
+pub record IsImagesRequested (arguments : List (List ℕ)) (request : ImagesRequest) : Type 0 where
+  pub name : List ℕ
+  pub options : ArgMatches
+  pub given : Gives arguments name options
+  pub is : IsImagesRequest name options request
+
 -- The arguments request this.
 abbrev pub IsOrder : List (List ℕ) → Order → Type 0
 IsOrder arguments (order.Do request) = IsRequest arguments request
+IsOrder arguments (order.DoEach request) = IsImagesRequested arguments request
 IsOrder arguments (order.ExtractAll request) = IsAllRequested arguments request
 
 -- If a flattened image tree is to be built, there are as many lengths or files as images.
 abbrev pub HasOrderLengths : Order → Type 0
 HasOrderLengths (order.Do request) = HasJobLengths request.job
+HasOrderLengths (order.DoEach request) = ⊤
 HasOrderLengths (order.ExtractAll request) = ⊤
 
 -- A tree may have 64 levels.
 abbrev pub HasOrderDepth : Order → Type 0
 HasOrderDepth (order.Do request) = request.limits.depth ≡ 64
+HasOrderDepth (order.DoEach request) = request.limits.depth ≡ 64
 HasOrderDepth (order.ExtractAll request) = request.limits.depth ≡ 64

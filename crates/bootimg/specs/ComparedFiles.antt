@@ -1,8 +1,10 @@
-use Rattle.std.specs.Prelude.{◌≡◌, ℕ, Bool, true, false, List, []}
+use Rattle.std.specs.Prelude.{◌≡◌, ℕ, Bool, true, false, List, [], ◌∷◌}
 use Rattle.bi_base.specs.declared.fault.Error.TheVariants.{Refused, OutOfMemory as NoMemory}
 use Rattle.bi_base.specs.Limits.{Limits}
 use Rattle.bi_common.specs.declared.format.Format.{Format}
 use Rattle.bi_describe.specs.Comparing.{IsComparison, IsComparisonError, IsReadingError}
+use Rattle.bi_describe.specs.ComparingWithout.{AreComparedWithout, IsIgnoringError}
+use Rattle.bi_describe.specs.Ignoring.{Ignored}
 use Rattle.bi_describe.specs.declared.compare.CompareError.{CompareError}
 use Rattle.bi_describe.specs.declared.compare.CompareError.TheVariants.{One, Other, OutOfMemory}
 use Rattle.bi_norm.specs.Comparing.{AreCompared}
@@ -15,18 +17,25 @@ use Rattle.bootimg.specs.declared.failure.Failure.TheVariants.{Call}
 -- What the command `compare` makes of two files (profile of this project).
 
 -- What `compare` writes for two files, in a form, and whether they mean the same. With `--quiet` it
--- writes nothing, in any form.
-abbrev pub IsCompareOutput : (quiet : Bool) → Format → Limits → (one other : List ℕ)
-    → (same : Bool) → (text : List ℕ) → Type 0
-IsCompareOutput true format limits one other same text =
+-- writes nothing, in any form. With `--ignore` there are words, which leave something out of both.
+abbrev pub IsCompareOutput : List Ignored → (quiet : Bool) → Format → Limits
+    → (one other : List ℕ) → (same : Bool) → (text : List ℕ) → Type 0
+IsCompareOutput [] true format limits one other same text =
     AreCompared limits one other same × (text ≡ [])
-IsCompareOutput false format limits one other same text =
+IsCompareOutput [] false format limits one other same text =
     IsComparison format limits one other same text
+IsCompareOutput (word ∷ words) quiet format limits one other same text =
+    AreComparedWithout (record { words = word ∷ words; quiet = quiet; format = format })
+    limits one other same text
 
--- Why `compare` fails for two files. With `--quiet` they need not be described.
-abbrev pub IsCompareFailure : (quiet : Bool) → Limits → (one other : List ℕ) → CompareError → Type 0
-IsCompareFailure true limits one other error = IsReadingError limits one other error
-IsCompareFailure false limits one other error = IsComparisonError limits one other error
+-- Why `compare` fails for two files. With `--quiet` they need not be described, unless something is
+-- left out.
+abbrev pub IsCompareFailure : List Ignored → (quiet : Bool) → Limits → (one other : List ℕ)
+    → CompareError → Type 0
+IsCompareFailure [] true limits one other error = IsReadingError limits one other error
+IsCompareFailure [] false limits one other error = IsComparisonError limits one other error
+IsCompareFailure (word ∷ words) quiet limits one other error =
+    IsIgnoringError limits one other error
 
 -- The failure for an error of comparing.
 abbrev pub failure_of_comparing : CompareError → Failure

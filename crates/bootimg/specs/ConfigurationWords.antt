@@ -44,14 +44,16 @@ names_under (list ∷ later) key =
     if bytes_eq (key_name list.key) (key_name key) then bytes_of list.names.items
     else names_under later key
 
--- The configuration to be built.
+-- The configuration of the word, without texts of its own.
 abbrev pub configuration_model : ConfigurationWord → ConfigurationSpecModel
 configuration_model configuration = record {
   name = configuration.name.now;
+  description = None;
+  compatible = [];
   lists = names_under configuration.lists.items;
 }
 
--- The configurations to be built.
+-- The configurations of the words.
 abbrev pub configuration_models : List ConfigurationWord → List ConfigurationSpecModel
 configuration_models configurations = map configuration_model configurations
 

@@ -42,8 +42,8 @@ failure_of (extract.Config list.OutOfMemory) = Call OutOfMemory
 failure_of extract.NoIndex = NoIndex
 failure_of extract.NoPayload = NoPayload
 
--- An error of getting values with these words is this failure: it has the words for the value of the
--- error.
+-- An error of getting values with these words is this failure: it has the words for the value of
+-- the error.
 abbrev pub IsFailureOfGetting : List ValueWords → GetError → Failure → Type 0
 IsFailureOfGetting words (get.Failed error) failure = failure ≡ Call error
 IsFailureOfGetting words get.WrongKind failure = failure ≡ WrongKind

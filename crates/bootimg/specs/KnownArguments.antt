@@ -67,7 +67,8 @@ pub record DefaultsAreKnown : Type 0 where
   pub list : GivesValues (codes "list") (codes "list") defaults_with_json
   pub describe : GivesValues (codes "describe") (codes "describe") defaults_with_json
   pub compare : GivesValues (codes "compare a b") (codes "compare")
-      (with_value (codes "quiet") (codes "false")
+      (without_value (codes "ignore")
+      ∷ with_value (codes "quiet") (codes "false")
       ∷ with_value (codes "json") (codes "false")
       ∷ default_limit
       ∷ without_value (codes "output")
@@ -116,6 +117,9 @@ pub record DefaultsAreKnown : Type 0 where
   pub build_fit : GivesValues (codes "build-fit") (codes "build-fit")
       (without_value (codes "config")
       ∷ without_value (codes "default")
+      ∷ without_value (codes "compatible")
+      ∷ without_value (codes "describe-config")
+      ∷ without_value (codes "describe-image")
       ∷ without_value (codes "hash")
       ∷ with_value (codes "external") (codes "false")
       ∷ without_value (codes "align")
@@ -158,9 +162,11 @@ pub record OptionsAreKnown : Type 0 where
   pub describe : GivesValues (codes "describe --json --offset=7 --limit=64 -o out in")
       (codes "describe")
       json_and_others
-  pub compare : GivesValues (codes "compare --quiet --json --limit 64 -o out - in")
+  pub compare : GivesValues
+      (codes "compare --ignore time --ignore /a --quiet --json --limit 64 -o out - in")
       (codes "compare")
-      (with_value (codes "quiet") (codes "true")
+      ((codes "ignore", codes "time" ∷ codes "/a" ∷ [])
+      ∷ with_value (codes "quiet") (codes "true")
       ∷ with_value (codes "json") (codes "true")
       ∷ with_value (codes "limit") (codes "64")
       ∷ with_value (codes "output") (codes "out")
@@ -189,7 +195,8 @@ pub record OptionsAreKnown : Type 0 where
       ∷ with_value (codes "external") (codes "true")
       ∷ with_value (codes "align") (codes "8")
       ∷ offset_and_others)
-  pub get : GivesValues (codes "get --as raw --offset 7 --limit 64 -o out in / x load") (codes "get")
+  pub get : GivesValues (codes "get --as raw --offset 7 --limit 64 -o out in / x load")
+      (codes "get")
       (with_value (codes "as") (codes "raw")
       ∷ (codes "where", codes "/" ∷ codes "x" ∷ codes "load" ∷ [])
       ∷ offset_and_others)
@@ -231,10 +238,15 @@ pub record OptionsAreKnown : Type 0 where
       ∷ [])
   pub build_fit : GivesValues
       (codes "build-fit --config a:b --config c --default d --hash e --external --align 8 "
+      ++ codes "--compatible c:x --compatible a:y:z --describe-config a:p --describe-config c:q "
+      ++ codes "--describe-image a:r --describe-image c:s "
       ++ codes "--description d --time 1 --limit 64 -o out a:b c")
       (codes "build-fit")
       ((codes "config", codes "a:b" ∷ codes "c" ∷ [])
       ∷ with_value (codes "default") (codes "d")
+      ∷ (codes "compatible", codes "c:x" ∷ codes "a:y:z" ∷ [])
+      ∷ (codes "describe-config", codes "a:p" ∷ codes "c:q" ∷ [])
+      ∷ (codes "describe-image", codes "a:r" ∷ codes "c:s" ∷ [])
       ∷ with_value (codes "hash") (codes "e")
       ∷ with_value (codes "external") (codes "true")
       ∷ with_value (codes "align") (codes "8")
@@ -265,7 +277,7 @@ pub record MistakesAreKnown : Type 0 where
       ≡ MissingRequiredArgument ∷ []
   pub no_values : fault_of program_app (words_of_line (codes "get a"))
       ≡ MissingRequiredArgument ∷ []
-  pub two_files : fault_of program_app (words_of_line (codes "list a b")) ≡ UnknownArgument ∷ []
+  pub two_files : fault_of program_app (words_of_line (codes "describe a b")) ≡ UnknownArgument ∷ []
   pub other_option : fault_of program_app (words_of_line (codes "list --external"))
       ≡ UnknownArgument ∷ []
   pub no_json : fault_of program_app (words_of_line (codes "convert --json"))

@@ -7,10 +7,13 @@ use Rattle.bi_hash.specs.declared.algo.Algo.{Algo}
 use Rattle.bi_hash.specs.declared.algo.Algo.TheVariants.{Crc32, Sha1, Sha256}
 use Rattle.bi_norm.specs.FitBuilding.{ImageTextsModel, image_texts_model}
 use Rattle.bootimg.specs.CommandLine.{IsFitPlanFailure, IsImageText, IsTaskFailure, NoneIs}
-use Rattle.bootimg.specs.CommandLine.{option_of, values_of}
+use Rattle.bootimg.specs.CommandLine.{AreOwnTexts, option_of, values_of}
+use Rattle.bi_commands.specs.KnownChoices.{lent}
 use Rattle.bootimg.specs.ConfigurationWords.{AreConfigurations, AreHashes, IsDefault}
 use Rattle.bootimg.specs.ConfigurationWords.{IsFirstBadConfiguration, configuration_models}
 use Rattle.bootimg.specs.KnownRequests.{HoldsFor, IsOnlyOne}
+use Rattle.bootimg.specs.OwnTexts.{AreDescriptions, AreNamedTexts, text_named, texts_named}
+use Rattle.bootimg.specs.declared.command_line.texts.NamedText.{NamedText}
 use Rattle.bootimg.specs.declared.command_line.configurations.ConfigurationWord.{ConfigurationWord}
 use Rattle.bootimg.specs.declared.command_line.image.ImageWord.{ImageWord}
 use Rattle.bootimg.specs.declared.failure.Failure.{Failure}
@@ -125,6 +128,71 @@ pub record ConfigurationsAreKnown : Type 0 where
       (λ options. NoneIs
       (IsDefault (values_of options (codes "config")) (option_of options (codes "default"))))
 
+-- ---- texts of one image or one configuration
+
+-- A name with each of its texts.
+abbrev pub pairs_of : List NamedText → List (List ℕ × List ℕ)
+pairs_of texts = map (λ named. (named.name.now, named.text.now)) texts
+
+-- There are such texts, and they are these.
+abbrev pub AreKnownTexts : (Are : List NamedText → Type 0) → List (List ℕ × List ℕ) → Type 0
+AreKnownTexts Are pairs =
+    ((texts : List NamedText) × Are texts)
+    × ((texts : List NamedText) → Are texts → pairs_of texts ≡ pairs)
+
+-- The names of these two configurations, or of these two images, and words without them.
+abbrev pub two_names : List (List ℕ)
+two_names = codes "a" ∷ codes "b" ∷ []
+
+-- `--compatible` of this command line has a bad value, or one of the options for descriptions has.
+abbrev pub HasBadTexts : (line : List ℕ) → Type 0
+HasBadTexts line = HoldsFor line (codes "build-fit") (λ options. NoneIs (AreOwnTexts options))
+
+-- The texts of small words. A name has no colon, and a text may have one. A word without a colon
+-- is bad, and so are one without a text, one for a name that is not there, and a second description
+-- for one name.
+pub record NamedTextsAreKnown : Type 0 where
+  pub none : AreKnownTexts (AreNamedTexts two_names []) []
+  pub in_order : AreKnownTexts
+      (AreNamedTexts two_names (codes "b:x" ∷ codes "a:acme,one" ∷ codes "b:y:z" ∷ []))
+      ((codes "b", codes "x") ∷ (codes "a", codes "acme,one") ∷ (codes "b", codes "y:z") ∷ [])
+  pub descriptions : AreKnownTexts
+      (AreDescriptions two_names (codes "b:x" ∷ codes "a:: " ∷ []))
+      ((codes "b", codes "x") ∷ (codes "a", codes ": ") ∷ [])
+  pub no_colon : NoneIs (AreNamedTexts two_names (codes "a" ∷ []))
+  pub no_text : NoneIs (AreNamedTexts two_names (codes "b:x" ∷ codes "a:" ∷ []))
+  pub other_name : NoneIs (AreNamedTexts two_names (codes "z:x" ∷ []))
+  pub twice : NoneIs (AreDescriptions two_names (codes "a:x" ∷ codes "b:x" ∷ codes "a:y" ∷ []))
+
+-- Command lines with bad words, each for a configuration of `--config` or for an image.
+pub record OwnTextOptionsAreKnown : Type 0 where
+  pub no_colon : HasBadTexts (codes "build-fit --config a --compatible a")
+  pub no_text : HasBadTexts (codes "build-fit --config a --compatible a:")
+  pub no_configuration : HasBadTexts (codes "build-fit --config a --compatible k:x k:kernel")
+  pub not_described : HasBadTexts (codes "build-fit --config a --describe-config k:x k:kernel")
+  pub described_twice :
+      HasBadTexts (codes "build-fit --config a --describe-config a:x --describe-config a:x")
+  pub no_image : HasBadTexts (codes "build-fit --config a --describe-image a:x k:kernel")
+  pub image_twice : HasBadTexts (codes "build-fit --describe-image k:x --describe-image k:y k:z")
+
+-- A text for a name.
+abbrev pub text_for_name : (name text : List ℕ) → NamedText
+text_for_name name text = record { name = lent name; text = lent text }
+
+-- Texts for `a` and for `b`.
+abbrev pub some_texts : List NamedText
+some_texts =
+    text_for_name (codes "b") (codes "x") ∷ text_for_name (codes "a") (codes "y")
+    ∷ text_for_name (codes "b") (codes "z") ∷ []
+
+-- Each name has its own texts, in their order, and as a description the first of them.
+pub record TextsOfNamesAreKnown : Type 0 where
+  pub first : texts_named some_texts (codes "a") ≡ codes "y" ∷ []
+  pub second : texts_named some_texts (codes "b") ≡ codes "x" ∷ codes "z" ∷ []
+  pub none : texts_named some_texts (codes "c") ≡ []
+  pub described : text_named some_texts (codes "b") ≡ Some (codes "x")
+  pub not_described : text_named some_texts (codes "c") ≡ None
+
 -- ---- texts of image nodes
 
 -- The texts in the node of the image of this word.
@@ -171,6 +239,11 @@ pub record FirstFailuresAreKnown : Type 0 where
   pub hash_before_image : HasPlanFailure (codes "build-fit --hash md4 a") BadValue
   pub default_before_image : HasPlanFailure (codes "build-fit --default c a") BadValue
   pub form_before_image : HasPlanFailure (codes "build-fit --align 4 a") BadValue
+  pub compatible_before_image :
+      HasPlanFailure (codes "build-fit --config c --compatible d:x a") BadValue
+  pub description_before_image : HasPlanFailure (codes "build-fit --describe-image b:x a") BadValue
+  pub image_after_description :
+      HasPlanFailure (codes "build-fit --describe-image a:x a") (BadImage 0)
   pub image_before_configuration : HasPlanFailure (codes "build-fit --config c a") (BadImage 0)
   pub first_image : HasPlanFailure (codes "build-fit a b") (BadImage 0)
   pub second_image : HasPlanFailure (codes "build-fit k:kernel:arm:linux:none:-:-:5 b a")

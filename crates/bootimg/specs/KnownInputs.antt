@@ -2,11 +2,12 @@ use Rattle.std.specs.Prelude.{◌≡◌, ◌<◌, ◌⊎◌, ℕ, Bool, true, fa
 use Rattle.std.specs.Prelude.{None, Some, IfSome}
 use Rattle.std.specs.Prelude.{Result, Ok, Err, bytes_eq, codes}
 use Rattle.std.specs.Prelude.{if◌then◌else◌, length, map, drop, flat_map}
-use Rattle.bi_base.specs.Causes.{name_of}
+use Rattle.std.specs.Global.{Vec}
 use Rattle.bi_base.specs.Commands.{CommandPromise, unit_promise}
 use Rattle.bi_base.specs.Limits.{Limits, widest}
 use Rattle.bi_base.specs.Reading.{too_large}
-use Rattle.bi_base.specs.declared.fault.Cause.TheVariants.{BadDataCrc, BadMagic}
+use Rattle.bi_base.specs.declared.fault.Cause.TheVariants.{BadDataCrc, BadMagic, BadNameOffset}
+use Rattle.bi_base.specs.declared.fault.Cause.TheVariants.{TooLarge, Truncated}
 use Rattle.bi_base.specs.declared.fault.Error.{Error}
 use Rattle.bi_base.specs.declared.fault.Error.TheVariants.{Refused}
 use Rattle.bi_base.specs.declared.fault.Fault.{Fault}
@@ -15,6 +16,8 @@ use Rattle.bi_commands.specs.KnownChoices.{lent}
 use Rattle.bi_common.specs.KnownWords.{lines}
 use Rattle.bi_common.specs.declared.format.Format.TheVariants.{Lines, Json}
 use Rattle.bi_describe.specs.declared.compare.CompareError.TheVariants.{One, Other}
+use Rattle.bi_describe.specs.declared.ignored.Ignored.{Ignored as IgnoredWord}
+use Rattle.bi_describe.specs.KnownComparedWithout.{node_a}
 use Rattle.bi_files.specs.Files.{FileStep, KnownFiles, NoFile, NotOpened, RegularFile}
 use Rattle.bi_fit.specs.KnownFiles.{bare_file}
 use Rattle.bi_legacy.specs.KnownFaults.{limited_to}
@@ -22,10 +25,12 @@ use Rattle.bi_legacy.specs.KnownFiles.{kernel_file_with_rest}
 use Rattle.bi_legacy.specs.KnownImages.{kernel_file, multi_file}
 use Rattle.bi_norm.specs.KnownComparisons.{file_without_magic, no_magic}
 use Rattle.bootimg.specs.ComparedFiles.{IsCompareFailure, IsCompareOutput}
-use Rattle.bootimg.specs.Explanations.{all_causes, all_kinds, explain_text, line_of_cause}
-use Rattle.bootimg.specs.Explanations.{line_of_kind}
+use Rattle.bootimg.specs.Explanations.{IsAbout, all_topics, explain_text, line_of_topic}
+use Rattle.bootimg.specs.Explanations.{listed_topics, name_of_topic}
+use Rattle.bootimg.specs.CommandLine.{NoneIs}
+use Rattle.bootimg.specs.declared.messages.Message.TheVariants as message
+use Rattle.bootimg.specs.declared.explanations.Topic.{Topic}
 use Rattle.bootimg.specs.declared.explanations.Topic.TheVariants as topic
-use Rattle.bi_report.specs.Checking.{kind_word}
 use Rattle.bi_report.specs.declared.check.ConcernKind.TheVariants as kind
 use Rattle.bootimg.specs.KnownRequests.{IsFileNamed}
 use Rattle.bootimg.specs.KnownRuns.{compared_plan}
@@ -53,9 +58,12 @@ two_files a b = Some
     (λ name. if bytes_eq name (codes "a") then RegularFile a
     else if bytes_eq name (codes "b") then RegularFile b else NoFile)
 
--- `compare a b` did this under a limit of 64 bytes. No step with a file was taken before.
-abbrev pub ComparesFiles : KnownFiles → Work → (new : Option (List FileStep)) → Type 0
-ComparesFiles files work new = IsCompareWork files compared_plan (limited_to 64) work (Some []) new
+-- `compare a b` did this under a limit of 64 bytes, whatever it left out. No step with a file was
+-- taken before.
+abbrev pub ComparesFiles : (ignored : Vec IgnoredWord) → KnownFiles → Work
+    → (new : Option (List FileStep)) → Type 0
+ComparesFiles ignored files work new =
+    IsCompareWork files (compared_plan ignored) (limited_to 64) work (Some []) new
 
 -- It failed, and the failure is about the file of this name.
 abbrev pub FailsAbout : (name : List ℕ) → Result Done SourceFailure → Type 0
@@ -68,41 +76,47 @@ FailsToOpen name outcome = outcome ≡ Err (source_failure (File (lent name)) Ca
 
 -- The first file is opened before the second one, which is not opened if the first one is not read.
 -- The limit holds for both.
-pub record ComparedInputsAreKnown : Type 0 where
-  pub no_files : (work : Work) (new : Option (List FileStep)) → ComparesFiles without_files work new
-      → FailsToOpen (codes "a") work.outcome
+pub record ComparedInputsAreKnown (ignored : Vec IgnoredWord) : Type 0 where
+  pub no_files : (work : Work) (new : Option (List FileStep))
+      → ComparesFiles ignored without_files work new → FailsToOpen (codes "a") work.outcome
       × IfSome new (λ steps. steps ≡ NotOpened (codes "a") ∷ [])
   pub only_other : (work : Work) (new : Option (List FileStep))
-      → ComparesFiles (one_file (codes "b") []) work new → FailsToOpen (codes "a") work.outcome
+      → ComparesFiles ignored (one_file (codes "b") []) work new
+      → FailsToOpen (codes "a") work.outcome
   pub only_one : (work : Work) (new : Option (List FileStep))
-      → ComparesFiles (one_file (codes "a") []) work new
+      → ComparesFiles ignored (one_file (codes "a") []) work new
       → FailsAbout (codes "a") work.outcome ⊎ FailsToOpen (codes "b") work.outcome
   pub one_too_long : (bytes : List ℕ) → 64 < length bytes → (work : Work)
-      (new : Option (List FileStep)) → ComparesFiles (two_files bytes []) work new
+      (new : Option (List FileStep)) → ComparesFiles ignored (two_files bytes []) work new
       → FailsAbout (codes "a") work.outcome
   pub other_too_long : (bytes : List ℕ) → 64 < length bytes → (work : Work)
-      (new : Option (List FileStep)) → ComparesFiles (two_files [] bytes) work new
+      (new : Option (List FileStep)) → ComparesFiles ignored (two_files [] bytes) work new
       → FailsAbout (codes "a") work.outcome ⊎ FailsAbout (codes "b") work.outcome
 
--- With `--quiet` nothing is written, and files that cannot be described are compared all the same.
--- The description of the kernel image is longer than 88 bytes.
+-- With `--quiet` nothing is written, and files that cannot be described are compared all the same,
+-- unless something is left out. The description of the kernel image is longer than 191 bytes.
 pub record ComparedOutputsAreKnown : Type 0 where
   pub quiet : (same : Bool) (text : List ℕ)
-      → IsCompareOutput true Json widest kernel_file multi_file same text
+      → IsCompareOutput [] true Json widest kernel_file multi_file same text
       → (same ≡ false) × (text ≡ [])
-  pub quiet_same : IsCompareOutput true Lines widest kernel_file_with_rest kernel_file true []
-  pub differences : IsCompareOutput false Lines widest smallest_text bare_file false
+  pub quiet_same : IsCompareOutput [] true Lines widest kernel_file_with_rest kernel_file true []
+  pub differences : IsCompareOutput [] false Lines widest smallest_text bare_file false
       (lines (codes "+node /images/a" ∷ codes "+payload /images/a none" ∷ []))
-  pub not_read : IsCompareFailure true widest file_without_magic kernel_file (One no_magic)
-  pub other_not_read : IsCompareFailure false widest kernel_file file_without_magic (Other no_magic)
-  pub not_described : IsCompareFailure false (limited_to 88) kernel_file smallest_text
+  pub ignored : IsCompareOutput (node_a ∷ []) false Json widest smallest_text bare_file true
+      (lines (codes "{\"same\":true,\"differences\":[]}" ∷ []))
+  pub not_read : IsCompareFailure [] true widest file_without_magic kernel_file (One no_magic)
+  pub other_not_read : IsCompareFailure [] false widest kernel_file file_without_magic
+      (Other no_magic)
+  pub ignored_not_described : IsCompareFailure (node_a ∷ []) true (limited_to 191) kernel_file
+      kernel_file (One (too_large 191))
+  pub not_described : IsCompareFailure [] false (limited_to 88) kernel_file smallest_text
       (One (too_large 88))
-  pub other_not_described : IsCompareFailure false (limited_to 88) smallest_text kernel_file
+  pub other_not_described : IsCompareFailure [] false (limited_to 88) smallest_text kernel_file
       (Other (too_large 88))
   pub quiet_described : (fault : Fault)
-      → ¬ (IsCompareFailure true (limited_to 88) kernel_file smallest_text (One fault))
+      → ¬ (IsCompareFailure [] true (limited_to 88) kernel_file smallest_text (One fault))
   pub quiet_other_described : (fault : Fault)
-      → ¬ (IsCompareFailure true (limited_to 88) smallest_text kernel_file (Other fault))
+      → ¬ (IsCompareFailure [] true (limited_to 88) smallest_text kernel_file (Other fault))
 
 -- ---- offsets
 
@@ -159,8 +173,14 @@ kind_names =
     ∷ codes "no-images" ∷ codes "uncovered" ∷ codes "foreign" ∷ codes "strings"
     ∷ codes "unit-address" ∷ codes "bad-default" ∷ codes "trailing" ∷ []
 
--- What `explain` writes for a cause, or for a kind of concerns, is one line. Without an argument it
--- writes a line for each of both, which begins with its name.
+-- The words of the other messages.
+abbrev pub message_names : List (List ℕ)
+message_names =
+    codes "bad value" ∷ codes "bad image" ∷ codes "bad configuration" ∷ codes "cannot be opened"
+    ∷ codes "read failed" ∷ codes "write failed" ∷ codes "out of memory" ∷ []
+
+-- What `explain` writes for a cause, a kind of concerns or another message is one line. Without an
+-- argument it writes a line for each cause and each kind, which begins with its name.
 pub record ExplanationsAreKnown : Type 0 where
   pub one : explain_text (Some (topic.Cause BadDataCrc))
       ≡ lines
@@ -170,16 +190,34 @@ pub record ExplanationsAreKnown : Type 0 where
       ≡ codes "The file is not of a kind that the command reads: decompress it if it is "
       ++ (codes "compressed, or remove what is before the image. convert reads only legacy "
       ++ codes "images.\n")
-  pub line : line_of_cause BadDataCrc
+  pub line : line_of_topic (topic.Cause BadDataCrc)
       ≡ codes "BadDataCrc: The data checksum of a legacy image is wrong: "
       ++ codes "fetch the image again.\n"
   pub concern : explain_text (Some (topic.Kind kind.Foreign))
       ≡ codes "A signature of a configuration covers a node that the configuration does not "
       ++ (codes "use. A newer U-Boot makes the list of nodes itself, and then finds the signature "
       ++ codes "wrong: sign the image again with mkimage -F -k.\n")
-  pub names : map name_of all_causes ≡ cause_names
-  pub kinds : map kind_word all_kinds ≡ kind_names
+  pub message : explain_text (Some (topic.Message message.CannotOpen))
+      ≡ codes "The file is not there, or this user may not read it: check its name and its "
+      ++ codes "permissions.\n"
+  pub names : map name_of_topic all_topics ≡ cause_names ++ (kind_names ++ message_names)
   pub all : explain_text None
       ≡ codes "Truncated: The file ends before something that it must hold, for example before "
       ++ (codes "the end of the data of a legacy image: copy it again, as a whole.\n"
-      ++ (flat_map line_of_cause (drop 1 all_causes) ++ flat_map line_of_kind all_kinds))
+      ++ flat_map line_of_topic (drop 1 listed_topics))
+
+-- The argument of `explain` is a name, in capitals or small letters, or a line of the program.
+pub record MessagesAreKnown : Type 0 where
+  pub name : IsAbout (codes "Truncated") (topic.Cause Truncated)
+  pub letters : IsAbout (codes "badMAGIC") (topic.Cause BadMagic)
+  pub offset : IsAbout (codes "Truncated at 12") (topic.Cause Truncated)
+  pub line : IsAbout (codes "bootimg: a.itb: TooLarge at 64") (topic.Cause TooLarge)
+  pub longer : IsAbout (codes "bootimg: BadNameOffset at 8") (topic.Cause BadNameOffset)
+  pub concern : IsAbout (codes "a.itb: weak-hash k crc32") (topic.Kind kind.WeakHash)
+  pub usage : IsAbout (codes "bootimg: usage: bad image 3") (topic.Message message.BadImage)
+  pub words : IsAbout (codes "write failed") (topic.Message message.WriteFailed)
+  pub one : (text : List ℕ) (given other : Topic) → IsAbout text given → IsAbout text other
+      → given ≡ other
+  pub longer_name : NoneIs (IsAbout (codes "Truncatedness"))
+  pub two_colons : NoneIs (IsAbout (codes "Truncated: bootimg"))
+  pub empty : NoneIs (IsAbout [])

@@ -1,17 +1,21 @@
-use Rattle.std.specs.Prelude.{◌≡◌, ◌⊎◌, ℕ, List, Some, codes, option_map}
+use Rattle.std.specs.Prelude.{◌≡◌, ◌⊎◌, ◌∷◌, ℕ, List, [], Some, codes, option_map}
+use Rattle.std.specs.Borrow.{Bor}
 use Rattle.bi_base.specs.declared.fault.Error.TheVariants.{OutOfMemory}
 use Rattle.bi_common.specs.declared.format.Format.TheVariants.{Json}
 use Rattle.bootimg.specs.KnownWords.{words_of_line}
 use Rattle.bi_legacy.specs.KnownFaults.{limited_to}
 use Rattle.clap.specs.declared.error.kind.ErrorKind.{ErrorKind}
 use Rattle.clap.specs.declared.error.kind.ErrorKind.TheVariants.{DisplayHelp, DisplayVersion}
-use Rattle.bootimg.specs.CommandLine.{IsAllRequested, IsRejected, IsRequest, IsTextFor}
+use Rattle.bootimg.specs.CommandLine.{IsAllRequested, IsImagesRequested, IsRejected, IsRequest}
+use Rattle.bootimg.specs.CommandLine.{IsTextFor}
 use Rattle.bootimg.specs.KnownRequests.{IsAllOf, IsFileNamed}
 use Rattle.bootimg.specs.declared.command_line.Job.{Job}
 use Rattle.bootimg.specs.declared.command_line.Job.TheVariants.{Run}
 use Rattle.bootimg.specs.declared.command_line.Request.{Request}
 use Rattle.bootimg.specs.declared.command_line.Task.TheVariants as task
 use Rattle.bootimg.specs.declared.command_line.extract.AllRequest.{AllRequest}
+use Rattle.bootimg.specs.declared.command_line.images.ImagesRequest.{ImagesRequest}
+use Rattle.bootimg.specs.declared.command_line.source.ImageSource.TheVariants.{File, Standard}
 use Rattle.bootimg.specs.declared.failure.Failure.{Failure}
 use Rattle.bootimg.specs.declared.failure.Failure.TheVariants.{BadValue, Call, NoChange}
 
@@ -30,6 +34,12 @@ pub record IsListRequest (request : Request) : Type 0 where
   pub limits : request.limits ≡ limited_to 64
   pub output : option_map (λ name. name.now) request.output ≡ Some (codes "out")
 
+-- The request is to verify, as JSON, the file of this name and standard input.
+abbrev pub AreFileAndInput : List ℕ → ImagesRequest → Type 0
+AreFileAndInput name request =
+    (request.task ≡ task.Verify Json) × (file : Bor (List ℕ)) × (file.now ≡ name)
+    × (request.sources.items ≡ File file ∷ Standard ∷ [])
+
 -- What command lines request.
 pub record RequestsAreKnown : Type 0 where
   pub list : (request : Request)
@@ -40,6 +50,13 @@ pub record RequestsAreKnown : Type 0 where
       → IsAllOf (codes "d") 7 (codes "in") request
   pub not_all : (request : AllRequest)
       → ¬ (IsAllRequested (words_of_line (codes "extract --part 0 in")) request)
+  pub several : (request : ImagesRequest)
+      → IsImagesRequested (words_of_line (codes "verify --json a -")) request
+      → AreFileAndInput (codes "a") request
+  pub not_several : (request : ImagesRequest)
+      → ¬ (IsImagesRequested (words_of_line (codes "verify a")) request)
+  pub not_one : (request : Request)
+      → ¬ (IsRequest (words_of_line (codes "verify --json a -")) request)
 
 -- A command line is rejected for this reason, or since memory ran out.
 abbrev pub IsRejectedFor : (line : List ℕ) → Failure → Type 0
@@ -57,6 +74,7 @@ pub record RejectionsAreKnown : Type 0 where
   pub change_before_limit : IsRejectedFor (codes "update --limit 1") NoChange
   pub bad_limit : IsRejectedFor (codes "scan --limit 1") BadValue
   pub no_directory : IsRejectedFor (codes "extract --all in") BadValue
+  pub two_inputs : IsRejectedFor (codes "list - -") BadValue
   pub version : HasOnlyText (codes "--version") DisplayVersion
   pub help : HasOnlyText (codes "--help") DisplayHelp
   pub help_of_command : HasOnlyText (codes "list --help") DisplayHelp

@@ -1,6 +1,7 @@
 use Rattle.std.specs.Prelude.{◌≡◌, ◌++◌, ℕ, true, false, List, [], ◌∷◌}
 use Rattle.std.specs.Prelude.{None, Some, codes, map}
 use Rattle.bi_common.specs.declared.format.Format.TheVariants.{Lines, Json}
+use Rattle.bi_describe.specs.Ignoring.{IgnoredPart, IgnoredTime}
 use Rattle.bi_report.specs.KnownConcerns.{allowed_words}
 use Rattle.bi_report.specs.declared.check.Allowed.{Allowed}
 use Rattle.bootimg.specs.KnownWords.{words_of_line}
@@ -18,16 +19,17 @@ use Rattle.bi_values.specs.declared.value_form.ValueForm.{ValueForm}
 use Rattle.bi_values.specs.declared.value_form.ValueForm.TheVariants as value_form
 use Rattle.bi_values.specs.declared.value_name.HeaderField.TheVariants as field
 use Rattle.clap.specs.declared.parser.matches.ArgMatches.{ArgMatches}
-use Rattle.bootimg.specs.CommandLine.{AreEscaped, AsksForSignatures, ChangesHashes, Gives, IsAllowedBy, IsBuildPlan}
+use Rattle.bootimg.specs.CommandLine.{AreEscaped, AsksForSignatures, ChangesHashes, Gives}
+use Rattle.bootimg.specs.CommandLine.{IsAllowedBy, IsBuildPlan}
 use Rattle.bootimg.specs.CommandLine.{IsChanges, IsChangesFailure, IsComparePlan, IsFields, IsForm}
 use Rattle.bootimg.specs.CommandLine.{IsFormat, IsImageSource, IsImageText, IsJob, IsPartSource}
-use Rattle.bootimg.specs.CommandLine.{IsGetPlan, IsQuiet, IsSelected, IsSelectionFailure, NoneIs}
+use Rattle.bootimg.specs.CommandLine.{IsGetPlan, IsIgnored, IsQuiet, IsSelected}
+use Rattle.bootimg.specs.CommandLine.{IsSelectionFailure, NoneIs}
 use Rattle.bootimg.specs.CommandLine.{IsAllFailure, IsAllRequest, IsNoneGiven, SelectsAll}
 use Rattle.bootimg.specs.CommandLine.{IsShown, SelectsDefault, ShowsLayout, given_offset}
 use Rattle.bootimg.specs.Numbers.{IsNumber}
 use Rattle.bootimg.specs.ValueWords.{texts_of_value}
 use Rattle.bootimg.specs.declared.command_line.Job.TheVariants.{Compare, Explain}
-use Rattle.bootimg.specs.declared.command_line.Task.TheVariants as task
 use Rattle.bootimg.specs.declared.command_line.build.BuildPlan.{BuildPlan}
 use Rattle.bootimg.specs.declared.command_line.build.BuildPlan.TheVariants as build
 use Rattle.bootimg.specs.declared.command_line.extract.AllRequest.{AllRequest}
@@ -200,6 +202,20 @@ pub record ChangesAreKnown : Type 0 where
       (λ options. NoneIs (IsChanges options) × IsOnlyOne (IsChangesFailure options) NoChange)
   pub bad_time : HoldsFor (codes "update --time x") (codes "update")
       (λ options. NoneIs (IsChanges options) × IsOnlyOne (IsChangesFailure options) BadValue)
+
+-- ---- compare
+
+-- The words that the values of `--ignore` give, and values that give none.
+pub record IgnoredOptionsAreKnown : Type 0 where
+  pub nothing : HoldsFor (codes "compare a b") (codes "compare")
+      (λ options. IsOnlyOne (IsIgnored options) [])
+  pub two : HoldsFor (codes "compare --ignore time --ignore part-0 a b") (codes "compare")
+      (λ options. IsIgnored options (IgnoredTime ∷ IgnoredPart 0 ∷ []))
+  pub second_empty : HoldsFor (codes "compare --ignore time --ignore  --ignore x a b")
+      (codes "compare")
+      (λ options. NoneIs (IsComparePlan options))
+  pub other_word : HoldsFor (codes "compare --ignore nothing a b") (codes "compare")
+      (λ options. NoneIs (IsComparePlan options))
 
 -- ---- get
 

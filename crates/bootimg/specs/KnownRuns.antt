@@ -1,4 +1,5 @@
 use Rattle.std.specs.Prelude.{◌≡◌, ℕ, true, false, List, codes, Ok, Err}
+use Rattle.std.specs.Global.{Vec}
 use Rattle.bi_base.specs.declared.fault.Cause.TheVariants.{BadMagic, BadHeaderCrc, TooLarge}
 use Rattle.bi_base.specs.declared.fault.Error.TheVariants.{Refused, OutOfMemory, ReadFailed}
 use Rattle.bi_base.specs.declared.fault.Error.TheVariants.{WriteFailed}
@@ -7,6 +8,7 @@ use Rattle.bi_base.specs.Traces.{WriteTrace}
 use Rattle.bi_common.specs.declared.format.Format.TheVariants.{Lines}
 use Rattle.bi_describe.specs.declared.compare.CompareError.{CompareError}
 use Rattle.bi_describe.specs.declared.compare.CompareError.TheVariants as compare
+use Rattle.bi_describe.specs.declared.ignored.Ignored.{Ignored}
 use Rattle.bi_commands.specs.KnownChoices.{lent}
 use Rattle.bi_commands.specs.declared.extract.ExtractError.{ExtractError}
 use Rattle.bi_commands.specs.declared.extract.ExtractError.TheVariants as extract
@@ -116,25 +118,29 @@ pub record ValueLinesAreKnown : Type 0 where
   pub of_input : failure_line Standard (NoProperty (Property (lent (codes "/")) (lent (codes "x"))))
       ≡ codes "bootimg: no such property / x\n"
 
--- The line of an error of comparing `a` and `b`.
-abbrev pub compared_plan : ComparePlan
-compared_plan = record {
+-- The line of an error of comparing `a` and `b`, whatever is left out.
+abbrev pub compared_plan : (ignored : Vec Ignored) → ComparePlan
+compared_plan ignored = record {
   one = File (lent (codes "a"));
   other = File (lent (codes "b"));
   quiet = false;
   format = Lines;
+  ignored = ignored;
 }
 
-abbrev pub line_of_comparing : CompareError → List ℕ
-line_of_comparing error =
-    failure_line (refused_source compared_plan error) (failure_of_comparing error)
+abbrev pub line_of_comparing : (ignored : Vec Ignored) → CompareError → List ℕ
+line_of_comparing ignored error =
+    failure_line (refused_source (compared_plan ignored) error) (failure_of_comparing error)
 
 -- It has the name of the file that is refused.
-pub record CompareLinesAreKnown : Type 0 where
-  pub one : line_of_comparing (compare.One bad_magic) ≡ codes "bootimg: a: BadMagic at 0\n"
-  pub other : line_of_comparing (compare.Other (record { cause = BadHeaderCrc; offset = 4 }))
+pub record CompareLinesAreKnown (ignored : Vec Ignored) : Type 0 where
+  pub one : line_of_comparing ignored (compare.One bad_magic)
+      ≡ codes "bootimg: a: BadMagic at 0\n"
+  pub other : line_of_comparing ignored
+      (compare.Other (record { cause = BadHeaderCrc; offset = 4 }))
       ≡ codes "bootimg: b: BadHeaderCrc at 4\n"
-  pub out_of_memory : line_of_comparing compare.OutOfMemory ≡ codes "bootimg: out of memory\n"
+  pub out_of_memory : line_of_comparing ignored compare.OutOfMemory
+      ≡ codes "bootimg: out of memory\n"
 
 -- The notes: on signature nodes, and on what is not kept.
 pub record NotesAreKnown : Type 0 where

@@ -129,7 +129,8 @@ pub record TaskEndsAreKnown : Type 0 where
   pub extracted : TaskDone (task.Extract (selected.Part 1)) widest (without_notes true) multi_file
       (codes "abc")
 
--- The failures of getting values: those of the calls behind them, and of a value one with its words.
+-- The failures of getting values: those of the calls behind them, and of a value one with its
+-- words.
 pub record GetFailuresAreKnown : Type 0 where
   pub failed : (failure : Failure) → IsFailureOfGetting [] (get.Failed OutOfMemory) failure
       → failure ≡ Call OutOfMemory
@@ -154,7 +155,7 @@ abbrev pub hello_and_abc : List Part
 hello_and_abc = Bytes (lent (codes "hello")) ∷ Bytes (lent (codes "abc")) ∷ []
 
 -- The plan has the description `k`, time 1, a kernel and a ramdisk, the SHA-256 of each, and
--- payloads inside the blob, and no configuration, default or texts are given.
+-- payloads inside the blob, and no configuration, default, texts or descriptions are given.
 pub record IsPlainPlan (any : Bor (List ℕ)) (plan : FitPlan) : Type 0 where
   pub head : plan.head ≡ head_like any (codes "k")
   pub images : plan.images.items ≡ kernel_and_ramdisk any
@@ -162,6 +163,7 @@ pub record IsPlainPlan (any : Bor (List ℕ)) (plan : FitPlan) : Type 0 where
   pub default : plan.default ≡ None
   pub algorithms : plan.algorithms.items ≡ Sha256 ∷ []
   pub texts : plan.texts.items ≡ []
+  pub descriptions : plan.own_texts.images.items ≡ []
   pub form : plan.form ≡ Embedded
 
 -- An image is built of the parts, and of the fields or the images of its plan. Without parts the

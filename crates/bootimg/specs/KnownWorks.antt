@@ -31,7 +31,8 @@ use Rattle.bootimg.specs.declared.explanations.Topic.TheVariants as topic
 use Rattle.bootimg.specs.Failures.{failure_to_save}
 use Rattle.bootimg.specs.KnownInputs.{one_file, two_files, without_files}
 use Rattle.bootimg.specs.Runs.{ArePartsRead, AreFirstRead, IsAllWork, IsExplainWork, IsHeldFailure}
-use Rattle.bootimg.specs.Runs.{IsImageWork, IsOutputRun, IsPart, IsPartNotRead, IsPlainRun, Inputs}
+use Rattle.bootimg.specs.Runs.{IsOutputRun, IsPart, IsPartNotRead, IsPlanWork, Inputs}
+use Rattle.bootimg.specs.ProgramRuns.{IsPlainRun}
 use Rattle.bootimg.specs.Runs.{Run, Work, failure_in_memory, no_input, plan_of_options}
 use Rattle.bootimg.specs.Runs.{source_failure}
 use Rattle.bootimg.specs.Selections.{select_of}
@@ -160,14 +161,14 @@ only_in = one_file (codes "in") kernel_file_with_rest
 -- opened, and nothing is written. Standard input stays as it is beside a file.
 pub record ImageWorksAreKnown : Type 0 where
   pub of_input : (work : Work) (done : Done) (old new : Option (List FileStep))
-      → IsImageWork without_files (normalising Standard) widest work old new
+      → IsPlanWork without_files (normalising Standard) widest work old new
       → work.input.remaining ≡ Some kernel_file_with_rest → work.outcome ≡ Ok done
       → Writes work.output kernel_file work.new_output × (new ≡ old)
   pub of_file : (work : Work) (done : Done) (old new : Option (List FileStep))
-      → IsImageWork only_in in_plan widest work old new → work.outcome ≡ Ok done
+      → IsPlanWork only_in in_plan widest work old new → work.outcome ≡ Ok done
       → Writes work.output kernel_file work.new_output × (work.new_input ≡ work.input)
   pub no_file : (work : Work) (new : Option (List FileStep))
-      → IsImageWork without_files in_plan widest work (Some []) new
+      → IsPlanWork without_files in_plan widest work (Some []) new
       → (work.outcome ≡ Err (source_failure file_in CannotOpen))
       × (work.new_output ≡ work.output) × (work.new_input ≡ work.input)
       × IfSome new (λ steps. steps ≡ NotOpened (codes "in") ∷ [])

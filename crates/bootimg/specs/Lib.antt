@@ -3,6 +3,7 @@ pub mod TextsOfWords
 pub mod ValueWords
 pub mod CommandLine
 pub mod ConfigurationWords
+pub mod OwnTexts
 pub mod Words
 pub mod Program
 pub mod Table
@@ -13,6 +14,8 @@ pub mod Offsets
 pub mod ReadParts
 pub mod Tasks
 pub mod Runs
+pub mod SeveralImages
+pub mod ProgramRuns
 pub mod Selections
 pub mod Explanations
 pub mod ErrorLines
@@ -22,6 +25,7 @@ pub mod KnownArguments
 pub mod KnownRequests
 pub mod KnownBuildRequests
 pub mod KnownRuns
+pub mod KnownImages
 pub mod KnownInputs
 pub mod KnownOrders
 pub mod KnownWorks

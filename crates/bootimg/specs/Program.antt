@@ -92,6 +92,10 @@ offset = option_with_default (codes "offset") (codes "0")
 abbrev pub file : Rule
 file = positional (codes "file")
 
+-- The files of any number of images.
+abbrev pub files : Rule
+files = positionals (codes "file")
+
 -- ---- commands
 
 -- A command of this name with these options.
@@ -116,7 +120,7 @@ show = command (codes "show")
 
 -- `list`.
 abbrev pub list : Shape
-list = command (codes "list") (json ∷ offset ∷ limit ∷ output ∷ file ∷ [])
+list = command (codes "list") (json ∷ offset ∷ limit ∷ output ∷ files ∷ [])
 
 -- `describe`.
 abbrev pub describe : Shape
@@ -127,23 +131,23 @@ abbrev pub compare : Shape
 compare =
     with_alias
     (command (codes "compare")
-    (flag_option (codes "quiet") ∷ json ∷ limit ∷ output ∷ required_positional (codes "one")
-    ∷ required_positional (codes "other") ∷ []))
+    (repeated_option (codes "ignore") ∷ flag_option (codes "quiet") ∷ json ∷ limit ∷ output
+    ∷ required_positional (codes "one") ∷ required_positional (codes "other") ∷ []))
     (codes "diff")
 
 -- `verify`.
 abbrev pub verify : Shape
-verify = command (codes "verify") (json ∷ offset ∷ limit ∷ output ∷ file ∷ [])
+verify = command (codes "verify") (json ∷ offset ∷ limit ∷ output ∷ files ∷ [])
 
 -- `check`.
 abbrev pub check : Shape
 check = command (codes "check")
     (value_option (codes "allow") ∷ flag_option (codes "signed") ∷ json ∷ offset ∷ limit ∷ output
-    ∷ file ∷ [])
+    ∷ files ∷ [])
 
 -- `scan`.
 abbrev pub scan : Shape
-scan = command (codes "scan") (json ∷ offset ∷ limit ∷ output ∷ file ∷ [])
+scan = command (codes "scan") (json ∷ offset ∷ limit ∷ output ∷ files ∷ [])
 
 -- `update`.
 abbrev pub update : Shape
@@ -184,7 +188,9 @@ build_legacy = command (codes "build-legacy")
 abbrev pub build_fit : Shape
 build_fit = command (codes "build-fit")
     (repeated_option (codes "config") ∷ value_option (codes "default")
-    ∷ value_option (codes "hash") ∷ external ∷ align ∷ value_option (codes "description")
+    ∷ repeated_option (codes "compatible") ∷ repeated_option (codes "describe-config")
+    ∷ repeated_option (codes "describe-image") ∷ value_option (codes "hash") ∷ external ∷ align
+    ∷ value_option (codes "description")
     ∷ option_with_default (codes "time") (codes "0") ∷ limit ∷ output
     ∷ positionals (codes "images") ∷ [])
 

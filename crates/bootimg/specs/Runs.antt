@@ -9,14 +9,15 @@ use Rattle.bi_base.specs.declared.fault.Error.TheVariants.{OutOfMemory, WriteFai
 use Rattle.bi_base.specs.Limits.{Limits}
 use Rattle.bi_base.specs.Pipes.{IsTracedPipe}
 use Rattle.bi_base.specs.Reading.{IsInputRead, IsInputNotRead}
-use Rattle.bi_base.specs.Traces.{ReadTrace, WriteTrace, ReadsWell, WritesWell}
+use Rattle.bi_base.specs.Traces.{ReadTrace, WriteTrace, WritesWell}
 use Rattle.bi_base.specs.Writing.{WroteAll, WriteStopped, WroteAndFlushed, WriteOrFlushStopped}
 use Rattle.bi_base.specs.Commands.{CommandPromise}
 use Rattle.bi_fit.specs.declared.kept.Kept.{Kept}
 use Rattle.bi_common.specs.Offsets.{input_from}
 use Rattle.bi_describe.specs.declared.compare.CompareError.{CompareError}
+use Rattle.bi_describe.specs.MadeWords.{ignored_words}
 use Rattle.bi_commands.specs.BuildCommands.{build_legacy_promise, build_fit_promise}
-use Rattle.bootimg.specs.ConfigurationWords.{configuration_models}
+use Rattle.bootimg.specs.OwnTexts.{planned_configurations, planned_descriptions}
 use Rattle.bi_norm.specs.FitBuilding.{PlanSpecModel, texts_models}
 use Rattle.bi_commands.specs.ExtractingAll.{AreAllPayloads, IsExtractAllError, PayloadFile}
 use Rattle.bi_commands.specs.declared.parts.Part.{Part}
@@ -41,8 +42,7 @@ use Rattle.bootimg.specs.declared.failure.Failure.{Failure}
 use Rattle.bootimg.specs.declared.failure.Failure.TheVariants.{Call, CannotOpen}
 use Rattle.bootimg.specs.declared.jobs.SourceFailure.{SourceFailure}
 use Rattle.bootimg.specs.declared.tasks.Done.{Done}
-use Rattle.bootimg.specs.CommandLine.{HasJobLengths, IsTextFor, IsRejected, IsRequest}
-use Rattle.bootimg.specs.CommandLine.{IsAllRequested, reads_input, sources_of}
+use Rattle.bootimg.specs.CommandLine.{reads_input, sources_of}
 use Rattle.bootimg.specs.ComparedFiles.{IsCompareOutput, IsCompareFailure}
 use Rattle.bootimg.specs.ComparedFiles.{failure_of_comparing, refused_source}
 use Rattle.bi_files.specs.declared.saving.SaveError.{SaveError}
@@ -142,33 +142,46 @@ pub record IsFailedWork (source : ImageSource) (failure : Failure) (work : Work)
 
 -- ---- a task
 
--- The task was done, from `input` to its output.
-pub data IsTaskWork (plan : ImagePlan) (limits : Limits) (work : Work) : Type 0 where
-  Succeeded : (done : Done)
-      → IsTracedPipe (plan_promise plan limits) limits work.input work.new_input work.output
-      work.new_output (Ok done)
-      → work.outcome ≡ Ok done → IsTaskWork plan limits work
-  HasFailed : (failure : Failure)
-      → IsTracedPipe (plan_promise plan limits) limits work.input work.new_input work.output
-      work.new_output (Err failure)
-      → work.outcome ≡ Err (source_failure plan.source failure) → IsTaskWork plan limits work
+-- The promise of a task on an image from a source.
+abbrev pub Promise : Type 1
+Promise = CommandPromise Done Failure
+
+-- A task with this promise was done on the image from this source, from `input` to its output.
+pub data IsTaskWork (promise : Promise) (source : ImageSource) (limits : Limits) (work : Work)
+    : Type 0
+  where
+    Succeeded : (done : Done)
+        → IsTracedPipe promise limits work.input work.new_input work.output work.new_output
+        (Ok done)
+        → work.outcome ≡ Ok done → IsTaskWork promise source limits work
+    HasFailed : (failure : Failure)
+        → IsTracedPipe promise limits work.input work.new_input work.output work.new_output
+        (Err failure)
+        → work.outcome ≡ Err (source_failure source failure)
+        → IsTaskWork promise source limits work
 
 -- The task was done with the input from its source: standard input, and no step with a file was
 -- taken; or a file that was opened and closed. Standard input is not read beside a file. `old` and
 -- `new` are the steps with files before the work and after it.
-pub data IsImageWork (files : KnownFiles) (plan : ImagePlan) (limits : Limits) (work : Work)
-    (old new : Option (List FileStep)) : Type 0
+pub data IsImageWork (files : KnownFiles) (promise : Promise) (source : ImageSource)
+    (limits : Limits) (work : Work) (old new : Option (List FileStep)) : Type 0
   where
-    DoneOnInput : plan.source ≡ Standard → IsTaskWork plan limits work → new ≡ old
-        → IsImageWork files plan limits work old new
-    DoneOnFile : (name : Bor (List ℕ)) → plan.source ≡ File name → (opened end : ReadTrace)
+    DoneOnInput : source ≡ Standard → IsTaskWork promise source limits work → new ≡ old
+        → IsImageWork files promise source limits work old new
+    DoneOnFile : (name : Bor (List ℕ)) → source ≡ File name → (opened end : ReadTrace)
         → WasOpened files name.now opened end old new
-        → IsTaskWork plan limits (with_input work opened end)
-        → work.new_input ≡ work.input → IsImageWork files plan limits work old new
-    FileNotOpened : (name : Bor (List ℕ)) → plan.source ≡ File name
+        → IsTaskWork promise source limits (with_input work opened end)
+        → work.new_input ≡ work.input → IsImageWork files promise source limits work old new
+    FileNotOpened : (name : Bor (List ℕ)) → source ≡ File name
         → WasNotOpened files name.now old new
-        → IsFailedWork plan.source CannotOpen work → work.new_input ≡ work.input
-        → IsImageWork files plan limits work old new
+        → IsFailedWork source CannotOpen work → work.new_input ≡ work.input
+        → IsImageWork files promise source limits work old new
+
+-- The task of a plan was done on its image.
+abbrev pub IsPlanWork : KnownFiles → ImagePlan → Limits → Work → (old new : Option (List FileStep))
+    → Type 0
+IsPlanWork files plan limits work old new =
+    IsImageWork files (plan_promise plan limits) plan.source limits work old new
 
 -- ---- whole inputs and files
 
@@ -224,16 +237,19 @@ pub data IsComparedWork (plan : ComparePlan) (limits : Limits) (one other : List
     : Type 0
   where
     WroteDifferences : (same : Bool) (text : List ℕ)
-        → IsCompareOutput plan.quiet plan.format limits one other same text
+        → IsCompareOutput (ignored_words plan.ignored.items) plan.quiet plan.format limits one other
+        same text
         → WroteAndFlushed work.output text work.new_output
         → (done : Done) → EndedWith same done → work.outcome ≡ Ok done
         → IsComparedWork plan limits one other work
     NotAllWritten : (same : Bool) (text : List ℕ)
-        → IsCompareOutput plan.quiet plan.format limits one other same text
+        → IsCompareOutput (ignored_words plan.ignored.items) plan.quiet plan.format limits one other
+        same text
         → (error : Error) → WriteOrFlushStopped work.output text work.new_output error
         → work.outcome ≡ Err (source_failure Standard (Call error))
         → IsComparedWork plan limits one other work
-    NotCompared : (error : CompareError) → IsCompareFailure plan.quiet limits one other error
+    NotCompared : (error : CompareError)
+        → IsCompareFailure (ignored_words plan.ignored.items) plan.quiet limits one other error
         → IsFailedWork (refused_source plan error) (failure_of_comparing error) work
         → IsComparedWork plan limits one other work
 
@@ -313,10 +329,11 @@ pub record AreFirstRead (files : KnownFiles) (limits : Limits) (sources : List P
 -- The plan of a flattened image tree, as the options give it.
 abbrev pub plan_of_options : FitPlan → PlanSpecModel
 plan_of_options plan = record {
-  configurations = configuration_models plan.configurations.items;
+  configurations = planned_configurations plan.own_texts plan.configurations.items;
   default = option_map (λ name. name.now) plan.default;
   algorithms = plan.algorithms.items;
   texts = texts_models plan.texts.items;
+  descriptions = planned_descriptions plan.own_texts plan.images.items;
 }
 
 -- What building a flattened image tree with these payloads promises as a command.
@@ -380,7 +397,7 @@ pub data IsBuildWork (files : KnownFiles) (plan : BuildPlan) (limits : Limits) (
 -- The job was done. `old` and `new` are the steps with files before it and after it.
 abbrev pub IsJobWork : KnownFiles → Job → Limits → Work → (old new : Option (List FileStep))
     → Type 0
-IsJobWork files (RunTask plan) limits work old new = IsImageWork files plan limits work old new
+IsJobWork files (RunTask plan) limits work old new = IsPlanWork files plan limits work old new
 IsJobWork files (Compare plan) limits work old new = IsCompareWork files plan limits work old new
 IsJobWork files (Explain topic) limits work old new = IsExplainWork topic work × (new ≡ old)
 IsJobWork files (Build plan) limits work old new = IsBuildWork files plan limits work old new
@@ -576,37 +593,3 @@ pub data IsTextRun (kind : ErrorKind) (text : List ℕ) (run : Run) : Type 0 whe
   IsUsage : IsMistake kind → Logs run.errors text run.new_errors → run.new_output ≡ run.output
       → run.new_input ≡ run.input → run.new_steps ≡ run.steps → run.status ≡ 2
       → IsTextRun kind text run
-
--- The program ran with these arguments: it did the job that they request or extracted all payloads,
--- rejected them, or wrote a text that clap has for them.
-pub data IsRun (arguments : List (List ℕ)) (files : KnownFiles) (run : Run) : Type 0 where
-  RanJob : (request : Request) → IsRequest arguments request → HasJobLengths request.job
-      → IsRequestRun files request run → IsRun arguments files run
-  ExtractedAll : (request : AllRequest) → IsAllRequested arguments request
-      → IsAllRun files request run → IsRun arguments files run
-  Rejected : (failure : Failure) → IsRejected arguments failure
-      → IsRejection Standard failure run → IsRun arguments files run
-  WroteText : (kind : ErrorKind) (text : List ℕ) → IsTextFor arguments kind
-      → IsTextRun kind text run → IsRun arguments files run
-
--- The program ran over plain streams: it did what traces of these streams record, which begin when
--- the run does.
-pub record IsPlainRun (arguments : List (List ℕ)) (files : KnownFiles)
-    (steps new_steps : Option (List FileStep))
-    (remaining new_remaining contents new_contents : Option (List ℕ))
-    (errors new_errors : Option (List ℕ)) (status : ℕ) : Type 0 where
-  pub run : Run
-  pub is_run : IsRun arguments files run
-  pub is_status : run.status ≡ status
-  pub reads_well : ReadsWell run.input
-  pub none_taken : run.input.taken ≡ 0
-  pub writes_well : WritesWell run.output
-  pub errors_write_well : WritesWell run.errors
-  pub steps_before : run.steps ≡ steps
-  pub steps_after : run.new_steps ≡ new_steps
-  pub remaining_before : run.input.remaining ≡ remaining
-  pub remaining_after : run.new_input.remaining ≡ new_remaining
-  pub contents_before : run.output.contents ≡ contents
-  pub contents_after : run.new_output.contents ≡ new_contents
-  pub errors_before : run.errors.contents ≡ errors
-  pub errors_after : run.new_errors.contents ≡ new_errors

@@ -272,10 +272,15 @@ task_laws task limits = record {
   no_write_error = λ input is. task_in_memory task limits input (Call WriteFailed) is;
 }
 
--- What a task promises on the image at its offset.
-abbrev pub plan_promise : ImagePlan → Limits → CommandPromise Done Failure
-plan_promise plan = promise_at plan.offset (task_promise plan.task)
+-- What a task promises on the image at an offset of its input.
+abbrev pub placed_promise : (offset : ℕ) → Task → Limits → CommandPromise Done Failure
+placed_promise offset task = promise_at offset (task_promise task)
 
--- The promise of a plan has the laws of promises.
-pub plan_laws : (plan : ImagePlan) (limits : Limits) → PromiseLaws (plan_promise plan limits)
-plan_laws plan = laws_at plan.offset (task_promise plan.task) (task_laws plan.task)
+-- This promise has the laws of promises.
+pub placed_laws : (offset : ℕ) (task : Task) (limits : Limits)
+    → PromiseLaws (placed_promise offset task limits)
+placed_laws offset task = laws_at offset (task_promise task) (task_laws task)
+
+-- What a plan promises.
+abbrev pub plan_promise : ImagePlan → Limits → CommandPromise Done Failure
+plan_promise plan = placed_promise plan.offset plan.task

@@ -1,13 +1,16 @@
 //! Building an image of the parts that the arguments name.
 
-ghost use Rattle.std.specs.Prelude.{◌≡◌, length, IfOk, IfErr};
+ghost use Rattle.std.specs.Prelude.{◌≡◌, length, map, IfOk, IfErr};
 ghost use Rattle.std.specs.List.{AllZip, list_any};
+ghost use Rattle.bi_base.specs.Slices.{bytes_of};
 ghost use Rattle.bi_base.specs.Pipes.{IsTracedPipe};
 ghost use Rattle.bi_base.specs.declared.fault.Error.TheVariants.{OutOfMemory};
 ghost use Rattle.bi_fit.specs.NamedImages.{configuration_spec_models};
 ghost use Rattle.bootimg.specs.CommandLine.{HasLengths, sources_of};
 ghost use Rattle.bootimg.specs.CommandLine.{is_input as is_input_of, reads_input as reads_input_of};
-ghost use Rattle.bootimg.specs.ConfigurationWords.{configuration_models};
+ghost use Rattle.bi_norm.specs.FitBuilding.{descriptions_models};
+ghost use Rattle.bootimg.specs.OwnTexts.{planned_configurations, planned_descriptions};
+ghost use Rattle.bootimg.specs.OwnTexts.{text_named as text_for, texts_named as texts_for};
 ghost use Rattle.bootimg.specs.ReadParts.{IsLent, IsReadingFailure, IsPartFailure, WasRead};
 ghost use Rattle.bootimg.specs.ReadParts.{WereRead};
 ghost use Rattle.bootimg.specs.Runs.{build_promise, fit_promise, source_failure};
@@ -15,7 +18,10 @@ ghost use Rattle.bootimg.specs.Runs.{IsBuildWork, IsBuiltWork};
 ghost use Rattle.bootimg.specs.declared.command_line.source.ImageSource.TheVariants.{Standard};
 ghost use Rattle.bootimg.specs.declared.failure.Failure.TheVariants.{Call};
 
-use crate::command_line::{BuildPlan, ConfigurationWord, FitPlan, ImageSource, PartSource};
+use crate::command_line::{
+    BuildPlan, ConfigurationWord, FitPlan, ImageSource, NamedText, OwnTexts, PartSource,
+    text_named, texts_named,
+};
 use crate::failure::Failure;
 use crate::jobs::{SourceFailure, read_file};
 use crate::no_input::NoInput;
@@ -25,7 +31,7 @@ use bi_commands::build_fit::FitBuilder;
 use bi_commands::build_legacy::LegacyBuilder;
 use bi_commands::parts::Part;
 use bi_files::FileSystem;
-use bi_norm::{ConfigurationSpec, PlanSpec};
+use bi_norm::{ConfigurationSpec, ImageSpec, PlanSpec};
 use std::alloc::{AllocError, Global};
 
 /// A `Part` that owns its bytes.
@@ -212,20 +218,49 @@ fn run_builder<S: TracedRead, T: TracedWrite>(
             };
             pipe(alloc, &builder, input, output, limits)
         }
-        BuildPlan::Fit(plan) => {
-            let lent = lend_configurations(alloc, &plan.configurations)?;
-            run_fit_builder(alloc, plan, &lent, parts, limits, input, output)
-        }
+        BuildPlan::Fit(plan) => run_fit_plan(alloc, plan, parts, limits, input, output),
     }
 }
 
-/// Runs the command that builds the flattened image tree with these configurations and payloads.
-/// Fails as `pipe` does. Requires: there are as many payloads as images, and the configurations are
-/// those of the plan.
+/// Runs the command that builds the flattened image tree of this plan with these payloads. Fails as
+/// `pipe` does, or with OutOfMemory before anything is read. Requires: there are as many payloads
+/// as images.
+fn run_fit_plan<'r, S: TracedRead, T: TracedWrite>(
+    alloc: Global,
+    plan: &'r FitPlan<'r>,
+    payloads: &[Part<'_>],
+    limits: Limits,
+    input: &mut S,
+    output: &mut T,
+) -> Result<(), Error>
+    requires { length payloads.now ≡ length plan.now.images.items }
+    ensures { IsTracedPipe (fit_promise plan.now payloads.now limits) limits (S.trace input.old)
+        (S.trace input.new) (T.trace output.old) (T.trace output.new) result }
+{
+    let texts = &plan.own_texts;
+    let compatibles = compatibles_of(alloc, &plan.configurations, &texts.compatibles)?;
+    let lent = lend_configurations(alloc, &plan.configurations, texts, &compatibles)?;
+    let descriptions = descriptions_of(alloc, &plan.images, &texts.images)?;
+    run_fit_builder(
+        alloc,
+        plan,
+        &lent,
+        &descriptions,
+        payloads,
+        limits,
+        input,
+        output,
+    )
+}
+
+/// Runs the command that builds the flattened image tree with these configurations, descriptions of
+/// images and payloads. Fails as `pipe` does. Requires: there are as many payloads as images, and
+/// the configurations and the descriptions are those of the plan.
 fn run_fit_builder<S: TracedRead, T: TracedWrite>(
     alloc: Global,
     plan: &FitPlan<'_>,
     configurations: &[ConfigurationSpec<'_>],
+    descriptions: &[Option<&[u8]>],
     payloads: &[Part<'_>],
     limits: Limits,
     input: &mut S,
@@ -233,7 +268,9 @@ fn run_fit_builder<S: TracedRead, T: TracedWrite>(
 ) -> Result<(), Error>
     requires one_each { length payloads.now ≡ length plan.now.images.items }
     requires lent { configuration_spec_models configurations.now
-        ≡ configuration_models plan.now.configurations.items }
+        ≡ planned_configurations plan.now.own_texts plan.now.configurations.items }
+    requires described { descriptions_models descriptions.now
+        ≡ planned_descriptions plan.now.own_texts plan.now.images.items }
     ensures { IsTracedPipe (fit_promise plan.now payloads.now limits) limits (S.trace input.old)
         (S.trace input.new) (T.trace output.old) (T.trace output.new) result }
 {
@@ -245,6 +282,7 @@ fn run_fit_builder<S: TracedRead, T: TracedWrite>(
             default: plan.default,
             algorithms: &plan.algorithms,
             texts: &plan.texts,
+            descriptions,
         },
         payloads,
         form: plan.form,
@@ -252,17 +290,62 @@ fn run_fit_builder<S: TracedRead, T: TracedWrite>(
     pipe(alloc, &builder, input, output, limits)
 }
 
-/// Returns these configurations, which borrow the names of the words.
+/// Returns, for each of these configurations, its texts under `compatible`, in their order.
+///
+/// Takes n * m time for n configurations and m texts.
+fn compatibles_of<'r>(
+    alloc: Global,
+    words: &[ConfigurationWord<'r>],
+    texts: &[NamedText<'r>],
+) -> Result<Vec<Vec<&'r [u8]>>, AllocError>
+    ensures { IfOk result (λ found. map (λ each. bytes_of each.items) found.items
+        ≡ map (λ word. texts_for texts.now word.name.now) words.now) }
+{
+    let mut found = Vec::with_capacity(alloc, words.len())?;
+    for word in words {
+        found.push(texts_named(alloc, texts, word.name)?)?;
+    }
+    Ok(found)
+}
+
+/// Returns these configurations with their own texts, all of which they borrow. Requires:
+/// `compatibles` are their texts under `compatible`.
 fn lend_configurations<'r>(
     alloc: Global,
     words: &'r [ConfigurationWord<'_>],
+    texts: &'r OwnTexts<'_>,
+    compatibles: &'r [Vec<&'r [u8]>],
 ) -> Result<Vec<ConfigurationSpec<'r>>, AllocError>
-    ensures { IfOk result (λ lent.
-        configuration_spec_models lent.items ≡ configuration_models words.now) }
+    requires { map (λ each. bytes_of each.items) compatibles.now
+        ≡ map (λ word. texts_for texts.now.compatibles.items word.name.now) words.now }
+    ensures { IfOk result (λ lent. configuration_spec_models lent.items
+        ≡ planned_configurations texts.entry.now words.entry.now) }
 {
     let mut lent = Vec::with_capacity(alloc, words.len())?;
-    for word in words {
-        lent.push(word.spec())?;
+    for (index, word) in words.iter().enumerate() {
+        lent.push(ConfigurationSpec {
+            description: text_named(&texts.configurations, word.name),
+            compatible: &compatibles[index],
+            ..word.spec()
+        })?;
     }
     Ok(lent)
+}
+
+/// Returns the description of each of these images, if it has one of its own.
+///
+/// Takes n * m time for n images and m texts.
+fn descriptions_of<'r>(
+    alloc: Global,
+    images: &[ImageSpec<'r>],
+    texts: &[NamedText<'r>],
+) -> Result<Vec<Option<&'r [u8]>>, AllocError>
+    ensures { IfOk result (λ found. descriptions_models found.items
+        ≡ map (λ image. text_for texts.now image.name.now) images.now) }
+{
+    let mut found = Vec::with_capacity(alloc, images.len())?;
+    for image in images {
+        found.push(text_named(texts, image.name))?;
+    }
+    Ok(found)
 }

@@ -7,21 +7,25 @@ mod explain;
 mod extract;
 mod get;
 mod hashes;
+mod ignored;
 mod image;
+mod images;
 mod options;
 mod part;
 mod show;
 mod source;
 mod table;
+mod texts;
 mod update;
 mod values;
 
 ghost use Rattle.std.specs.Prelude.{◌≡◌, ◌≢◌, false, true, IfOk, IfErr, IsFalse, IsTrue, codes};
 ghost use Rattle.bi_base.specs.declared.fault.Error.TheVariants.{OutOfMemory};
 ghost use Rattle.bootimg.specs.CommandLine.{HasJobLengths, HasOrderDepth, HasOrderLengths};
-ghost use Rattle.bootimg.specs.CommandLine.{IsFailureOutcome};
+ghost use Rattle.bootimg.specs.CommandLine.{IsFailureOutcome, IsImagesFailure, IsImagesRequest};
 ghost use Rattle.bootimg.specs.CommandLine.{IsJob, IsNoRequest, IsOrder, IsOutcomeOf, IsTask};
-ghost use Rattle.bootimg.specs.CommandLine.{IsTaskFailure, SelectsAll, texts_of};
+ghost use Rattle.bootimg.specs.CommandLine.{IsTaskFailure, NamesImages, NamesNoMore, SelectsAll};
+ghost use Rattle.bootimg.specs.CommandLine.{texts_of};
 ghost use Rattle.bootimg.specs.Program.{IsCommandName};
 ghost use Rattle.bootimg.specs.declared.command_line.NoRequest.TheVariants as outcome;
 ghost use Rattle.bootimg.specs.declared.failure.Failure.TheVariants.{Call};
@@ -43,6 +47,8 @@ use explain::explained_topic;
 pub use extract::{AllRequest, Selected};
 use extract::{all_request, selection};
 use get::get_plan;
+pub use images::ImagesRequest;
+use images::{image_sources, names_images};
 use options::{flag, form, format, limits, number};
 pub use part::PartSource;
 pub use show::ShowForm;
@@ -51,6 +57,7 @@ pub use source::{ComparePlan, ImageSource};
 use source::{compare_plan, source};
 use std::alloc::{AllocError, AllocFailed, Global};
 use table::program;
+pub use texts::{NamedText, OwnTexts, text_named, texts_named};
 use update::changes;
 pub use values::{GetPlan, ValueWords};
 
@@ -121,6 +128,8 @@ pub struct Request<'a> {
 pub enum Order<'a> {
     /// Do a job, and write its output.
     Do(Request<'a>),
+    /// Do a task with each of several images, one after another, and write the outputs.
+    DoEach(ImagesRequest<'a>),
     /// Extract every payload of an image into a new directory.
     ExtractAll(AllRequest<'a>),
 }
@@ -173,7 +182,7 @@ impl From<Failure<'static>> for NoRequest {
 ///
 /// Errors, the first that applies: what clap rejects; `extract` without exactly one selection, or
 /// `update` without a change; a number that is malformed or out of range, an unknown code, key or
-/// kind of concerns, `extract --all` without an output, or `compare` of standard input with itself;
+/// kind of concerns, `extract --all` without an output, or standard input twice among the images;
 /// an image of `build-fit` that is malformed; a configuration of `build-fit` that is malformed, or
 /// cannot be built of the images. A call that allocates may run out of memory.
 pub fn parse_arguments<'a>(alloc: Global, arguments: &'a [&'a str]) -> Result<Order<'a>, NoRequest>
@@ -191,6 +200,9 @@ pub fn parse_arguments<'a>(alloc: Global, arguments: &'a [&'a str]) -> Result<Or
             Ok(request) => return Ok(Order::ExtractAll(request)),
             Err(failure) => return Err(NoRequest::Failure(failure)),
         }
+    }
+    if names_images(name, options) {
+        return Ok(Order::DoEach(images_request(alloc, name, options)?));
     }
     let job = parse_job(alloc, name, options)?;
     let limits = limits(options)?;
@@ -210,17 +222,44 @@ fn extracts_all(name: &str, options: &ArgMatches<'_>) -> bool
     name == "extract" && flag(options, "all")
 }
 
+/// Returns what the command of this name does with each of several images. Fails as
+/// `parse_arguments` does. Requires: the options name several images, and the command takes them.
+fn images_request<'a>(
+    alloc: Global,
+    name: &str,
+    options: &ArgMatches<'a>,
+) -> Result<ImagesRequest<'a>, NoRequest>
+    requires names { NamesImages name.now options.now }
+    ensures request { IfOk result (IsImagesRequest name.now options.now) }
+    ensures depth { IfOk result (λ request. request.limits.depth ≡ 64) }
+    ensures failure { IfErr result (IsFailureOutcome (IsImagesFailure name.now options.now)) }
+{
+    let task = parse_task(alloc, name, options)?;
+    let offset = number(options, "offset")?;
+    let sources = image_sources(alloc, options)?;
+    let limits = limits(options)?;
+    Ok(ImagesRequest {
+        task,
+        offset,
+        sources,
+        limits,
+        output: options.get_str("output"),
+    })
+}
+
 /// Returns what the command of this name does with the options. Fails as `parse_arguments` does.
-/// Requires: the name is that of a command, and `extract` does not have `--all`.
+/// Requires: the name is that of a command, and `extract` does not have `--all`. The options do not
+/// name several images, if the command takes any number of them.
 fn parse_job<'a>(alloc: Global, name: &str, options: &ArgMatches<'a>) -> Result<Job<'a>, NoRequest>
     requires command { IsCommandName name.now }
     requires not_all { name.now ≡ codes "extract" → SelectsAll options.now false }
+    requires no_more { NamesNoMore name.now options.now }
     ensures job { IfOk result (IsJob name.now options.now) }
     ensures lengths { IfOk result (λ job. HasJobLengths job) }
     ensures failure { IfErr result (IsFailureOutcome (IsTaskFailure name.now options.now)) }
 {
     if name == "compare" {
-        return Ok(Job::Compare(compare_plan(options)?));
+        return Ok(Job::Compare(compare_plan(alloc, options)?));
     }
     if name == "explain" {
         return Ok(Job::Explain(explained_topic(options)?));

@@ -1,12 +1,11 @@
-//! What `explain` writes: what the causes of refusals and the kinds of concerns mean.
+//! What `explain` writes: what causes of refusals, kinds of concerns and other messages of the
+//! program mean.
 
-ghost use Rattle.std.specs.Prelude.{◌≡◌, ◌++◌, IfNone, IfOk, IfSome, OnOk, flat_map};
-ghost use Rattle.std.specs.Prelude.{string_bytes};
-ghost use Rattle.bootimg.specs.CommandLine.{NamesCause, NoneIs};
+ghost use Rattle.std.specs.Prelude.{◌≡◌, ◌++◌, IfOk, OnOk, string_bytes};
 ghost use Rattle.bootimg.specs.Explanations.{all_explanations, explain_text, explanation_of};
-ghost use Rattle.bootimg.specs.Explanations.{all_causes, all_kinds, line_of_cause};
-ghost use Rattle.bootimg.specs.Explanations.{line_of_kind, line_with_meaning, sentence_about};
+ghost use Rattle.bootimg.specs.Explanations.{line_of_topic, name_of_topic, sentence_about};
 
+use crate::messages::Message;
 use bi_base::Cause;
 use bi_commands::causes::sentence;
 use bi_commands::check::ConcernKind;
@@ -20,94 +19,90 @@ pub enum Topic {
     Cause(Cause),
     /// A kind of concerns.
     Kind(ConcernKind),
+    /// Another message.
+    Message(Message),
 }
 
-/// The causes, in the order of the manual page.
-const CAUSES: [Cause; 26] = [
-    Cause::Truncated,
-    Cause::BadMagic,
-    Cause::BadHeaderCrc,
-    Cause::BadDataCrc,
-    Cause::BadPartTable,
-    Cause::BadPart,
-    Cause::BadTotalSize,
-    Cause::BadVersion,
-    Cause::BadOffset,
-    Cause::BadToken,
-    Cause::BadName,
-    Cause::BadNameOffset,
-    Cause::PropertyAfterChild,
-    Cause::DuplicateProperty,
-    Cause::DuplicateNode,
-    Cause::TooDeep,
-    Cause::NoImages,
-    Cause::BadCell,
-    Cause::NoSize,
-    Cause::OutsideFile,
-    Cause::TooLarge,
-    Cause::NoCodeName,
-    Cause::TooManyParts,
-    Cause::EmptyPart,
-    Cause::BadField,
-    Cause::Unsupported,
+/// Every topic: first the causes and the kinds, in the order of the manual page.
+pub const TOPICS: [Topic; 48] = [
+    Topic::Cause(Cause::Truncated),
+    Topic::Cause(Cause::BadMagic),
+    Topic::Cause(Cause::BadHeaderCrc),
+    Topic::Cause(Cause::BadDataCrc),
+    Topic::Cause(Cause::BadPartTable),
+    Topic::Cause(Cause::BadPart),
+    Topic::Cause(Cause::BadTotalSize),
+    Topic::Cause(Cause::BadVersion),
+    Topic::Cause(Cause::BadOffset),
+    Topic::Cause(Cause::BadToken),
+    Topic::Cause(Cause::BadName),
+    Topic::Cause(Cause::BadNameOffset),
+    Topic::Cause(Cause::PropertyAfterChild),
+    Topic::Cause(Cause::DuplicateProperty),
+    Topic::Cause(Cause::DuplicateNode),
+    Topic::Cause(Cause::TooDeep),
+    Topic::Cause(Cause::NoImages),
+    Topic::Cause(Cause::BadCell),
+    Topic::Cause(Cause::NoSize),
+    Topic::Cause(Cause::OutsideFile),
+    Topic::Cause(Cause::TooLarge),
+    Topic::Cause(Cause::NoCodeName),
+    Topic::Cause(Cause::TooManyParts),
+    Topic::Cause(Cause::EmptyPart),
+    Topic::Cause(Cause::BadField),
+    Topic::Cause(Cause::Unsupported),
+    Topic::Kind(ConcernKind::BadHash),
+    Topic::Kind(ConcernKind::SkippedHash),
+    Topic::Kind(ConcernKind::Unhashed),
+    Topic::Kind(ConcernKind::WeakHash),
+    Topic::Kind(ConcernKind::BadList),
+    Topic::Kind(ConcernKind::Missing),
+    Topic::Kind(ConcernKind::Unsigned),
+    Topic::Kind(ConcernKind::NoNodes),
+    Topic::Kind(ConcernKind::NoImages),
+    Topic::Kind(ConcernKind::Uncovered),
+    Topic::Kind(ConcernKind::Foreign),
+    Topic::Kind(ConcernKind::Strings),
+    Topic::Kind(ConcernKind::UnitAddress),
+    Topic::Kind(ConcernKind::BadDefault),
+    Topic::Kind(ConcernKind::Trailing),
+    Topic::Message(Message::BadValue),
+    Topic::Message(Message::BadImage),
+    Topic::Message(Message::BadConfiguration),
+    Topic::Message(Message::CannotOpen),
+    Topic::Message(Message::ReadFailed),
+    Topic::Message(Message::WriteFailed),
+    Topic::Message(Message::OutOfMemory),
 ];
 
-/// The kinds of concerns, in the order of the manual page.
-const KINDS: [ConcernKind; 15] = [
-    ConcernKind::BadHash,
-    ConcernKind::SkippedHash,
-    ConcernKind::Unhashed,
-    ConcernKind::WeakHash,
-    ConcernKind::BadList,
-    ConcernKind::Missing,
-    ConcernKind::Unsigned,
-    ConcernKind::NoNodes,
-    ConcernKind::NoImages,
-    ConcernKind::Uncovered,
-    ConcernKind::Foreign,
-    ConcernKind::Strings,
-    ConcernKind::UnitAddress,
-    ConcernKind::BadDefault,
-    ConcernKind::Trailing,
-];
+/// The number of causes and kinds.
+const LISTED: usize = 41;
 
-/// Parses the name of a cause. Returns None exactly for any other text.
-pub fn parse_cause(argument: &str) -> Option<Cause>
-    ensures some { IfSome result (NamesCause argument.now) }
-    ensures none { IfNone result (NoneIs (NamesCause argument.now)) }
-{
-    match argument {
-        "Truncated" => Some(Cause::Truncated),
-        "BadMagic" => Some(Cause::BadMagic),
-        "BadHeaderCrc" => Some(Cause::BadHeaderCrc),
-        "BadDataCrc" => Some(Cause::BadDataCrc),
-        "BadPartTable" => Some(Cause::BadPartTable),
-        "BadPart" => Some(Cause::BadPart),
-        "BadTotalSize" => Some(Cause::BadTotalSize),
-        "BadVersion" => Some(Cause::BadVersion),
-        "BadOffset" => Some(Cause::BadOffset),
-        "BadToken" => Some(Cause::BadToken),
-        "BadName" => Some(Cause::BadName),
-        "BadNameOffset" => Some(Cause::BadNameOffset),
-        "PropertyAfterChild" => Some(Cause::PropertyAfterChild),
-        "DuplicateProperty" => Some(Cause::DuplicateProperty),
-        "DuplicateNode" => Some(Cause::DuplicateNode),
-        "TooDeep" => Some(Cause::TooDeep),
-        "NoImages" => Some(Cause::NoImages),
-        "BadCell" => Some(Cause::BadCell),
-        "NoSize" => Some(Cause::NoSize),
-        "OutsideFile" => Some(Cause::OutsideFile),
-        "TooLarge" => Some(Cause::TooLarge),
-        "NoCodeName" => Some(Cause::NoCodeName),
-        "TooManyParts" => Some(Cause::TooManyParts),
-        "EmptyPart" => Some(Cause::EmptyPart),
-        "BadField" => Some(Cause::BadField),
-        "Unsupported" => Some(Cause::Unsupported),
-        _ => None,
+impl Topic {
+    /// Returns its name: that of the cause, the word for the kind, or the words of the message.
+    pub fn name(self) -> &'static str
+        ensures { result.now ≡ name_of_topic self }
+    {
+        match self {
+            Topic::Cause(cause) => cause.name(),
+            Topic::Kind(kind) => kind.word(),
+            Topic::Message(message) => message.name(),
+        }
+    }
+
+    /// Returns what it means, and what a user can do.
+    fn sentence(self) -> &'static str
+        ensures { result.now ≡ sentence_about self }
+    {
+        match self {
+            Topic::Cause(cause) => sentence(cause),
+            Topic::Kind(kind) => concern_sentence(kind),
+            Topic::Message(message) => message.sentence(),
+        }
     }
 }
 
-/// Returns what `explain` writes: what this means, or what each cause and each kind means.
+/// Returns what `explain` writes: what this topic means, or what each cause and each kind means.
 pub fn explanation(alloc: Global, topic: Option<Topic>) -> Result<String, AllocError>
     ensures { IfOk result (λ text. string_bytes text ≡ explain_text topic) }
 {
@@ -127,58 +122,24 @@ fn explanation_of_one(alloc: Global, topic: Topic) -> Result<String, AllocError>
     Ok(text)
 }
 
-impl Topic {
-    /// Returns what this means, and what a user can do.
-    fn sentence(self) -> &'static str
-        ensures { result.now ≡ sentence_about self }
-    {
-        match self {
-            Topic::Cause(cause) => sentence(cause),
-            Topic::Kind(kind) => concern_sentence(kind),
-        }
-    }
-}
-
 /// Returns a line for each cause, and then for each kind: its name, and what it means.
 fn explanation_of_all(alloc: Global) -> Result<String, AllocError>
     ensures { IfOk result (λ text. string_bytes text ≡ all_explanations) }
 {
     let mut text = String::new(alloc);
-    put_causes(&mut text)?;
-    put_kinds(&mut text)?;
+    for topic in &TOPICS[..LISTED] {
+        put_line(&mut text, *topic)?;
+    }
     Ok(text)
 }
 
-/// Appends the line of each cause.
-fn put_causes(text: &mut String) -> Result<(), AllocError>
-    ensures { OnOk result (string_bytes text.new
-        ≡ string_bytes text.old ++ flat_map line_of_cause all_causes) }
+/// Appends the line of a topic.
+fn put_line(text: &mut String, topic: Topic) -> Result<(), AllocError>
+    ensures { OnOk result (string_bytes text.new ≡ string_bytes text.old ++ line_of_topic topic) }
 {
-    for cause in CAUSES {
-        put_line(text, cause.name(), sentence(cause))?;
-    }
-    Ok(())
-}
-
-/// Appends the line of each kind.
-fn put_kinds(text: &mut String) -> Result<(), AllocError>
-    ensures { OnOk result (string_bytes text.new
-        ≡ string_bytes text.old ++ flat_map line_of_kind all_kinds) }
-{
-    for kind in KINDS {
-        put_line(text, kind.word(), concern_sentence(kind))?;
-    }
-    Ok(())
-}
-
-/// Appends the line of what has this name and means this.
-fn put_line(text: &mut String, name: &str, meaning: &str) -> Result<(), AllocError>
-    ensures { OnOk result (string_bytes text.new
-        ≡ string_bytes text.old ++ line_with_meaning name.now meaning.now) }
-{
-    text.push_str(name)?;
+    text.push_str(topic.name())?;
     text.push_str(": ")?;
-    text.push_str(meaning)?;
+    text.push_str(topic.sentence())?;
     text.push_str("\n")?;
     Ok(())
 }

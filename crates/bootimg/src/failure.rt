@@ -80,7 +80,8 @@ impl<'a> Failure<'a> {
     /// Appends the text of the failure, which the program prints after `bootimg: ` and the name of
     /// the file, if the failure is about an image in a file.
     pub fn put_text<T: TracedWrite>(self, line: &mut ErrorLine<'_, T>)
-        ensures { Extends (line_of T.trace line.old) (text_of self.entry) (line_of T.trace line.new) }
+        ensures { Extends (line_of T.trace line.old) (text_of self.entry)
+            (line_of T.trace line.new) }
     {
         match self {
             Failure::Call(Error::Refused(fault)) => put_fault(fault, line),

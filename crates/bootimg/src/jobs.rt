@@ -1,7 +1,8 @@
 //! What the program does with the images that the arguments name.
 
-ghost use Rattle.std.specs.Prelude.{◌≡◌, Err, IfOk, IfErr, string_bytes};
+ghost use Rattle.std.specs.Prelude.{◌≡◌, [], Err, IfOk, IfErr, string_bytes};
 ghost use Rattle.bi_base.specs.declared.fault.Error.TheVariants.{OutOfMemory};
+ghost use Rattle.bi_describe.specs.MadeWords.{ignored_words};
 ghost use Rattle.bootimg.specs.CommandLine.{HasJobLengths};
 ghost use Rattle.bootimg.specs.ComparedFiles.{IsCompareOutput, IsCompareFailure};
 ghost use Rattle.bootimg.specs.ComparedFiles.{failure_of_comparing, refused_source};
@@ -9,7 +10,7 @@ ghost use Rattle.bootimg.specs.declared.command_line.source.ImageSource.TheVaria
 ghost use Rattle.bootimg.specs.declared.failure.Failure.TheVariants.{Call};
 ghost use Rattle.bootimg.specs.Runs.{IsComparedWork, IsCompareWork, IsFileNotRead, IsFileRead};
 ghost use Rattle.bootimg.specs.Runs.{IsExplainWork, IsImageNotRead, IsImageRead};
-ghost use Rattle.bootimg.specs.Runs.{IsImageWork, IsJobWork, IsNotRead};
+ghost use Rattle.bootimg.specs.Runs.{IsImageWork, IsJobWork, IsNotRead, IsPlanWork};
 ghost use Rattle.bootimg.specs.Runs.{source_failure};
 ghost use Rattle.bi_base.specs.Reading.{IsInputRead};
 ghost use Rattle.bi_base.specs.Traces.{ReadTrace};
@@ -18,11 +19,14 @@ use crate::builds::build_image;
 use crate::command_line::{ComparePlan, ImagePlan, ImageSource, Job};
 use crate::explanations::{Topic, explanation};
 use crate::failure::Failure;
-use crate::tasks::Done;
+use crate::tasks::{Done, PlacedTask};
 use bi_base::{
-    Cause, Error, Limits, TracedRead, TracedWrite, pipe, read_all_traced, write_and_flush,
+    Cause, Command, Error, Limits, TracedRead, TracedWrite, pipe, read_all_traced, write_and_flush,
 };
-use bi_commands::compare::{CompareError, Comparison, compare, compare_json, have_same_meaning};
+use bi_commands::compare::{
+    CompareError, Comparison, IgnoringOptions, compare, compare_ignoring, compare_json,
+    have_same_meaning,
+};
 use bi_commands::format::Format;
 use bi_files::FileSystem;
 use std::alloc::{AllocError, AllocFailed, Global};
@@ -82,7 +86,7 @@ pub fn do_job<'a, S: TracedRead, T: TracedWrite, F: FileSystem>(
 {
     match job {
         Job::Run(plan) => run_on_image(alloc, plan, limits, files, input, output),
-        Job::Compare(plan) => compare_images(alloc, *plan, limits, files, input, output),
+        Job::Compare(plan) => compare_images(alloc, plan, limits, files, input, output),
         Job::Build(plan) => build_image(alloc, plan, limits, files, input, output),
         Job::Explain(topic) => explain(alloc, *topic, output),
     }
@@ -97,7 +101,7 @@ fn run_on_image<'a, S: TracedRead, T: TracedWrite, F: FileSystem>(
     input: &mut S,
     output: &mut T,
 ) -> Result<Done, SourceFailure<'a>>
-    ensures work { IsImageWork (F.known files.old) plan.now limits
+    ensures work { IsPlanWork (F.known files.old) plan.now limits
         (record {
           input = S.trace input.old;
           new_input = S.trace input.new;
@@ -108,21 +112,58 @@ fn run_on_image<'a, S: TracedRead, T: TracedWrite, F: FileSystem>(
         (F.steps files.old) (F.steps files.new) }
     ensures same_files { F.known files.new ≡ F.known files.old }
 {
-    match plan.source {
-        ImageSource::Standard => match pipe(alloc, plan, input, output, limits) {
+    let task = PlacedTask {
+        task: &plan.task,
+        offset: plan.offset,
+    };
+    run_on_source(alloc, &task, plan.source, limits, files, input, output)
+}
+
+/// Runs a command on the image from this source, and returns how it ended. Requires: the command
+/// may be run.
+pub fn run_on_source<
+    'a,
+    C: Command<Value = Done, Failure = Failure<'a>>,
+    S: TracedRead,
+    T: TracedWrite,
+    F: FileSystem,
+>(
+    alloc: Global,
+    command: &C,
+    source: ImageSource<'a>,
+    limits: Limits,
+    files: &mut F,
+    input: &mut S,
+    output: &mut T,
+) -> Result<Done, SourceFailure<'a>>
+    requires can_run { C.can_run command.now }
+    ensures work { IsImageWork (F.known files.old) (C.promise command.now limits) source.entry
+        limits
+        (record {
+          input = S.trace input.old;
+          new_input = S.trace input.new;
+          output = T.trace output.old;
+          new_output = T.trace output.new;
+          outcome = result;
+        })
+        (F.steps files.old) (F.steps files.new) }
+    ensures same_files { F.known files.new ≡ F.known files.old }
+{
+    match source {
+        ImageSource::Standard => match pipe(alloc, command, input, output, limits) {
             Ok(done) => Ok(done),
-            Err(failure) => job_failed(plan.source, failure),
+            Err(failure) => job_failed(source, failure),
         },
         ImageSource::File(name) => match files.open(name) {
             Some(mut image) => {
-                let outcome = pipe(alloc, plan, &mut image, output, limits);
+                let outcome = pipe(alloc, command, &mut image, output, limits);
                 files.close_reader(name, image);
                 match outcome {
                     Ok(done) => Ok(done),
-                    Err(failure) => job_failed(plan.source, failure),
+                    Err(failure) => job_failed(source, failure),
                 }
             }
-            None => job_failed(plan.source, Failure::CannotOpen),
+            None => job_failed(source, Failure::CannotOpen),
         },
     }
 }
@@ -130,13 +171,13 @@ fn run_on_image<'a, S: TracedRead, T: TracedWrite, F: FileSystem>(
 /// Reads two images and compares them, and returns how that ended.
 fn compare_images<'a, S: TracedRead, T: TracedWrite, F: FileSystem>(
     alloc: Global,
-    plan: ComparePlan<'a>,
+    plan: &ComparePlan<'a>,
     limits: Limits,
     files: &mut F,
     input: &mut S,
     output: &mut T,
 ) -> Result<Done, SourceFailure<'a>>
-    ensures work { IsCompareWork (F.known files.old) plan.entry limits
+    ensures work { IsCompareWork (F.known files.old) plan.now limits
         (record {
           input = S.trace input.old;
           new_input = S.trace input.new;
@@ -235,13 +276,13 @@ fn read_input<S: TracedRead>(
 /// Compares two images, writes their differences, and returns how that ended.
 fn compare_files<'a, T: TracedWrite>(
     alloc: Global,
-    plan: ComparePlan<'a>,
+    plan: &ComparePlan<'a>,
     one: &[u8],
     other: &[u8],
     limits: Limits,
     output: &mut T,
 ) -> Result<Done, SourceFailure<'a>>
-    ensures { (old new : ReadTrace) → IsComparedWork plan.entry limits one.now other.now (record {
+    ensures { (old new : ReadTrace) → IsComparedWork plan.now limits one.now other.now (record {
       input = old;
       new_input = new;
       output = T.trace output.old;
@@ -258,19 +299,46 @@ fn compare_files<'a, T: TracedWrite>(
     }
 }
 
-/// Returns whether two images mean the same, and the differences that the plan gives: none if they
-/// are left out. Fails as `have_same_meaning` does then, and else as `compare` does.
+/// Returns whether two images mean the same without what the plan leaves out, and the differences
+/// that it gives: none if it is quiet. Fails as `compare_ignoring` does if something is left out,
+/// and else as `have_same_meaning` does if the plan is quiet, or as `compare` does.
 fn differences(
     alloc: Global,
-    plan: ComparePlan<'_>,
+    plan: &ComparePlan<'_>,
     one: &[u8],
     other: &[u8],
     limits: Limits,
 ) -> Result<Comparison, CompareError>
-    ensures compared { IfOk result (λ comparison. IsCompareOutput plan.entry.quiet
-        plan.entry.format limits one.now other.now comparison.same
+    ensures compared { IfOk result (λ comparison. IsCompareOutput
+        (ignored_words plan.now.ignored.items) plan.now.quiet plan.now.format limits one.now
+        other.now comparison.same (string_bytes comparison.differences)) }
+    ensures failed { IfErr result (IsCompareFailure (ignored_words plan.now.ignored.items)
+        plan.now.quiet limits one.now other.now) }
+{
+    if plan.ignored.is_empty() {
+        return differences_of_all(alloc, plan, one, other, limits);
+    }
+    let options = IgnoringOptions {
+        words: &plan.ignored,
+        quiet: plan.quiet,
+        format: plan.format,
+    };
+    compare_ignoring(alloc, one, other, limits, options)
+}
+
+/// Returns whether two images mean the same, and the differences that the plan gives if it leaves
+/// nothing out. Fails as `differences` does then.
+fn differences_of_all(
+    alloc: Global,
+    plan: &ComparePlan<'_>,
+    one: &[u8],
+    other: &[u8],
+    limits: Limits,
+) -> Result<Comparison, CompareError>
+    ensures compared { IfOk result (λ comparison. IsCompareOutput [] plan.now.quiet
+        plan.now.format limits one.now other.now comparison.same
         (string_bytes comparison.differences)) }
-    ensures failed { IfErr result (IsCompareFailure plan.entry.quiet limits one.now other.now) }
+    ensures failed { IfErr result (IsCompareFailure [] plan.now.quiet limits one.now other.now) }
 {
     if plan.quiet {
         return Ok(Comparison {
@@ -285,9 +353,9 @@ fn differences(
 }
 
 /// Returns why comparing failed.
-fn compare_failure<'a>(plan: ComparePlan<'a>, error: CompareError) -> SourceFailure<'a>
+fn compare_failure<'a>(plan: &ComparePlan<'a>, error: CompareError) -> SourceFailure<'a>
     ensures { result
-        ≡ source_failure (refused_source plan.entry error) (failure_of_comparing error) }
+        ≡ source_failure (refused_source plan.now error) (failure_of_comparing error) }
 {
     match error {
         CompareError::One(fault) => SourceFailure {

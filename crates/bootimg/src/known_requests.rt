@@ -2,11 +2,17 @@
 //! what some write. Each function does nothing: what it ensures is a fact about the definitions.
 //! One of them calls the function of a law, from which its facts follow.
 
+ghost use Rattle.std.specs.Global.{Vec};
+ghost use Rattle.bi_describe.specs.declared.ignored.Ignored.{Ignored};
 ghost use Rattle.bootimg.specs.KnownBuildRequests.{HashOptionsAreKnown, ConfigurationsAreKnown};
 ghost use Rattle.bootimg.specs.KnownBuildRequests.{NodeTextsAreKnown, FirstFailuresAreKnown};
+ghost use Rattle.bootimg.specs.KnownBuildRequests.{NamedTextsAreKnown, OwnTextOptionsAreKnown};
+ghost use Rattle.bootimg.specs.KnownBuildRequests.{TextsOfNamesAreKnown};
 ghost use Rattle.bootimg.specs.KnownOrders.{RequestsAreKnown, RejectionsAreKnown};
 ghost use Rattle.bootimg.specs.KnownInputs.{ComparedInputsAreKnown, ImagesAtAreKnown};
 ghost use Rattle.bootimg.specs.KnownInputs.{ComparedOutputsAreKnown, ExplanationsAreKnown};
+ghost use Rattle.bootimg.specs.KnownInputs.{MessagesAreKnown};
+ghost use Rattle.bootimg.specs.KnownRequests.{IgnoredOptionsAreKnown};
 
 /// Small values of `--hash`, and its absence, give known algorithms, or none.
 pub fn hash_options_are_known()
@@ -17,6 +23,14 @@ pub fn hash_options_are_known()
 /// index.
 pub fn configurations_are_known()
     ensures { ConfigurationsAreKnown }
+{}
+
+/// Small values of `--compatible`, `--describe-config` and `--describe-image` give known texts, or
+/// are bad, and each name has known texts of them.
+pub fn own_texts_are_known()
+    ensures words { NamedTextsAreKnown }
+    ensures options { OwnTextOptionsAreKnown }
+    ensures names { TextsOfNamesAreKnown }
 {}
 
 /// Small images of `build-fit` have known texts in their nodes, or none.
@@ -41,7 +55,12 @@ pub fn rejections_are_known()
 
 /// `compare` opens its first file before the second one, and no file over the limit is compared.
 pub fn compared_inputs_are_known()
-    ensures { ComparedInputsAreKnown }
+    ensures { (ignored : Vec Ignored) → ComparedInputsAreKnown ignored }
+{}
+
+/// Small values of `--ignore` give known words, or are bad.
+pub fn ignored_options_are_known()
+    ensures { IgnoredOptionsAreKnown }
 {}
 
 /// The outputs of `compare` for small files are known, and so are its errors.
@@ -59,4 +78,9 @@ pub fn images_at_are_known()
 /// Causes have known explanations.
 pub fn explanations_are_known()
     ensures { ExplanationsAreKnown }
+{}
+
+/// It is known what messages are about.
+pub fn messages_are_known()
+    ensures { MessagesAreKnown }
 {}

@@ -1,6 +1,8 @@
 //! Small command lines with what they give, and how runs end. Each function does nothing: what it
 //! ensures is a fact about the definitions.
 
+ghost use Rattle.std.specs.Global.{Vec};
+ghost use Rattle.bi_describe.specs.declared.ignored.Ignored.{Ignored};
 ghost use Rattle.bootimg.specs.KnownArguments.{DefaultsAreKnown, OptionsAreKnown};
 ghost use Rattle.bootimg.specs.KnownArguments.{MistakesAreKnown, NumbersAreKnown, CodesAreKnown};
 ghost use Rattle.bootimg.specs.KnownArguments.{LimitsAreKnown, InputsAreKnown, TextsAreKnown};
@@ -10,6 +12,7 @@ ghost use Rattle.bootimg.specs.KnownRequests.{PartWordsAreKnown};
 ghost use Rattle.bootimg.specs.KnownRequests.{AllowedWordsAreKnown, ChangesAreKnown};
 ghost use Rattle.bootimg.specs.KnownRequests.{AllRequestsAreKnown, SelectionsAreKnown};
 ghost use Rattle.bootimg.specs.KnownRequests.{GetPlansAreKnown, PlansAreKnown};
+ghost use Rattle.bootimg.specs.KnownImages.{ImageOutcomesAreKnown, NextImagesAreKnown};
 ghost use Rattle.bootimg.specs.KnownRuns.{StatusesAreKnown, FailureLinesAreKnown};
 ghost use Rattle.bootimg.specs.KnownRuns.{ExtractLinesAreKnown, CompareLinesAreKnown};
 ghost use Rattle.bootimg.specs.KnownRuns.{NotesAreKnown, ValueLinesAreKnown};
@@ -134,10 +137,21 @@ pub fn value_lines_are_known()
 
 /// The line of an error of comparing has the name of the file that is refused.
 pub fn compare_lines_are_known()
-    ensures { CompareLinesAreKnown }
+    ensures { (ignored : Vec Ignored) → CompareLinesAreKnown ignored }
 {}
 
 /// The notes on signature nodes, on an alignment and on fixed positions are known lines.
 pub fn notes_are_known()
     ensures { NotesAreKnown }
+{}
+
+/// One of several images has a known name, and its outcome a known status. No image follows after a
+/// failed write, or if memory ran out.
+pub fn image_outcomes_are_known()
+    ensures { ImageOutcomesAreKnown }
+{}
+
+/// It is known which of two images are done.
+pub fn next_images_are_known()
+    ensures { NextImagesAreKnown }
 {}

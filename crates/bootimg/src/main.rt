@@ -12,11 +12,13 @@ mod jobs;
 mod known_requests;
 mod known_runs;
 mod known_works;
+mod messages;
 mod no_input;
 mod numbers;
 mod reports;
 mod requests;
 mod run;
+mod several;
 mod tasks;
 
 use bi_files::SystemFiles;

@@ -85,7 +85,7 @@ fn do_job_in_memory<'a, S: TracedRead, F: FileSystem>(
 }
 
 /// Returns the failure, or that memory ran out if a write failed that was to memory.
-fn in_memory<'a>(failure: Failure<'a>) -> Failure<'a>
+pub fn in_memory<'a>(failure: Failure<'a>) -> Failure<'a>
     ensures { result ≡ failure_in_memory failure.entry }
 {
     match failure {

@@ -6,7 +6,8 @@ ghost use Rattle.bi_files.specs.Files.{FileStep, SavesNothing, no_files};
 ghost use Rattle.bootimg.specs.CommandLine.{texts_of};
 ghost use Rattle.bi_files.specs.Directories.{SavesNoDirectory};
 ghost use Rattle.bootimg.specs.LeftFiles.{LeavesKnownFiles};
-ghost use Rattle.bootimg.specs.Runs.{IsPlainRun, IsRun, IsTextRun, IsMistake};
+ghost use Rattle.bootimg.specs.Runs.{IsTextRun, IsMistake};
+ghost use Rattle.bootimg.specs.ProgramRuns.{IsPlainRun, IsRun};
 ghost use Rattle.clap.specs.declared.error.kind.ErrorKind.{ErrorKind};
 
 use crate::command_line::{ImageSource, NoRequest, Order, parse_arguments};
@@ -15,6 +16,7 @@ use crate::failure::Failure;
 use crate::jobs::do_job;
 use crate::reports::{FAILED, report_failure};
 use crate::requests::{conclude, do_job_to_file};
+use crate::several::do_images;
 use crate::tasks::SUCCESS;
 use bi_base::{
     Error, TracedRead, TracedReader, TracedWrite, TracedWriter, write_all, write_and_flush,
@@ -51,6 +53,10 @@ pub fn run<'a, R: Read, W: Write, E: Write>(
 /// instead: it is written to a new file beside it, which takes its name then. After a failure the
 /// output file is as it was. `extract --all` writes each payload to a file in a new directory
 /// beside the one that the arguments name, which takes its name then.
+///
+/// Of several images, each is read, and its text written with its name in each line, before the
+/// next. The exit status is the greatest. No image follows after a failed write, or if memory runs
+/// out. A named output file has the texts of all images, or is as it was if one of them failed.
 ///
 /// A failure is written to `errors`: one line, or clap's text if it rejects the arguments. The line
 /// has the name of the file, if the failure is about an image in a file or the output file. After
@@ -149,6 +155,7 @@ pub fn run_traced<'a, S: TracedRead, T: TracedWrite, E: TracedWrite, F: FileSyst
                 conclude(outcome, errors)
             }
         },
+        Ok(Order::DoEach(request)) => do_images(alloc, &request, files, input, output, errors),
         Ok(Order::ExtractAll(request)) => {
             conclude(extract_to_directory(alloc, &request, files, input), errors)
         }

@@ -4,16 +4,18 @@ ghost use Rattle.std.specs.Prelude.{◌≡◌, ◌≤◌, ⊤, IfErr, IfOk, OnOk
 ghost use Rattle.bi_base.specs.Commands.{AppendFailed, Appended, CommandFailed};
 ghost use Rattle.bi_report.specs.CheckedFiles.{IsCheckError};
 ghost use Rattle.bootimg.specs.Tasks.{EndedWith, IsShownAs, TaskDone, TaskFails, TaskText};
-ghost use Rattle.bootimg.specs.Tasks.{plan_laws, plan_promise, status_of};
+ghost use Rattle.bootimg.specs.SeveralImages.{format_of_task};
+ghost use Rattle.bootimg.specs.Tasks.{placed_laws, placed_promise, status_of};
 ghost use Rattle.bootimg.specs.declared.failure.Failure.TheVariants.{Call};
 
-use crate::command_line::{ImagePlan, ShowForm, Task};
+use crate::command_line::{ShowForm, Task};
 use crate::failure::Failure;
 use bi_base::{Command, Error, Limits, Sink};
 use bi_commands::at_offset::image_at;
 use bi_commands::check::{Checker, check_into};
 use bi_commands::describe::Describer;
 use bi_commands::extract::Extractor;
+use bi_commands::format::Format;
 use bi_commands::list::Lister;
 use bi_commands::scan::Scanner;
 use bi_commands::show::JsonPresenter;
@@ -60,6 +62,17 @@ impl Done {
 }
 
 impl<'a> Task<'a> {
+    /// Returns the form of what the task writes.
+    pub fn format(&self) -> Format
+        ensures { result ≡ format_of_task self.now }
+    {
+        match self {
+            Task::List(format) | Task::Describe(format) => *format,
+            Task::Verify(format) | Task::Check(_, format) | Task::Scan(format) => *format,
+            _ => Format::Lines,
+        }
+    }
+
     /// Appends what the task makes of an image to a sink, and returns how that ended. Requires: the
     /// image is not longer than the limit on files.
     ///
@@ -153,16 +166,24 @@ fn append_shown<S: Sink>(
     }
 }
 
-/// A task, on the image at its offset in the input. The limit is on the whole input. If the input
-/// ends before the offset, the image is empty.
-impl<'a> Command for ImagePlan<'a> {
+/// A task on the image at an offset of the input, as a command. The limit is on the whole input. If
+/// the input ends before the offset, the image is empty.
+#[derive(Clone, Copy)]
+pub struct PlacedTask<'a, 'b> {
+    /// The task.
+    pub task: &'b Task<'a>,
+    /// Where the image begins: an offset in bytes.
+    pub offset: u32,
+}
+
+impl<'a, 'b> Command for PlacedTask<'a, 'b> {
     type Value = Done;
 
     type Failure = Failure<'a>;
 
     ghost can_run = { λ _. ⊤ };
 
-    ghost promise = { λ plan. plan_promise plan };
+    ghost promise = { λ placed. placed_promise placed.offset placed.task.now };
 
     fn run<S: Sink>(
         &self,
@@ -177,5 +198,5 @@ impl<'a> Command for ImagePlan<'a> {
 
     ghost wraps_from = { λ _ _ _ _ same. same };
 
-    ghost laws = { λ plan. plan_laws plan };
+    ghost laws = { λ placed. placed_laws placed.offset placed.task.now };
 }

@@ -252,9 +252,19 @@ def value_of(text):
     return value
 
 
+def labelled(value, is_alone):
+    """What stands before each line of an image, and the value of the image. Of several images each has a name."""
+    if is_alone and not (type(value) is dict and "file" in value):
+        return "", value
+    file, result = members(value, "file", "result")
+    return f"{name(file)}: ", result
+
+
 def lines_of(command, text):
-    """The lines of a command that writes this JSON."""
-    return "".join(line + "\n" for line in COMMANDS[command](value_of(text))).encode()
+    """The lines of a command that writes this JSON: one value, or one in each line for several images."""
+    texts = text.splitlines(keepends=True) or [text]
+    labels = [labelled(value_of(each), len(texts) == 1) for each in texts]
+    return "".join(f"{label}{line}\n" for label, value in labels for line in COMMANDS[command](value)).encode()
 
 
 if __name__ == "__main__":

@@ -58,7 +58,7 @@ def demand(condition, what, text):
 
 
 def without_quotes(cell):
-    return re.sub(QUOTED, "", cell)
+    return re.sub(QUOTED, '""', cell)
 
 
 def split_row(line, starts):

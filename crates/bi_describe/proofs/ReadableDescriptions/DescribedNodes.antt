@@ -97,17 +97,17 @@ pub record HasImages (IsOwn : PropertyMap → Type 0) (nodes : Nodes PropertyMap
   pub apart : AllZip IsApart (each_own images) payloads
 
 -- The first of them has the image nodes as its children, or the image nodes are in the later ones.
-data ImagesIn (IsOwn : PropertyMap → Type 0) (name : List ℕ) (own : PropertyMap) (children later : Nodes PropertyMap)
+pub data ImagesIn (IsOwn : PropertyMap → Type 0) (name : List ℕ) (own : PropertyMap) (children later : Nodes PropertyMap)
     (payloads : List (Option (List ℕ))) : Type 0 where
   InFirst : bytes_eq name images_name ≡ true → AllZip IsApart (each_own children) payloads →
       AllByRecursion (λ name. name ≢ images_name) (names later) → ImagesIn IsOwn name own children later payloads
   InLater : bytes_eq name images_name ≡ false → HasImages IsOwn later payloads → ImagesIn IsOwn name own children later payloads
 
 -- They are in one of the two.
-images_in : (IsOwn : PropertyMap → Type 0) (name : List ℕ) (own : PropertyMap) (children later : Nodes PropertyMap)
+pub images_among : (IsOwn : PropertyMap → Type 0) (name : List ℕ) (own : PropertyMap) (children later : Nodes PropertyMap)
     (payloads : List (Option (List ℕ))) → HasImages IsOwn (node name own children later) payloads →
     ImagesIn IsOwn name own children later payloads
-images_in IsOwn name own children later payloads has = where_first (bytes_eq name images_name) refl
+images_among IsOwn name own children later payloads has = where_first (bytes_eq name images_name) refl
   where
     where_first : (b : Bool) → bytes_eq name images_name ≡ b → ImagesIn IsOwn name own children later payloads
     where_first true is =
@@ -126,8 +126,8 @@ same_described IsOwn none other payloads others has have same = let nothing : No
 same_described IsOwn (node name own children later) none payloads others has have same =
     let nothing : None ≡ Some have.images = have.has_images in absurd cc
 same_described IsOwn (node name own children later) (node other_name other_own other_children other_later) payloads others has have same =
-    where_images (images_in IsOwn name own children later payloads has)
-    (images_in IsOwn other_name other_own other_children other_later others have)
+    where_images (images_among IsOwn name own children later payloads has)
+    (images_among IsOwn other_name other_own other_children other_later others have)
     (λ first second. same_described IsOwn later other_later payloads others first second parts.rest)
   where
     parts : SameParts name other_name (plain_node own) (plain_node other_own) (described_children name children payloads)

@@ -10,14 +10,14 @@ use Rattle.bi_describe.proofs.ReadableDescriptions.ItemTrees.{SameParts}
 -- Flattened image trees whose descriptions have the same parts are similar.
 
 -- What a file means has image nodes with its payloads.
-images_of : (tree : ImageTree) → IsImageTree tree → HasImages ArePropertiesByName tree.root.children tree.payloads
-images_of tree is = record { are_nodes = is.is_tree.children; images = is.images; has_images = is.has_images; apart = is.apart }
+pub images_of_image_tree : (tree : ImageTree) → IsImageTree tree → HasImages ArePropertiesByName tree.root.children tree.payloads
+images_of_image_tree tree is = record { are_nodes = is.is_tree.children; images = is.images; has_images = is.has_images; apart = is.apart }
 
 pub similar_parts : (file other_file : List ℕ) (one other : ImageTree) → IsFitFile file one → IsFitFile other_file other →
     SameParts one other → AreSimilarTrees one other
 similar_parts file other_file one other is also same =
     let content = same_described ArePropertiesByName one.root.children other.root.children one.payloads other.payloads
-    (images_of one (file_means_image_tree file one is)) (images_of other (file_means_image_tree other_file other also)) same.nodes in
+    (images_of_image_tree one (file_means_image_tree file one is)) (images_of_image_tree other (file_means_image_tree other_file other also)) same.nodes in
     record {
       cpu = same.cpu;
       reservations = same.reservations;

@@ -11,6 +11,7 @@ ghost use Rattle.bi_describe.specs.MadeLines.{compared_line, compared_lines};
 use super::line_keeper::{LineKeeper, Mark};
 use super::signed_lines::ComparedLine;
 use crate::describe::DescribedImage;
+use crate::describe::kept::KeptImage;
 use std::alloc::{AllocError, Global};
 
 /// The lines of a description.
@@ -25,7 +26,9 @@ pub(super) struct KeptLines {
 }
 
 impl KeptLines {
+    ghost use Rattle.bi_describe.specs.KeptImages.{IsKeptImage, IsKeptAscii};
     ghost use Rattle.bi_describe.specs.KeptLines.{KeepsLines};
+    ghost use Rattle.bi_describe.specs.ReducedMeanings.{ReducedMeaning, reduced_lines};
 
     /// Returns the lines of a description. Requires: they are ASCII.
     ///
@@ -39,6 +42,24 @@ impl KeptLines {
     {
         let mut keeper = LineKeeper::new(alloc);
         described.put_lines(&mut keeper);
+        let (text, marks) = keeper.into_parts()?;
+        match String::from_utf8(text) {
+            Ok(text) => Ok(KeptLines { text, marks }),
+            Err(_) => unreachable!(),
+        }
+    }
+
+    /// Returns the lines of what stays of an image. Requires: they are ASCII, and they are those of
+    /// what stays.
+    ///
+    /// Fails only if memory runs out.
+    pub(super) fn of_kept(alloc: Global, image: &KeptImage) -> Result<KeptLines, AllocError>
+        requires { IsKeptAscii image.now }
+        ensures { IfOk result (λ lines. (meaning : ReducedMeaning) → IsKeptImage meaning image.now
+            → KeepsLines (reduced_lines meaning) lines) }
+    {
+        let mut keeper = LineKeeper::new(alloc);
+        image.put_lines(alloc, &mut keeper)?;
         let (text, marks) = keeper.into_parts()?;
         match String::from_utf8(text) {
             Ok(text) => Ok(KeptLines { text, marks }),

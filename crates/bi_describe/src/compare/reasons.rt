@@ -1,12 +1,10 @@
 //! Why two meanings differ.
 
-ghost use Rattle.std.specs.Prelude.{◌≡◌, IfOk};
-ghost use Rattle.std.specs.Prelude.{string_bytes};
-ghost use Rattle.bi_norm.specs.Meaning.{Meaning};
+ghost use Rattle.std.specs.Prelude.{◌≡◌, IfOk, List};
+ghost use Rattle.bi_common.specs.Lines.{Line};
 ghost use Rattle.bi_describe.specs.Comparing.{differences_or_reason as differences_or_reason_of};
 ghost use Rattle.bi_describe.specs.Comparing.{kinds_differ as lines_for_kinds, lines_or};
 ghost use Rattle.bi_describe.specs.Comparing.{reason as reason_of};
-ghost use Rattle.bi_describe.specs.Descriptions.{description_lines};
 ghost use Rattle.bi_describe.specs.KeptLines.{KeepsLines};
 ghost use Rattle.bi_describe.specs.MadeLines.{made_line, made_lines};
 
@@ -23,10 +21,9 @@ pub(super) fn differences_or_reason<'a>(
     one: &'a KeptLines,
     other: &'a KeptLines,
 ) -> Result<Vec<SignedLine<'a>>, AllocError>
-    ensures { IfOk result (λ lines. (meaning other_meaning : Meaning)
-        → KeepsLines (description_lines meaning) one.entry.now
-        → KeepsLines (description_lines other_meaning) other.entry.now
-        → made_lines lines.items ≡ differences_or_reason_of meaning other_meaning) }
+    ensures { IfOk result (λ found. (lines other_lines : List Line)
+        → KeepsLines lines one.entry.now → KeepsLines other_lines other.entry.now
+        → made_lines found.items ≡ differences_or_reason_of lines other_lines) }
 {
     let lines = one.lines(alloc)?;
     let other_lines = other.lines(alloc)?;

@@ -6,7 +6,7 @@ ghost use Rattle.bi_hash.specs.Digests.{digest_of as digest_by, padded_digest};
 ghost use Rattle.bi_fit.specs.Content.{image_model, tree_of, IsAtItsPlace};
 ghost use Rattle.bi_describe.specs.Descriptions.{digest_of_payload};
 ghost use Rattle.bi_describe.specs.ImagePayloads.{bytes_of_payload, bytes_of_payloads};
-ghost use Rattle.bi_describe.specs.TreeEntries.{digest_made};
+ghost use Rattle.bi_describe.specs.MadeDigests.{digest_made};
 
 use super::entries::PayloadDigest;
 use super::image_payload::ImagePayload;

@@ -1,19 +1,21 @@
 //! What the lines of a flattened image tree's nodes are made from.
 
+use super::image_payload::ImagePayload;
+
 /// A payload, or a part of a legacy image, by its size and its SHA-256.
 #[derive(Clone, Copy)]
-pub(super) struct PayloadDigest {
-    pub(super) size: usize,
-    pub(super) sha256: [u8; 32],
+pub(crate) struct PayloadDigest {
+    pub(crate) size: usize,
+    pub(crate) sha256: [u8; 32],
 }
 
 /// What the tree has, in the order of the lines. The root neither begins nor ends.
 #[derive(Clone, Copy)]
-pub(super) enum Entry<'a> {
+pub(crate) enum Entry<'a> {
     /// A node of this name begins.
     Begin(&'a [u8]),
     /// The payload of the innermost open node, an image node, if it has one.
-    Payload(Option<PayloadDigest>),
+    Payload(ImagePayload<'a>),
     /// The properties of the innermost open node begin.
     Properties,
     /// A property of the innermost open node.

@@ -30,14 +30,16 @@ use std::alloc::Global;
 /// What the description of a flattened image tree is made from.
 #[derive(Drop)]
 pub(crate) struct DescribedFit<'a, 'b> {
-    blob: &'b Blob<'a>,
-    entries: Vec<Entry<'a>>,
+    pub(crate) blob: &'b Blob<'a>,
+    pub(crate) entries: Vec<Entry<'a>>,
     /// Room for the names of all nodes that are open at once.
     names: Vec<&'a [u8]>,
     ghost room: { most_open 0 (map as_entry entries.items) ≤ length names.items },
 }
 
 impl<'a, 'b> DescribedFit<'a, 'b> {
+    ghost use Rattle.bi_describe.specs.DescribedImages.{HoldsDescribedTree};
+
     /// Returns what the description of a flattened image tree is made from. Requires: the tree was
     /// read.
     ///
@@ -50,6 +52,7 @@ impl<'a, 'b> DescribedFit<'a, 'b> {
     ) -> Result<DescribedFit<'a, 'b>, Error>
         requires held { IsHeld fit.now }
         ensures within { OnOk result (¬ (IsOverPayloadBound limits (OfFit (tree_of fit.now)))) }
+        ensures holds { IfOk result (HoldsDescribedTree (tree_of fit.entry.now)) }
         ensures lines { IfOk result (λ described.
             read_lines described.blob.now (map as_entry described.entries.items)
             ≡ fit_lines (tree_of fit.entry.now)) }
@@ -92,7 +95,7 @@ impl<'a, 'b> DescribedFit<'a, 'b> {
 }
 
 /// Puts the line of the kind, and that of the boot processor.
-fn put_head<L: LinePen>(boot_cpu: u32, pen: &mut L)
+pub(super) fn put_head<L: LinePen>(boot_cpu: u32, pen: &mut L)
     ensures { L.puts pen.old (tokens_of_lines (head_lines boot_cpu)) pen.new }
 {
     put_lines(

@@ -132,7 +132,7 @@ fn add_image<'a>(
         ++ image_entries (node_of node.entry) (bytes_of_payload payload.now)) }
 {
     entries.push(Entry::Begin(node.name()))?;
-    entries.push(Entry::Payload(payload.digest))?;
+    entries.push(Entry::Payload(*payload))?;
     add_image_properties(entries, node, order)?;
     add_children(entries, node, order)?;
     entries.push(Entry::End)?;

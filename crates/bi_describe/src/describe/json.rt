@@ -10,11 +10,14 @@ ghost use Rattle.bi_describe.specs.ReadDescription.{processor_members, read_toke
 ghost use Rattle.bi_describe.specs.DescriptionJson.{digest_object, payload_or_null};
 ghost use Rattle.bi_describe.specs.DescriptionJson.{property_object, value_member};
 ghost use Rattle.bi_describe.specs.EntryTokens.{entry_tokens, root_tokens};
-ghost use Rattle.bi_describe.specs.TreeEntries.{as_entry, digest_made};
+ghost use Rattle.bi_describe.specs.ImagePayloads.{bytes_of_payload};
+ghost use Rattle.bi_describe.specs.MadeDigests.{digest_made};
+ghost use Rattle.bi_describe.specs.TreeEntries.{as_entry};
 ghost use Rattle.bi_describe.specs.TreeEntries.{NodeBegins, NodeEnds, PayloadEntry};
 ghost use Rattle.bi_describe.specs.TreeEntries.{PropertiesBegin, PropertyEntry, ChildrenBegin};
 
 use super::entries::{Entry, PayloadDigest};
+use super::image_payload::ImagePayload;
 use bi_common::common_lines::put_reservations;
 use bi_common::fields::{Field, are_quotable_texts};
 use bi_common::json_writer::{
@@ -81,7 +84,7 @@ fn put_entry<J: JsonPen>(entry: Entry, json: &mut J)
 {
     match entry {
         Entry::Begin(name) => put_begin(name, json),
-        Entry::Payload(digest) => put_payload(digest, json),
+        Entry::Payload(payload) => put_payload(payload, json),
         Entry::Properties => put_properties_begin(json),
         Entry::Property { name, value } => put_property(name, value, json),
         Entry::Children => put_children_begin(json),
@@ -98,12 +101,12 @@ fn put_begin<J: JsonPen>(name: &[u8], json: &mut J)
 }
 
 /// Puts the member of the payload of an image node, if it has one.
-fn put_payload<J: JsonPen>(digest: Option<PayloadDigest>, json: &mut J)
-    ensures { J.puts json.old (entry_tokens (PayloadEntry (option_map digest_made digest)))
+fn put_payload<J: JsonPen>(payload: ImagePayload, json: &mut J)
+    ensures { J.puts json.old (entry_tokens (PayloadEntry (bytes_of_payload payload.entry)))
         json.new }
 {
     json.put(JsonToken::Name("payload"));
-    put_payload_value(digest, json);
+    put_payload_value(payload.digest, json);
 }
 
 /// Puts the size and the SHA-256 of a payload, or `null` if there is none.

@@ -1,17 +1,21 @@
 //! The lines of a tree, put to a pen.
 
 ghost use Rattle.std.specs.Prelude.{◌≡◌, ◌≤◌, ◌<◌, ◌+◌, ◌^◌, [], length, map, max, take};
-ghost use Rattle.std.specs.Option.{option_map};
 ghost use Rattle.bi_common.specs.LineTokens.{line_tokens, tokens_of_lines};
 ghost use Rattle.bi_common.specs.MadeFields.{bytes_of_names};
 ghost use Rattle.bi_describe.specs.ReadDescription.{root_lines};
+ghost use Rattle.std.specs.Option.{option_map};
+ghost use Rattle.bi_describe.specs.ComparedNodes.{ImageWith, described_payload};
 ghost use Rattle.bi_describe.specs.Descriptions.{OfImage, node_line, payload_lines, property_line};
-ghost use Rattle.bi_describe.specs.TreeEntries.{digest_made, entry_lines, lines_of_entry, as_entry};
+ghost use Rattle.bi_describe.specs.ImagePayloads.{bytes_of_payload};
+ghost use Rattle.bi_describe.specs.MadeDigests.{digest_made};
+ghost use Rattle.bi_describe.specs.TreeEntries.{entry_lines, lines_of_entry, as_entry};
 ghost use Rattle.bi_describe.specs.TreeEntries.{count_after as count_after_of};
 ghost use Rattle.bi_describe.specs.TreeEntries.{most_open as most_open_of};
 ghost use Rattle.bi_describe.specs.TreeEntries.{open_after as open_after_of};
 
 use super::entries::{Entry, PayloadDigest};
+use super::image_payload::ImagePayload;
 use bi_common::fields::Field;
 use bi_common::lines::{LinePen, put_line};
 
@@ -76,7 +80,7 @@ fn put_entries<'a, L: LinePen>(entries: &[Entry<'a>], names: &mut [&'a [u8]], pe
 
 /// Returns how many nodes are open after an entry, if `count` are open before it. Their names are
 /// the first of `names`, before the call and after it. Requires: `names` has room for all of them.
-fn open_after<'a>(entry: Entry<'a>, names: &mut [&'a [u8]], count: usize) -> usize
+pub(super) fn open_after<'a>(entry: Entry<'a>, names: &mut [&'a [u8]], count: usize) -> usize
     requires fits { count ≤ length names.old }
     requires room { count_after_of count (as_entry entry) ≤ length names.old }
     ensures names { bytes_of_names (take result names.new)
@@ -101,7 +105,7 @@ fn put_entry<'a, L: LinePen>(entry: Entry<'a>, names: &[&'a [u8]], pen: &mut L)
 {
     match entry {
         Entry::Begin(_) => put_node(names, pen),
-        Entry::Payload(digest) => put_payload(names, digest, pen),
+        Entry::Payload(payload) => put_payload(names, payload, pen),
         Entry::Property { name, value } => put_property(names, name, value, pen),
         _ => {}
     }
@@ -131,7 +135,15 @@ fn put_property<'a, L: LinePen>(names: &[&'a [u8]], name: &'a [u8], value: &'a [
 }
 
 /// Puts the line of a payload.
-fn put_payload<L: LinePen>(names: &[&[u8]], digest: Option<PayloadDigest>, pen: &mut L)
+fn put_payload<L: LinePen>(names: &[&[u8]], payload: ImagePayload, pen: &mut L)
+    ensures { L.puts pen.old (tokens_of_lines (payload_lines (bytes_of_names names.now)
+        (described_payload (ImageWith (bytes_of_payload payload.entry))))) pen.new }
+{
+    put_digest(names, payload.digest, pen);
+}
+
+/// Puts the line of a payload of this size and SHA-256.
+fn put_digest<L: LinePen>(names: &[&[u8]], digest: Option<PayloadDigest>, pen: &mut L)
     ensures { L.puts pen.old (tokens_of_lines
         (payload_lines (bytes_of_names names.now) (OfImage (option_map digest_made digest))))
         pen.new }

@@ -44,6 +44,8 @@ impl<'a> TypeLists<'a> {
     {
         ConfigurationSpec {
             name: b"conf-1",
+            description: None,
+            compatible: &[],
             kernel: &self.kernel,
             fdt: &self.fdt,
             ramdisk: &self.ramdisk,

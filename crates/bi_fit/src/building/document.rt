@@ -19,7 +19,7 @@ ghost use Rattle.bi_fit.specs.BuiltNames.{built_names as built_names_of};
 
 use crate::building::configurations::configuration_leaves;
 use crate::building::hash_nodes::hash_leaves;
-use crate::building::lists::KeyLists;
+use crate::building::lists::ListValues;
 use crate::building::names::built_names;
 use crate::building::properties::{default_properties, image_properties, root_properties};
 use crate::building::{Head, NamedImage, Plan};
@@ -43,8 +43,8 @@ pub(super) struct BuiltParts<'a> {
     pub(super) digests: &'a [Vec<u8>],
     /// The names of the hash nodes of an image.
     pub(super) hash_names: &'a [String],
-    /// What each configuration lists.
-    pub(super) lists: &'a [KeyLists],
+    /// The values of each configuration that list texts.
+    pub(super) lists: &'a [ListValues],
 }
 
 /// Returns the document of a tree to be built in a form, however long its text is. The document

@@ -13,10 +13,11 @@ use std::alloc::{AllocError, Global};
 pub(super) fn built_names<'a>(alloc: Global) -> Result<PropertyNames<'a>, AllocError>
     ensures { IfOk result (λ names. names ≡ built_names_of) }
 {
-    let names: [&'a [u8]; 22] = [
+    let names: [&'a [u8]; 23] = [
         b"#address-cells",
         b"algo",
         b"arch",
+        b"compatible",
         b"compression",
         b"data",
         b"data-offset",
@@ -38,12 +39,12 @@ pub(super) fn built_names<'a>(alloc: Global) -> Result<PropertyNames<'a>, AllocE
         b"value",
     ];
     let ranks = ChangedNumbers {
-        payload: 4,
-        offset: 5,
-        position: 6,
-        size: 7,
-        time: 19,
-        digest: 21,
+        payload: 5,
+        offset: 6,
+        position: 7,
+        size: 8,
+        time: 20,
+        digest: 22,
     };
     Ok(PropertyNames::new(Vec::from_array(alloc, names)?, ranks))
 }

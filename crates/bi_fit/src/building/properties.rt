@@ -1,25 +1,25 @@
 //! The properties of the nodes of a tree to be built.
 
-ghost use Rattle.std.specs.Prelude.{◌≡◌, IsTrue, ◌++◌, ◌∷◌, [], ℕ, List, OnOk, IfOk};
+ghost use Rattle.std.specs.Prelude.{◌≡◌, IsTrue, ◌++◌, ◌∷◌, [], ℕ, List, OnOk, IfOk, codes};
+ghost use Rattle.std.specs.Option.{option_map};
 ghost use Rattle.std.specs.FinMap.{from_entries};
 ghost use Rattle.bi_blob.specs.Layout.{is_among, strings_of};
 ghost use Rattle.bi_blob.specs.Tree.{Property};
-ghost use Rattle.bi_fit.specs.Building.{ConfigurationSpecModel, list_property};
+ghost use Rattle.bi_fit.specs.Building.{description_of, list_property};
 ghost use Rattle.bi_fit.specs.Building.{built_root_properties, built_image_properties};
 ghost use Rattle.bi_fit.specs.Building.{built_configuration_properties, built_hash_properties};
 ghost use Rattle.bi_fit.specs.Building.{text_value};
 ghost use Rattle.bi_fit.specs.Names.{default_name};
-ghost use Rattle.bi_fit.specs.BuiltNodes.{AreKeyLists, with_cell_property};
-ghost use Rattle.bi_fit.specs.NamedImages.{head_model, named_model};
+ghost use Rattle.bi_fit.specs.BuiltNodes.{AreListValues, with_cell_property};
+ghost use Rattle.bi_fit.specs.NamedImages.{head_model, named_model, configuration_spec_model};
 ghost use Rattle.bi_fit.specs.PropertyMapModels.{among, with_property_value};
 ghost use Rattle.bi_lay.specs.Values.{value_bytes};
 ghost use Rattle.bi_fit.specs.BuiltNames.{built_names};
 
-use crate::building::lists::KeyLists;
+use crate::building::lists::ListValues;
 use crate::building::names::index_of;
-use crate::building::{Head, NamedImage};
+use crate::building::{ConfigurationSpec, Head, NamedImage};
 use crate::document::PropertyMap;
-use crate::key::Key;
 use crate::property_names::PropertyNames;
 use bi_hash::Algo;
 use bi_lay::Value;
@@ -64,11 +64,7 @@ pub(super) fn image_properties<'a, 'b>(
     insert_cell(&mut properties, b"load", image.load)?;
     insert(&mut properties, b"type", Value::Text(image.image_type))?;
     insert(&mut properties, b"os", Value::Text(image.os))?;
-    insert(
-        &mut properties,
-        b"description",
-        Value::Text(head.description),
-    )?;
+    insert_description(&mut properties, head, image.description)?;
     insert(
         &mut properties,
         b"compression",
@@ -94,32 +90,31 @@ pub(super) fn default_properties<'a, 'b>(
     Ok(properties)
 }
 
-/// Returns the properties of a configuration with these lists. Requires: the names are those of a
-/// built tree.
+/// Returns the properties of a configuration. Requires: the names are those of a built tree, and
+/// the lists are those of the configuration.
 pub(super) fn configuration_properties<'a, 'b>(
     alloc: Global,
     names: &'b PropertyNames<'a>,
     head: Head<'a>,
-    lists: &'a KeyLists,
+    configuration: &ConfigurationSpec<'a>,
+    lists: &'a ListValues,
 ) -> Result<PropertyMap<'a, 'b>, AllocError>
-    requires { names.now ≡ built_names }
-    ensures { (configuration : ConfigurationSpecModel) → AreKeyLists configuration lists.entry.now →
+    requires names { names.now ≡ built_names }
+    requires lists { AreListValues (configuration_spec_model configuration.now) lists.now }
+    ensures { let model = configuration_spec_model configuration.entry.now in
         IfOk result (λ properties. properties
         ≡ among built_names (from_entries
-        (built_configuration_properties (head_model head.entry) configuration))) }
+        (built_configuration_properties (head_model head.entry) model))) }
 {
     let mut properties = PropertyMap::new(alloc, names);
-    insert_list(&mut properties, Key::Script, &lists.script)?;
-    insert_list(&mut properties, Key::Loadables, &lists.loadables)?;
-    insert_list(&mut properties, Key::Firmware, &lists.firmware)?;
-    insert_list(&mut properties, Key::Ramdisk, &lists.ramdisk)?;
-    insert_list(&mut properties, Key::Fdt, &lists.fdt)?;
-    insert_list(&mut properties, Key::Kernel, &lists.kernel)?;
-    insert(
-        &mut properties,
-        b"description",
-        Value::Text(head.description),
-    )?;
+    insert_list(&mut properties, b"script", &lists.script)?;
+    insert_list(&mut properties, b"loadables", &lists.loadables)?;
+    insert_list(&mut properties, b"firmware", &lists.firmware)?;
+    insert_list(&mut properties, b"ramdisk", &lists.ramdisk)?;
+    insert_list(&mut properties, b"fdt", &lists.fdt)?;
+    insert_list(&mut properties, b"kernel", &lists.kernel)?;
+    insert_list(&mut properties, b"compatible", &lists.compatible)?;
+    insert_description(&mut properties, head, configuration.description)?;
     Ok(properties)
 }
 
@@ -179,23 +174,41 @@ fn insert_cell<'a>(
     }
 }
 
-/// Adds the property of a key that lists names, if it lists at least one. Requires: the names of
-/// the properties are those of a built tree.
-fn insert_list<'a>(
+/// Adds the description of an image or a configuration: its own, or else that of the tree.
+/// Requires: the names of the properties are those of a built tree.
+fn insert_description<'a>(
     properties: &mut PropertyMap<'a, '_>,
-    key: Key,
-    list: &'a [u8],
+    head: Head<'a>,
+    own: Option<&'a [u8]>,
 ) -> Result<(), AllocError>
     requires { properties.old.names ≡ built_names }
+    ensures { let text = description_of (head_model head.entry)
+        (option_map (λ text. text.now) own.entry) in
+        OnOk result (properties.new
+        ≡ with_property_value (codes "description") (text_value text) properties.old) }
+{
+    let text = own.unwrap_or(head.description);
+    insert(properties, b"description", Value::Text(text))
+}
+
+/// Adds the property with the given name that lists texts, if it lists at least one. Requires: the
+/// names of the properties are those of a built tree, and the given name is one of them.
+fn insert_list<'a>(
+    properties: &mut PropertyMap<'a, '_>,
+    name: &[u8],
+    list: &'a [u8],
+) -> Result<(), AllocError>
+    requires names { properties.old.names ≡ built_names }
+    requires known { IsTrue (is_among name.now built_names) }
     ensures same_names { OnOk result (properties.new.names ≡ properties.old.names) }
-    ensures inserted { (names : List (List ℕ)) (rest : List Property)
-        → list.entry.now ≡ strings_of names
+    ensures inserted { (texts : List (List ℕ)) (rest : List Property)
+        → list.entry.now ≡ strings_of texts
         → properties.old ≡ among built_names (from_entries rest) →
-        OnOk result
-        (properties.new ≡ among built_names (from_entries (list_property key names ++ rest))) }
+        OnOk result (properties.new
+        ≡ among built_names (from_entries (list_property name.entry.now texts ++ rest))) }
 {
     if list.is_empty() {
         return Ok(());
     }
-    insert(properties, key.name().as_bytes(), Value::Slice(list))
+    insert(properties, name, Value::Slice(list))
 }

@@ -61,6 +61,7 @@ fn first_image<'a>(fields: Fields<'a>, names: CodeNames, key: Key, part: &'a [u8
     let has_addresses = has_addresses(key);
     NamedImage {
         name: image_name(key),
+        description: None,
         image_type: key.type_name().as_bytes(),
         arch: names.arch.as_bytes(),
         os: names.os.as_bytes(),
@@ -79,6 +80,7 @@ fn later_image<'a>(names: CodeNames, key: Key, part: &'a [u8]) -> NamedImage<'a>
 {
     NamedImage {
         name: image_name(key),
+        description: None,
         image_type: key.type_name().as_bytes(),
         arch: names.arch.as_bytes(),
         os: names.os.as_bytes(),

@@ -12,6 +12,7 @@ ghost use Rattle.bi_norm.specs.FitBuilding.{BuildPasses, early_checks, IsBuildEr
 
 use crate::fit_building::configurations::{check_configurations, check_default};
 use crate::fit_building::images::check_images;
+use crate::fit_building::texts::{check_configuration_texts, check_image_texts};
 use crate::fit_building::{ImageSpec, PlanSpec};
 use bi_base::{Cause, Error, Fault, Limits, refuse};
 use bi_fit::{Head, NamedImage, few_algorithms};
@@ -48,9 +49,11 @@ pub(super) fn check<'a>(
         return refuse(Cause::TooLarge, limits.file()).map_err(Error::from);
     }
     check_description(head.description)?;
-    let checked = check_images(alloc, images, plan.texts)?;
+    let checked = check_images(alloc, images, plan.texts, plan.descriptions)?;
     check_configurations(alloc, plan.configurations, &checked.names)?;
     check_default(plan.configurations, plan.default)?;
+    check_image_texts(&checked.named)?;
+    check_configuration_texts(plan.configurations)?;
     few_algorithms(plan.algorithms);
     Ok(checked.named)
 }

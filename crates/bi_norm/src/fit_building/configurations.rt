@@ -8,10 +8,11 @@ ghost use Rattle.bi_base.specs.declared.fault.Cause.TheVariants.{BadField};
 ghost use Rattle.bi_base.specs.Errors.{IsFaultOrNoMemory};
 ghost use Rattle.bi_blob.specs.NameSets.{HoldsNames};
 ghost use Rattle.bi_blob.specs.Tree.{AreDistinct};
-ghost use Rattle.bi_fit.specs.Building.{IsConfigurationSpec, configuration_names};
+ghost use Rattle.bi_fit.specs.Building.{configuration_names};
 ghost use Rattle.bi_fit.specs.NamedImages.{configuration_spec_model, configuration_spec_models};
 ghost use Rattle.bi_norm.specs.FitBuilding.{configuration_checks, HasKnownDefault, ListsOnly};
 ghost use Rattle.bi_norm.specs.BuildChecks.{AllPass, IsFirstFailure, holds_name};
+ghost use Rattle.bi_norm.specs.BuildChecks.{IsPlainConfiguration};
 
 use bi_base::{Cause, Error, Fault, are_bytes, refuse};
 use bi_blob::is_child_name;
@@ -19,7 +20,8 @@ use bi_fit::ConfigurationSpec;
 use std::alloc::Global;
 use std::collections::BTreeSet;
 
-/// Makes the checks of each configuration in turn. `image_names` are the names of the images.
+/// Makes the checks of each configuration in turn, except those of its texts. `image_names` are the
+/// names of the images.
 /// Requires: there are fewer than 2^32 configurations.
 ///
 /// Errors, at the index of the configuration: BadField, if a node may not have its name or it lists
@@ -36,7 +38,7 @@ pub(super) fn check_configurations(
         AllPass (configuration_checks held 0 [] models)) }
     ensures can { let models = configuration_spec_models configurations.now in
         OnOk result ((held : List (List ℕ)) → HoldsNames image_names.now held →
-        AllByRecursion (IsConfigurationSpec held) models) }
+        AllByRecursion (IsPlainConfiguration held) models) }
     ensures distinct { let models = configuration_spec_models configurations.now in
         OnOk result (AreDistinct (configuration_names models)) }
     ensures failed { let models = configuration_spec_models configurations.now in

@@ -1,20 +1,20 @@
 //! The checks of images to be built.
 
-ghost use Rattle.std.specs.Prelude.{◌≡◌, ◌^◌, ◌<◌, ◌↔◌, [], Option, length, map, unwrap_or};
+ghost use Rattle.std.specs.Prelude.{◌≡◌, ◌^◌, ◌<◌, ◌↔◌, [], Option, None, length, map, unwrap_or};
 ghost use Rattle.std.specs.Prelude.{slice_get, OnOk, IfOk, IfErr, IsTrue, MatchOption};
 ghost use Rattle.std.specs.List.{AllByRecursion};
 ghost use Rattle.std.specs.Option.{option_map};
 ghost use Rattle.bi_blob.specs.NameSets.{HoldsNames};
 ghost use Rattle.bi_blob.specs.Tree.{HasNoZero, AreDistinct};
-ghost use Rattle.bi_fit.specs.Building.{IsImageSpec};
 ghost use Rattle.bi_fit.specs.NamedImages.{named_model, named_models};
-ghost use Rattle.bi_norm.specs.FitBuilding.{ImageTextsModel, image_texts_model, texts_models};
-ghost use Rattle.bi_norm.specs.FitBuilding.{given_images, spec_model, texts_for};
+ghost use Rattle.bi_norm.specs.FitBuilding.{image_texts_model};
+ghost use Rattle.bi_norm.specs.FitBuilding.{spec_model, texts_for};
 ghost use Rattle.bi_norm.specs.FitBuilding.{names_of_codes as names_for_codes, names_of_specs};
 ghost use Rattle.bi_norm.specs.FitBuilding.{spec_checks, HasTypeOrTexts, AreTexts, HasNames};
 ghost use Rattle.bi_norm.specs.FitBuilding.{HasNamesIfNeeded};
 ghost use Rattle.bi_norm.specs.BuildChecks.{AllPass, IsFirstFailure, IsImagesError};
-ghost use Rattle.bi_norm.specs.BuildChecks.{fields_and_names, given_image, TextsAreBytes};
+ghost use Rattle.bi_norm.specs.BuildChecks.{fields_and_names, given_image, given_for};
+ghost use Rattle.bi_norm.specs.BuildChecks.{IsPlainImage, TextsAreBytes};
 
 use crate::fit_building::{ImageSpec, ImageTexts};
 use bi_base::{Cause, Error, Fault, are_bytes, refuse};
@@ -33,8 +33,9 @@ pub(super) struct CheckedImages<'a> {
     pub(super) names: BTreeSet<&'a [u8]>,
 }
 
-/// Makes the checks of each image in turn, and returns the images with the texts of their nodes.
-/// Requires: there are fewer than 2^32 images.
+/// Makes the checks of each image in turn, except that of its own description, and returns the
+/// images with the texts of their nodes and their descriptions. Requires: there are fewer than 2^32
+/// images.
 ///
 /// Errors, at the index of the image: those of `check_image`; DuplicateNode, if an earlier image
 /// has its name. Or OutOfMemory, which occurs only after those checks of the first image that look
@@ -43,25 +44,27 @@ pub(super) fn check_images<'a>(
     alloc: Global,
     images: &[ImageSpec<'a>],
     texts: &[Option<ImageTexts<'a>>],
+    descriptions: &[Option<&'a [u8]>],
 ) -> Result<CheckedImages<'a>, Error>
     requires { length images.now < 2 ^ 32 }
-    ensures passed { let given = given_images (texts_models texts.now) images.now in
+    ensures passed { let given = given_for texts.now descriptions.now images.now in
         OnOk result (AllPass (spec_checks 0 [] given)) }
-    ensures can { let given = given_images (texts_models texts.now) images.now in
-        OnOk result (AllByRecursion IsImageSpec (map spec_model given)) }
+    ensures can { let given = given_for texts.now descriptions.now images.now in
+        OnOk result (AllByRecursion IsPlainImage (map spec_model given)) }
     ensures distinct { OnOk result (AreDistinct (names_of_specs images.now)) }
-    ensures named { let given = given_images (texts_models texts.now) images.now in
+    ensures named { let given = given_for texts.now descriptions.now images.now in
         IfOk result (λ checked. named_models checked.named.items ≡ map spec_model given) }
     ensures names { IfOk result (λ checked.
         HoldsNames checked.names (names_of_specs images.now)) }
-    ensures failed { let given = given_images (texts_models texts.now) images.now in
+    ensures failed { let given = given_for texts.now descriptions.now images.now in
         IfErr result (IsImagesError given) }
 {
     let mut names = BTreeSet::new(alloc);
     let mut named = Vec::new(alloc);
     for (index, image) in images.iter().enumerate() {
         let offset = index as u32;
-        let next = check_image(image, texts_at(texts, index), offset)?;
+        let description = element_at(descriptions, index);
+        let next = check_image(image, element_at(texts, index), description, offset)?;
         if !names.insert(image.name)? {
             return refuse(Cause::DuplicateNode, offset).map_err(Error::from);
         }
@@ -70,18 +73,18 @@ pub(super) fn check_images<'a>(
     Ok(CheckedImages { named, names })
 }
 
-/// Returns the texts at an index, if there are any.
-fn texts_at<'a>(texts: &[Option<ImageTexts<'a>>], index: usize) -> Option<ImageTexts<'a>>
-    ensures { result ≡ unwrap_or (slice_get texts.now index) None }
+/// Returns what is given at an index, if anything is.
+fn element_at<T: Copy>(list: &[Option<T>], index: usize) -> Option<T>
+    ensures { result ≡ unwrap_or (slice_get list.now index) None }
 {
-    match texts.get(index) {
+    match list.get(index) {
         Some(found) => *found,
         None => None,
     }
 }
 
-/// Makes the checks of an image that look at no other image, and returns it with the texts of its
-/// node.
+/// Makes the checks of an image that look at no other image, except that of its own description,
+/// and returns it with the texts of its node and its description.
 ///
 /// Errors: BadField at its index, if a node may not have its name, or one of its texts has a zero
 /// byte, or it has no texts and its type is multi; else NoCodeName at its index, if it has no texts
@@ -89,15 +92,17 @@ fn texts_at<'a>(texts: &[Option<ImageTexts<'a>>], index: usize) -> Option<ImageT
 fn check_image<'a>(
     image: &ImageSpec<'a>,
     texts: Option<ImageTexts<'a>>,
+    description: Option<&'a [u8]>,
     index: u32,
 ) -> Result<NamedImage<'a>, Fault>
-    ensures passed { OnOk result
-        (AllPass (fields_and_names index (given_image image.now texts.entry))) }
-    ensures can { OnOk result (IsImageSpec (spec_model (given_image image.now texts.entry))) }
-    ensures named { IfOk result (λ named.
-        named_model named ≡ spec_model (given_image image.now texts.entry)) }
-    ensures fault { IfErr result
-        (IsFirstFailure (fields_and_names index (given_image image.now texts.entry))) }
+    ensures passed { let given = given_image image.now texts.entry description.entry in
+        OnOk result (AllPass (fields_and_names index given)) }
+    ensures can { let given = given_image image.now texts.entry description.entry in
+        OnOk result (IsPlainImage (spec_model given)) }
+    ensures named { let given = given_image image.now texts.entry description.entry in
+        IfOk result (λ named. named_model named ≡ spec_model given) }
+    ensures fault { let given = given_image image.now texts.entry description.entry in
+        IfErr result (IsFirstFailure (fields_and_names index given)) }
 {
     if !is_child_name(image.name) || !has_type_or_texts(image, texts) {
         return refuse(Cause::BadField, index);
@@ -108,7 +113,7 @@ fn check_image<'a>(
     are_bytes(image.name);
     are_bytes(image.payload);
     have_bytes(found);
-    Ok(with_texts(image, found))
+    Ok(with_texts(image, found, description))
 }
 
 /// Returns whether the texts of an image have no zero byte, or, if it has none, its type is not
@@ -134,7 +139,7 @@ fn are_texts(texts: ImageTexts<'_>) -> bool
 }
 
 /// Returns whether no byte is zero.
-fn has_no_zero(bytes: &[u8]) -> bool
+pub(super) fn has_no_zero(bytes: &[u8]) -> bool
     ensures { IsTrue result ↔ HasNoZero bytes.now }
 {
     !bytes.contains(&0)
@@ -143,7 +148,7 @@ fn has_no_zero(bytes: &[u8]) -> bool
 /// Returns the texts of an image, or, if it has none, the names of its codes. Returns None if it
 /// has no texts and one of its codes has no name.
 fn texts_of<'a>(image: &ImageSpec<'_>, texts: Option<ImageTexts<'a>>) -> Option<ImageTexts<'a>>
-    ensures { let given = given_image image.now texts.entry in
+    ensures { let given = given_image image.now texts.entry None in
         MatchOption result (¬ (HasNamesIfNeeded given.spec given.texts))
         (λ found. HasNamesIfNeeded given.spec given.texts
         × (image_texts_model found ≡ texts_for given)) }
@@ -177,14 +182,19 @@ fn have_bytes(texts: ImageTexts<'_>)
     are_bytes(texts.compression);
 }
 
-/// Returns an image with these texts.
-fn with_texts<'a>(image: &ImageSpec<'a>, texts: ImageTexts<'a>) -> NamedImage<'a>
-    ensures { (given : Option ImageTextsModel)
-        → image_texts_model texts.entry ≡ texts_for (record { spec = image.now; texts = given })
-        → named_model result ≡ spec_model (record { spec = image.now; texts = given }) }
+/// Returns an image with these texts and this description.
+fn with_texts<'a>(
+    image: &ImageSpec<'a>,
+    texts: ImageTexts<'a>,
+    description: Option<&'a [u8]>,
+) -> NamedImage<'a>
+    ensures { (given : Option ImageTexts)
+        → image_texts_model texts.entry ≡ texts_for (given_image image.now given description.entry)
+        → named_model result ≡ spec_model (given_image image.now given description.entry) }
 {
     NamedImage {
         name: image.name,
+        description,
         image_type: texts.image_type,
         arch: texts.arch,
         os: texts.os,

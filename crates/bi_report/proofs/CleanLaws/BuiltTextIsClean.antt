@@ -21,10 +21,11 @@ use Rattle.bi_fit.specs.Text.{fit_text}
 use Rattle.bi_fit.proofs.FileTrees.{is_image_tree}
 use Rattle.bi_fit.proofs.Meanings.{one_fit_meaning}
 use Rattle.bi_norm.specs.declared.fit_building.ImageSpec.{ImageSpec}
-use Rattle.bi_norm.specs.FitBuilding.{BuildCheck, BuildPasses, HasDefault, HasKnownDefault, PlanSpecModel, ImageTextsModel}
+use Rattle.bi_norm.specs.FitBuilding.{BuildCheck, BuildPasses, HasDefault, HasKnownDefault, PlanSpecModel}
 use Rattle.bi_norm.specs.FitBuilding.{FitsLimit, configuration_checks, early_checks}
-use Rattle.bi_norm.specs.FitBuilding.{given_images, names_of_specs, plan_of_tree}
-use Rattle.bi_norm.specs.FitBuilding.{spec_checks, spec_model, spec_models, tree_of_images, whole_plan}
+use Rattle.bi_norm.specs.FitBuilding.{planned_images, names_of_specs, own_texts_checks, own_texts_of_image, own_texts_of_configuration}
+use Rattle.bi_norm.specs.FitBuilding.{plan_of_tree}
+use Rattle.bi_norm.specs.FitBuilding.{spec_checks, spec_models, tree_of_images, whole_plan}
 use Rattle.bi_norm.specs.Meaning.{Meaning, Means, OfFit, OfLegacy}
 use Rattle.bi_report.specs.declared.check.Allowed.{Allowed}
 use Rattle.bi_report.specs.CheckedFiles.{IsCheckError}
@@ -52,11 +53,9 @@ same_algorithms [] default algorithms images = refl
 same_algorithms (first ∷ later) default algorithms images = refl
 
 -- It has no images only if none are given.
-none_given : (texts : List (Option ImageTextsModel)) (images : List ImageSpec) → map spec_model (given_images texts images) ≡ [] →
-    images ≡ []
-none_given texts [] is = refl
-none_given [] (spec ∷ later) is = absurd cc
-none_given (first ∷ texts) (spec ∷ later) is = absurd cc
+none_given : (plan : PlanSpecModel) (images : List ImageSpec) → spec_models plan images ≡ [] → images ≡ []
+none_given plan [] is = refl
+none_given plan (spec ∷ later) is = absurd cc
 
 module _ (limits : Limits) (form : Form) (head : Head) (plan : PlanSpecModel) (images : List ImageSpec) where
   abbrev Passes : BuildCheck → Type 0
@@ -65,9 +64,13 @@ module _ (limits : Limits) (form : Form) (head : Head) (plan : PlanSpecModel) (i
   -- The default passes its check.
   default_passes : HasNoFault Passes (early_checks plan images) → HasKnownDefault plan.configurations plan.default
   default_passes fine =
-      (each-back Passes (configuration_checks (names_of_specs images) 0 [] plan.configurations) (HasDefault ∷ [])
-      (each-back Passes (spec_checks 0 [] (given_images plan.texts images))
-      (configuration_checks (names_of_specs images) 0 [] plan.configurations ++ HasDefault ∷ []) fine.1.1.1)).0
+      (each-back Passes (configuration_checks (names_of_specs images) 0 [] plan.configurations) (HasDefault ∷ of_texts)
+      (each-back Passes (spec_checks 0 [] (planned_images plan images))
+      (configuration_checks (names_of_specs images) 0 [] plan.configurations ++ HasDefault ∷ of_texts) fine.1.1.1)).0
+    where
+      of_texts : List BuildCheck
+      of_texts = own_texts_checks 0 (map own_texts_of_image (spec_models plan images))
+          ++ own_texts_checks 0 (map own_texts_of_configuration plan.configurations)
 
   -- Images are protected by the plan of the tree if and only if they are by the plan that is given.
   module _ (allowed : Allowed) where
@@ -76,7 +79,7 @@ module _ (limits : Limits) (form : Form) (head : Head) (plan : PlanSpecModel) (i
 
     given_protected : (spec_models plan images ≡ []) ⊎ ProtectImages allowed (plan_of_tree plan images).algorithms →
         (images ≡ []) ⊎ ProtectImages allowed plan.algorithms
-    given_protected (inl empty) = inl (none_given plan.texts images empty)
+    given_protected (inl empty) = inl (none_given plan images empty)
     given_protected (inr protect) = inr (subst (ProtectImages allowed) is_same protect)
 
     tree_protected : (images ≡ []) ⊎ ProtectImages allowed plan.algorithms →

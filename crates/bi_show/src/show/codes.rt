@@ -182,25 +182,28 @@ fn code_cell(alloc: Global, table: &[CodeName], code: u8) -> Result<String, Allo
     format!(in alloc; "{code}")
 }
 
-/// Returns the value for an operating system's code in JSON.
+/// Returns the value for an operating system's code in JSON: its name that can be given,
+/// if it has one.
 pub(super) fn os_json(code: u8) -> JsonValue<'static, 'static>
-    ensures { value_json result ≡ named_code (name_of_code all_os_names code) code }
+    ensures { value_json result ≡ named_code (name_of_code given_os_names code) code }
 {
-    code_json(&OS_NAMES, code)
+    code_json(&OS_NAMES[..GIVEN_OS_NAMES], code)
 }
 
-/// Returns the value for a processor architecture's code in JSON.
+/// Returns the value for a processor architecture's code in JSON: its name that can be given,
+/// if it has one.
 pub(super) fn arch_json(code: u8) -> JsonValue<'static, 'static>
-    ensures { value_json result ≡ named_code (name_of_code all_arch_names code) code }
+    ensures { value_json result ≡ named_code (name_of_code given_arch_names code) code }
 {
-    code_json(&ARCH_NAMES, code)
+    code_json(&ARCH_NAMES[..GIVEN_ARCH_NAMES], code)
 }
 
-/// Returns the value for an image type's code in JSON.
+/// Returns the value for an image type's code in JSON: its name that can be given,
+/// if it has one.
 pub(super) fn type_json(code: u8) -> JsonValue<'static, 'static>
-    ensures { value_json result ≡ named_code (name_of_code all_type_names code) code }
+    ensures { value_json result ≡ named_code (name_of_code given_type_names code) code }
 {
-    code_json(&TYPE_NAMES, code)
+    code_json(&TYPE_NAMES[..GIVEN_TYPE_NAMES], code)
 }
 
 /// Returns the value for a compression's code in JSON.

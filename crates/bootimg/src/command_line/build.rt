@@ -11,9 +11,10 @@ use crate::command_line::NoRequest;
 use crate::command_line::configurations::{ConfigurationWord, default_name, parse_configurations};
 use crate::command_line::hashes::algorithms;
 use crate::command_line::image::parse_image;
-use crate::command_line::options::{form, number, value};
+use crate::command_line::options::{all_values, form, number, value};
 use crate::command_line::part::{PartSource, parse_part};
 use crate::command_line::table::NO_COMPRESSION;
+use crate::command_line::texts::{OwnTexts, own_texts};
 use crate::failure::Failure;
 use bi_hash::Algo;
 use bi_legacy::Fields;
@@ -45,6 +46,8 @@ pub struct FitPlan<'a> {
     pub default: Option<&'a [u8]>,
     /// The algorithms of the hash nodes of each image.
     pub algorithms: Vec<Algo>,
+    /// The texts that are for one image or one configuration.
+    pub own_texts: OwnTexts<'a>,
     /// Where the payload of each image comes from.
     pub payloads: Vec<PartSource<'a>>,
     /// Where the payloads are in the tree.
@@ -79,7 +82,7 @@ pub fn legacy_plan<'a>(alloc: Global, options: &ArgMatches<'a>) -> Result<Legacy
     ensures failure { IfErr result (IsFailureOutcome (IsBadValue (IsLegacyPlan options.now))) }
 {
     let fields = fields(options)?;
-    let arguments = options.get_strs("lengths").unwrap_or(&[]);
+    let arguments = all_values(options, "lengths");
     let parts = parse_parts(alloc, arguments)?;
     Ok(LegacyPlan { fields, parts })
 }
@@ -129,9 +132,10 @@ fn parse_parts<'a>(alloc: Global, arguments: &[&'a str]) -> Result<Vec<PartSourc
 /// Returns what `build-fit` builds.
 ///
 /// Errors, the first that applies: BadValue, if the time is not a number, there is no such form,
-/// the default names none of the configurations, or an algorithm is unknown or given twice;
-/// BadImage at the first argument that is not an image; BadConfiguration at the first word that is
-/// not a configuration, or one that cannot be built. Or OutOfMemory.
+/// the default names none of the configurations, an algorithm is unknown or given twice, or a text
+/// for one image or one configuration is malformed, is for none of them, or is the second
+/// description of one; BadImage at the first argument that is not an image; BadConfiguration at the
+/// first word that is not a configuration, or one that cannot be built. Or OutOfMemory.
 pub fn fit_plan<'a>(alloc: Global, options: &ArgMatches<'a>) -> Result<FitPlan<'a>, NoRequest>
     ensures plan { IfOk result (IsFitPlan options.now) }
     ensures lengths { IfOk result (λ plan. length plan.payloads.items
@@ -143,10 +147,11 @@ pub fn fit_plan<'a>(alloc: Global, options: &ArgMatches<'a>) -> Result<FitPlan<'
         time: number(options, "time")?,
     };
     let form = form(options)?;
-    let words = options.get_strs("config").unwrap_or(&[]);
+    let words = all_values(options, "config");
     let default = default_name(options, words)?;
     let algorithms = algorithms(alloc, options)?;
-    let arguments = options.get_strs("images").unwrap_or(&[]);
+    let own_texts = own_texts(alloc, options)?;
+    let arguments = all_values(options, "images");
     let built = parse_images(alloc, arguments)?;
     let configurations = parse_configurations(alloc, words, &built.images)?;
     Ok(FitPlan {
@@ -156,6 +161,7 @@ pub fn fit_plan<'a>(alloc: Global, options: &ArgMatches<'a>) -> Result<FitPlan<'
         configurations,
         default,
         algorithms,
+        own_texts,
         payloads: built.payloads,
         form,
     })

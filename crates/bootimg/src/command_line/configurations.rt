@@ -48,12 +48,14 @@ pub struct ConfigurationWord<'a> {
 }
 
 impl<'a> ConfigurationWord<'a> {
-    /// Returns the configuration to be built.
+    /// Returns the configuration to be built, without texts of its own.
     pub fn spec(&self) -> ConfigurationSpec<'_>
         ensures { configuration_spec_model result ≡ configuration_model self.now }
     {
         ConfigurationSpec {
             name: self.name,
+            description: None,
+            compatible: &[],
             kernel: names_under(&self.lists, Key::Kernel),
             fdt: names_under(&self.lists, Key::Fdt),
             ramdisk: names_under(&self.lists, Key::Ramdisk),
@@ -234,7 +236,7 @@ fn names_one(words: &[&str], name: &str) -> bool
 }
 
 /// Returns what a word has before its first colon, or the word if it has none.
-fn name_of_word(word: &str) -> &str
+pub fn name_of_word(word: &str) -> &str
     ensures { result.now ≡ name_of word.now }
 {
     match word.split_once(':') {

@@ -13,6 +13,7 @@ ghost use Rattle.bootimg.specs.ValueWords.{BeginWithWords, form_argument, texts_
 ghost use Rattle.bootimg.specs.declared.failure.Failure.TheVariants.{BadValue};
 
 use crate::command_line::NoRequest;
+use crate::command_line::options::all_values;
 use crate::command_line::values::{GetPlan, ValueWords};
 use crate::failure::Failure;
 use bi_values::{ValueForm, ValueName};
@@ -27,7 +28,7 @@ pub fn get_plan<'a>(alloc: Global, options: &ArgMatches<'a>) -> Result<GetPlan<'
     ensures failure { IfErr result (IsFailureOutcome (IsBadValue (IsGetPlan options.now))) }
 {
     let form = parse_form(options.get_str("as")).ok_or(Failure::BadValue)?;
-    let words = options.get_strs("where").unwrap_or(&[]);
+    let words = all_values(options, "where");
     let names = parse_names(alloc, words)?;
     if !can_write(form, names.len()) {
         return Err(NoRequest::Failure(Failure::BadValue));
@@ -79,7 +80,7 @@ fn parse_names(alloc: Global, words: &[&str]) -> Result<Vec<ValueName>, NoReques
 }
 
 /// Returns the bytes of words.
-fn bytes_of_words<'a>(alloc: Global, words: &[&'a str]) -> Result<Vec<&'a [u8]>, AllocError>
+pub fn bytes_of_words<'a>(alloc: Global, words: &[&'a str]) -> Result<Vec<&'a [u8]>, AllocError>
     ensures { IfOk result (λ bytes. bytes_of_names bytes.items ≡ texts_of words.now) }
 {
     let mut bytes = Vec::with_capacity(alloc, words.len())?;

@@ -1,7 +1,7 @@
 //! Options that several commands have.
 
 ghost use Rattle.std.specs.Prelude.{◌≡◌, IfOk, IfErr, IfSome, IfNone, codes};
-ghost use Rattle.bootimg.specs.CommandLine.{limit_of, value_of};
+ghost use Rattle.bootimg.specs.CommandLine.{limit_of, texts_of, value_of, values_of};
 ghost use Rattle.bootimg.specs.CommandLine.{IsAlignOf, IsBadValue, IsForm, IsFormFailure};
 ghost use Rattle.bootimg.specs.CommandLine.{IsFlag, IsFormat, IsLimits, NoneIs};
 ghost use Rattle.bootimg.specs.Numbers.{IsNumber};
@@ -71,6 +71,14 @@ pub fn format(options: &ArgMatches<'_>) -> Format
     } else {
         Format::Lines
     }
+}
+
+/// Returns the values of an option that may be given any number of times, in their order, or those
+/// positional arguments.
+pub fn all_values<'r, 'a>(options: &'r ArgMatches<'a>, id: &str) -> &'r [&'a str]
+    ensures { texts_of result.now ≡ values_of options.now id.now }
+{
+    options.get_strs(id).unwrap_or_default()
 }
 
 /// Returns the number that is the value of an option, and 0 if it has none. Fails with BadValue if

@@ -222,6 +222,12 @@ const FILE: OptionText = OptionText {
     form: OptionForm::Positional,
 };
 
+const FILES: OptionText = OptionText {
+    help: "Each image: a file, or standard input if it is -. Without IMAGE, standard input is read",
+    form: OptionForm::Positionals,
+    ..FILE
+};
+
 const REQUIRED_FILE: OptionText = OptionText {
     help: "The image: a file, or standard input if it is -",
     form: OptionForm::RequiredPositional,
@@ -256,6 +262,15 @@ const OTHER: OptionText = OptionText {
     value_name: "OTHER",
     help: "The second image: a file, or standard input if it is -",
     form: OptionForm::RequiredPositional,
+};
+
+const IGNORE: OptionText = OptionText {
+    name: "ignore",
+    value_name: "WORD[,WORD]..",
+    help: "What is left out of both images: time, signatures, or alone in its option the PATH of a \
+         node or 'PATH NAME' of a property, as describe prints them, or part-N; may be given any \
+         number of times",
+    form: OptionForm::Repeated,
 };
 
 const QUIET: OptionText = OptionText {
@@ -407,8 +422,8 @@ const INDEX: OptionText = OptionText {
 const CAUSE: OptionText = OptionText {
     name: "cause",
     value_name: "NAME",
-    help: "A cause as an error prints it, or a kind of concerns as check prints it; without NAME \
-         each one is explained",
+    help: "A cause or another message as an error prints it, or a kind of concerns as check prints \
+         it; without NAME each one is explained",
     form: OptionForm::Positional,
 };
 
@@ -490,6 +505,28 @@ const DEFAULT_NAME: OptionText = OptionText {
     form: OptionForm::Optional,
 };
 
+const COMPATIBLE: OptionText = OptionText {
+    name: "compatible",
+    value_name: "NAME:TEXT",
+    help: "A board that configuration NAME of --config is for, such as acme,one; may be given any \
+         number of times",
+    form: OptionForm::Repeated,
+};
+
+const DESCRIBE_CONFIGURATION: OptionText = OptionText {
+    name: "describe-config",
+    value_name: "NAME:TEXT",
+    help: "The description of configuration NAME of --config, once for each; else that of the tree",
+    form: OptionForm::Repeated,
+};
+
+const DESCRIBE_IMAGE: OptionText = OptionText {
+    name: "describe-image",
+    value_name: "NAME:TEXT",
+    help: "The description of image NAME, once for each; else that of the tree",
+    form: OptionForm::Repeated,
+};
+
 const HASH: OptionText = OptionText {
     name: "hash",
     value_name: "ALGO[,ALGO]..",
@@ -501,7 +538,7 @@ const HASH: OptionText = OptionText {
 const DESCRIPTION: OptionText = OptionText {
     name: "description",
     value_name: "TEXT",
-    help: "The description of the tree, of each image and of each configuration",
+    help: "The description of the tree, and of each image and configuration without its own",
     form: OptionForm::Optional,
 };
 
@@ -553,7 +590,7 @@ static READING_COMMANDS: [CommandText; 4] = [
         name: "list",
         aliases: &[],
         about: "List what an image holds",
-        usage: "bootimg list [OPTIONS] [IMAGE]",
+        usage: "bootimg list [OPTIONS] [IMAGE]...",
         after_help: "\
                  Reads an image, and writes to standard output what it holds. Of a legacy image:\n\
                  its fields, the size and offset of each part, and the number of bytes after the\n\
@@ -561,7 +598,7 @@ static READING_COMMANDS: [CommandText; 4] = [
                  payload, and what each configuration lists, but not where loaders put it:\n\
                  describe does. Sizes and offsets are in bytes.\n\n\
                  Example: bootimg list kernel.uimage",
-        options: &[JSON, OFFSET, LIMIT, OUTPUT, FILE],
+        options: &[JSON, OFFSET, LIMIT, OUTPUT, FILES],
     },
     CommandText {
         name: "describe",
@@ -591,15 +628,21 @@ static CHECKING_COMMANDS: [CommandText; 4] = [
                  mean: the lines of describe that only ONE has, each after -, and those that only\n\
                  OTHER has, each after +. Writes nothing if both mean the same thing, whatever\n\
                  their layout. At most one of the two is standard input.\n\n\
+                 --ignore leaves something out of both before they are compared: time, the time\n\
+                 of a legacy image and the timestamp of a FIT; signatures, all signature nodes;\n\
+                 a node with all that is below it and its payload; a property; or a part of a\n\
+                 legacy image. A node or a part that is not there is no error. Images of\n\
+                 different kinds differ, whatever is left out.\n\n\
                  The exit status is 0 if both mean the same thing, and 1 if they do not.\n\n\
-                 Example: bootimg compare yesterday.itb today.itb",
-        options: &[QUIET, JSON, LIMIT, OUTPUT, ONE, OTHER],
+                 Example: bootimg compare yesterday.itb today.itb\n\
+                 Example: bootimg compare --ignore time --ignore '/images/kernel-1 load' a.itb b.itb",
+        options: &[IGNORE, QUIET, JSON, LIMIT, OUTPUT, ONE, OTHER],
     },
     CommandText {
         name: "verify",
         aliases: &[],
         about: "Check the checksums and digests of an image",
-        usage: "bootimg verify [OPTIONS] [IMAGE]",
+        usage: "bootimg verify [OPTIONS] [IMAGE]...",
         after_help: "\
                  Reads an image, and writes to standard output a verdict on each checksum of a\n\
                  legacy image, or on each hash node of a FIT. Signatures are not checked.\n\n\
@@ -607,13 +650,13 @@ static CHECKING_COMMANDS: [CommandText; 4] = [
                  if a FIT has no hash node, so that nothing is checked: bootimg check finds what\n\
                  is not protected.\n\n\
                  Example: bootimg verify kernel.itb",
-        options: &[JSON, OFFSET, LIMIT, OUTPUT, FILE],
+        options: &[JSON, OFFSET, LIMIT, OUTPUT, FILES],
     },
     CommandText {
         name: "check",
         aliases: &[],
         about: "Find what is not protected in an image",
-        usage: "bootimg check [OPTIONS] [IMAGE]",
+        usage: "bootimg check [OPTIONS] [IMAGE]...",
         after_help: "\
                  Reads an image, and writes to standard output a line for each thing in it that\n\
                  is not protected: nothing if all is. The first word of a line is its kind:\n\n\
@@ -640,13 +683,13 @@ static CHECKING_COMMANDS: [CommandText; 4] = [
                  The exit status is 0 if nothing was found, and 1 if something was.\n\n\
                  Example: bootimg check --allow weak-hash,trailing kernel.itb\n\
                  Example: bootimg check --signed kernel.itb",
-        options: &[ALLOW, SIGNED, JSON, OFFSET, LIMIT, OUTPUT, FILE],
+        options: &[ALLOW, SIGNED, JSON, OFFSET, LIMIT, OUTPUT, FILES],
     },
     CommandText {
         name: "scan",
         aliases: &[],
         about: "Find the images inside a file",
-        usage: "bootimg scan [OPTIONS] [IMAGE]",
+        usage: "bootimg scan [OPTIONS] [IMAGE]...",
         after_help: "\
                  Reads a file, such as what a flash chip holds, and writes to standard output a\n\
                  line for each image in it, even one that is inside another: the offset of its\n\
@@ -656,7 +699,7 @@ static CHECKING_COMMANDS: [CommandText; 4] = [
                  --limit also bounds the bytes that the headers inside the file name together.\n\n\
                  The exit status is 0 if an image was found, and 1 if none was.\n\n\
                  Example: bootimg scan flash.bin",
-        options: &[JSON, OFFSET, LIMIT, OUTPUT, FILE],
+        options: &[JSON, OFFSET, LIMIT, OUTPUT, FILES],
     },
 ];
 
@@ -807,6 +850,9 @@ static BUILDING_COMMANDS: [CommandText; 2] = [
         options: &[
             CONFIGURATIONS,
             DEFAULT_NAME,
+            COMPATIBLE,
+            DESCRIBE_CONFIGURATION,
+            DESCRIBE_IMAGE,
             HASH,
             EXTERNAL_BUILT,
             ALIGN,
@@ -826,10 +872,12 @@ static EXPLAIN: CommandText = CommandText {
     about: "Say what the cause of an error or a concern means",
     usage: "bootimg explain [OPTIONS] [NAME]",
     after_help: "\
-             Writes to standard output what the cause of an error means, or a kind of concerns\n\
-             that check finds, and what can be done. Without NAME, writes a line for each cause\n\
-             and each kind, with its name. Reads no image.\n\n\
+             Writes to standard output what the cause of an error, another message or a kind of\n\
+             concerns that check finds means, and what can be done. A line of bootimg can be\n\
+             given as it is, in quotes. Without NAME, writes a line for each cause and each\n\
+             kind, with its name. Reads no image.\n\n\
              Example: bootimg explain BadMagic\n\
+             Example: bootimg explain 'Truncated at 12'\n\
              Example: bootimg explain uncovered",
     options: &[OUTPUT, CAUSE],
 };

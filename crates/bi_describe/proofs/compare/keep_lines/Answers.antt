@@ -4,4 +4,4 @@ use Rattle.bi_describe.proofs.compare.keep_lines.Goals as goal
 
 pub new-requires : goal.new-requires
 new-requires c =
-    subst (λ lines. IsAscii (text_of_lines lines)) (sym c.in_ok-described.ensures.described.lines) c.description_is_ascii.ensures
+    subst (λ lines. IsAscii (text_of_lines lines)) (sym c.requires.described.lines) c.description_is_ascii.ensures

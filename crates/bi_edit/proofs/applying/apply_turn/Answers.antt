@@ -1,4 +1,4 @@
-use Rattle.std.proofs.Common.{◌≡◌, [], ◌∷◌, ◌++◌, ◌==◌, ◌+◌, true, drop, Some, slice_get, subst, sym, ap, ◌∙◌, arith}
+use Rattle.std.proofs.Common.{[], ◌∷◌, ◌+◌, drop, subst, sym, ap, ◌∙◌, arith}
 use Rattle.bi_edit.specs.Applying.{IsApplyError}
 use Rattle.bi_edit.specs.Edits.{IsFirstRefused, edits_of_turn, turn_of}
 use Rattle.bi_edit.proofs.AppliedEdits.{HasSameEnd, next_at, next_of_turn, error_of_edit, edit_read_at, refused_next, refused_of, same_turn}

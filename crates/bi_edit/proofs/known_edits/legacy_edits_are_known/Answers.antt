@@ -1,4 +1,4 @@
-use Rattle.std.proofs.Common.{◌≡◌, List, refl, codes, arith, ap}
+use Rattle.std.proofs.Common.{◌≡◌, refl, codes, arith}
 use Rattle.std.specs.Fmt.{decimal}
 use Rattle.std.proofs.lemmas.Fmt.{decimal_digit}
 use Rattle.bi_edit.proofs.known_edits.legacy_edits_are_known.Goals as goal

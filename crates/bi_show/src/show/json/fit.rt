@@ -5,7 +5,6 @@ ghost use Rattle.bi_base.specs.Commands.{Appended, AppendFailed};
 ghost use Rattle.bi_base.specs.Sinks.{Wrote};
 ghost use Rattle.bi_fit.specs.Content.{AreAtTheirPlaces};
 ghost use Rattle.bi_fit.specs.Reading.{IsReadFit};
-ghost use Rattle.bi_common.specs.CommonLines.{reservations_member};
 ghost use Rattle.bi_common.specs.Json.{json_line};
 ghost use Rattle.bi_common.specs.JsonTokens.{json_tokens, member_tokens};
 ghost use Rattle.bi_report.specs.ConcernValues.{IsCoverageOf};
@@ -17,14 +16,12 @@ use super::configurations::put_configurations_member;
 use super::images::put_images_member;
 use super::members::{number_property, text_property};
 use bi_base::{Error, Limits, Pen, Sink, SinkPen};
-use bi_common::common_lines::put_reservations;
 use bi_common::fields::Field;
 use bi_common::json_writer::{
     JsonPen, JsonToken, JsonValue, JsonWriter, put_members, shown_or_null,
 };
 use bi_common::payload_bounds::BoundedFit;
 use bi_common::verdict_counts::digests_of_verdicts;
-use bi_fdt::Blob;
 use bi_fit::Fit;
 use bi_hash::RegionDigests;
 use bi_report::check::{Concerns, FitCoverage, put_concerns_member};
@@ -106,7 +103,6 @@ fn put_fit_object<'a, J: JsonPen>(
 {
     json.put(JsonToken::BeginObject);
     put_head_members(fit, json);
-    put_reservations_member(fit.blob(), json);
     put_images_member(fit, digests, json);
     put_configurations_member(fit, coverage, json);
     put_concerns_member(Concerns::of_fit(file, fit, digests, coverage), json);
@@ -125,20 +121,9 @@ fn put_head_members<J: JsonPen>(fit: &Fit, json: &mut J)
         ("kind", JsonValue::String(Field::Text(b"fit"))),
         ("description", text_property(root, b"description")),
         ("timestamp", number_property(root, b"timestamp")),
-        ("total_size", JsonValue::Number(size)),
+        ("size", JsonValue::Number(size)),
         ("boot_cpu", JsonValue::Number(boot_cpu)),
         ("default", shown_or_null(fit.default_config())),
     ];
     put_members(&members, json);
-}
-
-/// Puts the member for the memory reservations.
-fn put_reservations_member<J: JsonPen>(blob: &Blob, json: &mut J)
-    ensures { J.puts json.old (member_tokens (reservations_member blob.now.reservations ∷ []))
-        json.new }
-{
-    json.put(JsonToken::Name("reservations"));
-    json.put(JsonToken::BeginArray);
-    put_reservations(blob, json);
-    json.put(JsonToken::EndArray);
 }

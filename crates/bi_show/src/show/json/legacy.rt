@@ -47,7 +47,8 @@ fn put_legacy_object<J: JsonPen>(file: &[u8], image: &Legacy, json: &mut J)
     json.put(JsonToken::EndObject);
 }
 
-/// Puts the members for the fields of a header. Each code has the name that the page shows.
+/// Puts the members for the fields of a header. Each code has a name that can be given, if it has
+/// one.
 fn put_header_members<J: JsonPen>(fields: Fields, json: &mut J)
     ensures { J.puts json.old (member_tokens (shown_legacy_members (image_of fields.entry [])))
         json.new }

@@ -1,7 +1,8 @@
 use Rattle.std.proofs.Common.{◌≡◌, ◌∙◌, false, refl, true}
 use Rattle.clap.specs.Words.{app_of}
 use Rattle.bootimg.specs.CommandLine.{texts_of}
-use Rattle.bootimg.proofs.NoRequests.{all_requested, arguments_give, given_is_command, no_all, no_job, no_limits, rejected_by_clap}
+use Rattle.bootimg.proofs.NoRequests.{all_requested, arguments_give, given_is_command, no_all, no_job, no_limits, not_each}
+use Rattle.bootimg.proofs.NoRequests.{rejected_by_clap}
 use Rattle.bootimg.proofs.NoRequests.{subcommand_is_there}
 use Rattle.bootimg.proofs.command_line.parse_arguments.Goals as goal
 
@@ -16,6 +17,29 @@ unreachable-requires c =
     c.in_ok-program.ensures c.in_ok-matches.ensures.kinds c.in_ok-matches.ensures.matches in
     let bad : false ≡ true = c.in_default.ensures.variant ∙ there in
     cc
+
+pub images_request-requires : goal.images_request-requires
+images_request-requires c = record { names = c.if-names_images.ensures.several refl }
+
+pub returns-in_err-images_request-clause-failure : goal.returns-in_err-images_request-clause-failure
+returns-in_err-images_request-clause-failure c =
+    not_each (texts_of c.args.arguments.now) c.in-Some.name.now c.in-Some.options.now c.from_residual-in_err-images_request.result
+    c.in_err-images_request.field-0.0
+    (arguments_give (app_of c.in_ok-program.field-0)
+    (texts_of c.args.arguments.now) c.in_ok-matches.matches c.subcommand.result c.in-Some.name
+    c.in-Some.options c.in_ok-program.ensures c.in_ok-matches.ensures.kinds c.in_ok-matches.ensures.matches c.in-Some.is
+    c.subcommand.ensures.name c.subcommand.ensures.rows)
+    (c.if-names_images.ensures.several refl) c.from_residual-in_err-images_request.ensures.1 c.in_err-images_request.ensures.failure
+
+pub returns-then-names_images-clause-order : goal.returns-then-names_images-clause-order
+returns-then-names_images-clause-order c = record {
+  name = c.in-Some.name.now;
+  options = c.in-Some.options.now;
+  given = arguments_give (app_of c.in_ok-program.field-0) (texts_of c.args.arguments.now) c.in_ok-matches.matches c.subcommand.result
+      c.in-Some.name c.in-Some.options c.in_ok-program.ensures c.in_ok-matches.ensures.kinds c.in_ok-matches.ensures.matches c.in-Some.is
+      c.subcommand.ensures.name c.subcommand.ensures.rows;
+  is = c.in_ok-images_request.ensures.request;
+}
 
 pub parse_job-requires-clause-command : goal.parse_job-requires-clause-command
 parse_job-requires-clause-command c =

@@ -9,12 +9,12 @@ returns-in-Err-clause-work g c =
 
 pub returns-in-Err-read_image-clause-work : goal.returns-in-Err-read_image-clause-work
 returns-in-Err-read_image-clause-work g c =
-    other_not_read _ _ c.args.plan _ _ _ _ c.in-Ok.one.items _ c.in-Err-read_image.failure c.in-Ok.ensures.read
+    other_not_read _ _ c.args.plan.now _ _ _ _ c.in-Ok.one.items _ c.in-Err-read_image.failure c.in-Ok.ensures.read
     c.in-Ok.ensures.same_files c.in-Err-read_image.ensures.failed
     (record { nothing_written = refl; outcome = c.job_failed-in-Err-read_image.ensures })
 
 pub returns-clause-work : goal.returns-clause-work
 returns-clause-work g c =
-    both_read _ _ c.args.plan _ _ _ _ c.in-Ok.one.items c.in-Ok-read_image.other.items _ _ _ c.in-Ok.ensures.read
+    both_read _ _ c.args.plan.now _ _ _ _ c.in-Ok.one.items c.in-Ok-read_image.other.items _ _ _ c.in-Ok.ensures.read
     c.in-Ok.ensures.same_files c.in-Ok-read_image.ensures.read c.deref.ensures.value c.deref-2.ensures.value
     (c.compare_files.ensures _ _)

@@ -4,7 +4,7 @@ use Rattle.bootimg.specs.CommandLine.{texts_of, HasOrderLengths, IsNoRequest, Is
 use Rattle.bootimg.specs.declared.command_line.Order.TheVariants as order
 use Rattle.bootimg.specs.declared.command_line.NoRequest.TheVariants as outcome
 use Rattle.bootimg.specs.declared.failure.Failure.TheVariants.{Call}
-use Rattle.bootimg.specs.Runs.{ExtractedAll, RanJob, Rejected, WroteText}
+use Rattle.bootimg.specs.ProgramRuns.{ExtractedAll, RanEach, RanJob, Rejected, WroteText}
 use Rattle.bootimg.proofs.ImageRuns.{to_file, to_standard_output}
 use Rattle.bootimg.proofs.RunFacts.{run_is_rejected}
 use Rattle.bootimg.proofs.run.run_traced.Goals as goal
@@ -30,6 +30,12 @@ returns-in-Ok-Do g c =
       done = to_file _ _ _ _ _ _ c.in-Some.name c.in-Some.is c.do_job_to_file-outcome.ensures refl;
       end = c.conclude-in-Some.ensures;
     })
+
+pub returns-in-Ok-DoEach : goal.returns-in-Ok-DoEach
+returns-in-Ok-DoEach g c =
+    let is : c.in-Ok-DoEach.field-0 ≡ order.DoEach c.in-Ok-DoEach.request = search rules in
+    RanEach c.in-Ok-DoEach.request (subst (λ o. IsOrder (texts_of c.args.arguments.now) o) is c.in-Ok-DoEach.ensures.order)
+    c.do_images.ensures
 
 pub returns-in-Ok-ExtractAll : goal.returns-in-Ok-ExtractAll
 returns-in-Ok-ExtractAll g c =

@@ -1,10 +1,10 @@
-use Rattle.std.proofs.Common.{◌≤◌, ◌+◌, ◌++◌, drop, take, get_or, length, map, sym, subst, ◌∙◌, arith}
+use Rattle.std.proofs.Common.{◌≤◌, ◌+◌, ◌++◌, drop, take, length, map, sym, subst, ◌∙◌, arith}
 use Rattle.std.proofs.lemmas.Grind.{flat_map-append}
 use Rattle.std.proofs.lemmas.List.{drop_all}
 use Rattle.bi_common.specs.LineTokens.{line_tokens, tokens_of_lines}
 use Rattle.bi_common.specs.MadeFields.{bytes_of_names}
 use Rattle.bi_describe.specs.TreeEntries.{as_entry, count_after, most_open, entry_lines, lines_of_entry, open_after}
-use Rattle.bi_describe.proofs.EntryLines.{entries_from, open_at_first, no_entry}
+use Rattle.bi_describe.proofs.EntryLines.{entries_from, open_at_first}
 use Rattle.bi_describe.proofs.describe.lines.put_entries.Goals as goal
 
 pub open_after-open-requires-clause-fits : goal.open_after-open-requires-clause-fits
@@ -19,21 +19,21 @@ pub open_after-open-requires-clause-room : goal.open_after-open-requires-clause-
 open_after-open-requires-clause-room g c =
     let entries = c.args.entries.now in
     let i = c.loop-entry.entry-index in
-    let entry = as_entry (get_or entries i no_entry) in
+    let entry = as_entry c.entry-item.result in
     let left = map as_entry (drop (i + 1) entries) in
     let room = subst (λ left. most_open c.loop-entry.open left ≤ length c.loop-entry.names)
-    (entries_from entries i c.loop-entry-test.true) c.loop-entry.invariant.room in
+    (entries_from entries i c.entry-item.result c.entry-item.is c.loop-entry-test.true) c.loop-entry.invariant.room in
     omega (arith, room, open_at_first (count_after c.loop-entry.open entry) left)
 
 pub loop-entry-preserved : goal.loop-entry-preserved
 loop-entry-preserved g c =
     let entries = c.args.entries.now in
     let i = c.loop-entry.entry-index in
-    let entry = as_entry (get_or entries i no_entry) in
+    let entry = as_entry c.entry-item.result in
     let left = map as_entry (drop (i + 1) entries) in
     let names = bytes_of_names (take c.loop-entry.open c.loop-entry.names) in
     let room = subst (λ left. most_open c.loop-entry.open left ≤ length c.loop-entry.names)
-    (entries_from entries i c.loop-entry-test.true) c.loop-entry.invariant.room in
+    (entries_from entries i c.entry-item.result c.entry-item.is c.loop-entry-test.true) c.loop-entry.invariant.room in
     let puts = g.L.LinePen.puts in
     record {
       same_length = c.open_after-open.ensures.room ∙ c.loop-entry.invariant.same_length;
@@ -41,7 +41,7 @@ loop-entry-preserved g c =
       written = λ new rest.
           c.loop-entry.invariant.written new
           (subst (λ entries. puts c.loop-entry.pen (tokens_of_lines (entry_lines names entries)) new)
-          (sym (entries_from entries i c.loop-entry-test.true))
+          (sym (entries_from entries i c.entry-item.result c.entry-item.is c.loop-entry-test.true))
           (subst (λ tokens. puts c.loop-entry.pen tokens new)
           (sym (flat_map-append line_tokens (lines_of_entry (open_after names entry) entry) (entry_lines (open_after names entry) left)))
           (subst (λ those. puts c.loop-entry.pen

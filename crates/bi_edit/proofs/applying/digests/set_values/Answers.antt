@@ -1,10 +1,12 @@
 use Rattle.std.proofs.Common.{get_or, ◌<◌, List, ℕ, ◌∷◌, Vec, Global, Option, option_map, map, length, sym, ap, ◌∙◌, arith}
 use Rattle.std.proofs.lemmas.List.{nil_from_length, set-get_or}
 use Rattle.std.specs.Vec.Iter.{into_iter_items}
-use Rattle.bi_blob.specs.Tree.{Nodes, PropertyMap, tree_without_order}
+use Rattle.bi_blob.specs.Tree.{Nodes, PropertyMap}
+use Rattle.bi_tree.specs.Trees.{tree_by_name}
 use Rattle.bi_tree.specs.TreeNodes.{below}
-use Rattle.bi_edit.specs.PayloadDigests.{nodes_without_order, with_digest_if, with_each_digest}
-use Rattle.bi_edit.proofs.ChangedNodes.{all_changed, changed_after, distinct_after, named_before, one_changed, others_stay}
+use Rattle.bi_edit.specs.PayloadDigests.{with_digest_if, with_each_digest}
+use Rattle.bi_plain.specs.PlainNodes.{models_by_name}
+use Rattle.bi_plain.proofs.ChangedNodes.{all_changed, changed_after, numbered_after, named_before, one_changed, others_stay}
 use Rattle.bi_edit.proofs.GivenDigests.{no_nodes_given}
 use Rattle.bi_edit.proofs.applying.digests.set_values.Goals as goal
 
@@ -17,16 +19,16 @@ returns-in_default-clause-set c =
     let nodes = c.loop-node.nodes in
     let index = c.loop-node.node-index in
     let none = nil_from_length (into_iter_items c.loop-node.left) (sym c.loop-node.invariant.2 ∙ c.in_default.ensures.cases.0) in
-    ap nodes_without_order (set-get_or nodes index c.node-item.result)
-    ∙ sym (others_stay index (nodes_without_order nodes))
-    ∙ ap (λ digests. changed_after index (given digests) (nodes_without_order nodes)) (sym none)
+    ap models_by_name (set-get_or nodes index c.node-item.result)
+    ∙ sym (others_stay index (models_by_name nodes))
+    ∙ ap (λ digests. changed_after index (given digests) (models_by_name nodes)) (sym none)
     ∙ c.loop-node.invariant.0
-    ∙ ap (λ digests. given digests (nodes_without_order c.args.nodes.now)) c.into_iter-left.ensures.rest
+    ∙ ap (λ digests. given digests (models_by_name c.args.nodes.now)) c.into_iter-left.ensures.rest
 
-pub returns-in_err-set_value-clause-distinct : goal.returns-in_err-set_value-clause-distinct
-returns-in_err-set_value-clause-distinct c = λ all.
-    distinct_after c.loop-node.nodes c.loop-node.node-index c.set_value.new.node c.node-item.result
-    (omega (arith, c.loop-node-test.true)) c.set_value.ensures.distinct (c.loop-node.invariant.1 all)
+pub returns-in_err-set_value-clause-numbered : goal.returns-in_err-set_value-clause-numbered
+returns-in_err-set_value-clause-numbered c names is all =
+    numbered_after names c.loop-node.nodes c.loop-node.node-index c.set_value.new.node c.node-item.result
+    (omega (arith, c.loop-node-test.true)) (c.set_value.ensures.numbered names is) (c.loop-node.invariant.1 names is all)
 
 pub loop-node-preserved : goal.loop-node-preserved
 loop-node-preserved c =
@@ -39,11 +41,11 @@ loop-node-preserved c =
     let within : index < length nodes = omega (arith, c.loop-node-test.true) in
     let is = c.in-Some.ensures.cases in (
       one_changed (given (first ∷ rest)) (given rest) nodes index new c.node-item.result within
-          (λ later. named_before new old (with_digest_if (option_map (λ bytes. bytes.items) first) (tree_without_order (below old)))
+          (λ later. named_before new old (with_digest_if (option_map (λ bytes. bytes.items) first) (tree_by_name (below old)))
           c.in_ok-set_value.ensures.name c.in_ok-set_value.ensures.set (given rest later))
-          ∙ ap (λ digests. changed_after index (given digests) (nodes_without_order nodes)) (sym is.0)
+          ∙ ap (λ digests. changed_after index (given digests) (models_by_name nodes)) (sym is.0)
           ∙ c.loop-node.invariant.0,
-      λ all. distinct_after nodes index new c.node-item.result within c.set_value.ensures.distinct (c.loop-node.invariant.1 all),
+      λ names is all. numbered_after names nodes index new c.node-item.result within (c.set_value.ensures.numbered names is) (c.loop-node.invariant.1 names is all),
       omega (arith, is.1, c.loop-node.invariant.2, ap length is.0),
     )
 
@@ -55,4 +57,4 @@ returns-clause-set c =
     sym (all_changed (given left) (no_nodes_given (map (option_map (λ bytes. bytes.items)) left)) index nodes
     (omega (arith, c.loop-node-test.false)))
     ∙ c.loop-node.invariant.0
-    ∙ ap (λ digests. given digests (nodes_without_order c.args.nodes.now)) c.into_iter-left.ensures.rest
+    ∙ ap (λ digests. given digests (models_by_name c.args.nodes.now)) c.into_iter-left.ensures.rest

@@ -3,26 +3,26 @@ use Rattle.std.specs.List.{AllZip}
 use Rattle.std.proofs.lemmas.List.{take_more, map-append}
 use Rattle.std.proofs.lemmas.Slice.Zip.{all_zipped_more}
 use Rattle.bi_fit.specs.declared.building.ConfigurationSpec.{ConfigurationSpec}
-use Rattle.bi_fit.specs.declared.building.lists.KeyLists.{KeyLists}
-use Rattle.bi_fit.specs.BuiltNodes.{AreKeyLists}
+use Rattle.bi_fit.specs.declared.building.lists.ListValues.{ListValues}
+use Rattle.bi_fit.specs.BuiltNodes.{AreListValues}
 use Rattle.bi_fit.specs.NamedImages.{configuration_spec_model, configuration_spec_models}
 use Rattle.bi_fit.proofs.BuiltPayloads.{no_configuration}
 use Rattle.bi_fit.proofs.building.lists.lists_of.Goals as goal
 
 -- The lists of configurations and of one more.
 lists_more : (configurations : List ConfigurationSpec) (index : ℕ) (d : ConfigurationSpec) → index < length configurations →
-    (lists more : List KeyLists) (next : KeyLists) → more ≡ lists ++ next ∷ [] →
-    AllZip AreKeyLists (configuration_spec_models (take index configurations)) lists →
-    AreKeyLists (configuration_spec_model (get_or configurations index d)) next →
-    AllZip AreKeyLists (configuration_spec_models (take (index + 1) configurations)) more
+    (lists more : List ListValues) (next : ListValues) → more ≡ lists ++ next ∷ [] →
+    AllZip AreListValues (configuration_spec_models (take index configurations)) lists →
+    AreListValues (configuration_spec_model (get_or configurations index d)) next →
+    AllZip AreListValues (configuration_spec_models (take (index + 1) configurations)) more
 lists_more configurations index d within lists more next is all are =
     let configuration = get_or configurations index d in
     let models = configuration_spec_models (take index configurations) in
-    subst (AllZip AreKeyLists (configuration_spec_models (take (index + 1) configurations))) (sym is)
-    (subst (λ models. AllZip AreKeyLists models (lists ++ next ∷ []))
+    subst (AllZip AreListValues (configuration_spec_models (take (index + 1) configurations))) (sym is)
+    (subst (λ models. AllZip AreListValues models (lists ++ next ∷ []))
     (sym (ap configuration_spec_models (take_more configurations index d within)
     ∙ map-append configuration_spec_model (take index configurations) (configuration ∷ [])))
-    (all_zipped_more AreKeyLists models lists (configuration_spec_model configuration) next all are))
+    (all_zipped_more AreListValues models lists (configuration_spec_model configuration) next all are))
 
 pub loop-configuration-preserved : goal.loop-configuration-preserved
 loop-configuration-preserved c =

@@ -6,5 +6,5 @@ use Rattle.bi_fit.proofs.building.names.built_names.Goals as goal
 
 pub new-requires : goal.new-requires
 new-requires c =
-    subst (λ names. AreRankedNames names (record { payload = 4; offset = 5; position = 6; size = 7; time = 19; digest = 21 }))
+    subst (λ names. AreRankedNames names (record { payload = 5; offset = 6; position = 7; size = 8; time = 20; digest = 22 }))
     (sym (ap bytes_of c.in_ok-from_array.ensures.items)) built_ranked

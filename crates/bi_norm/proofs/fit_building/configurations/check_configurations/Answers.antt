@@ -4,9 +4,10 @@ use Rattle.bi_blob.specs.NameSets.{HoldsNames}
 use Rattle.bi_blob.specs.Tree.{IsNew, IsChildName, AreDistinct}
 use Rattle.bi_blob.proofs.Blobs.OpenNodes.{AreDistinct-push}
 use Rattle.bi_blob.proofs.NameSets.{HoldsNames-insert, HoldsNames-new, HoldsNames-held}
-use Rattle.bi_fit.specs.Building.{ConfigurationSpecModel, configuration_names, IsConfigurationSpec}
+use Rattle.bi_fit.specs.Building.{ConfigurationSpecModel, configuration_names}
 use Rattle.bi_fit.specs.NamedImages.{configuration_spec_model, configuration_spec_models}
 use Rattle.bi_norm.specs.FitBuilding.{ListsOnly}
+use Rattle.bi_norm.specs.BuildChecks.{IsPlainConfiguration}
 use Rattle.bi_norm.proofs.ConfigurationChecks.{no_configuration_model, no_configuration_spec, configuration_names_more, configuration_fails}
 use Rattle.bi_norm.proofs.ConfigurationChecks.{configuration_name_fails, configuration_passed, configurations_passed, configurations_can}
 use Rattle.bi_norm.proofs.ConfigurationChecks.{model_at, within_models, past_models}
@@ -41,16 +42,18 @@ returns-then-not-branch-clause-failed c = λ held holds.
     let spec = get_or configurations index no_configuration_spec in
     let here = model_at configurations index no_configuration_spec c.loop-index-test.true in
     let names = configuration_names (take index models) in
-    let can : IsConfigurationSpec held (configuration_spec_model spec) = record {
+    let can : IsPlainConfiguration held (configuration_spec_model spec) = record {
       is_name = c.is_child_name.ensures.0 c.if-not-is_child_name.false;
       name_bytes = c.are_bytes.ensures;
+      description = tt;
+      compatible = tt;
       of_images = (c.lists_only.ensures held holds).0 c.if-not-lists_only.false;
     } in
     let has = not-false _ (sym c.in_ok-insert.ensures.added ∙ c.if-not-branch.true) in
     let old = HoldsNames-held c.loop-index.names spec.name names c.loop-index.invariant.names has in
     let first = configuration_name_fails held models index no_configuration_model
     (within_models configurations index c.loop-index-test.true) (c.loop-index.invariant.passed held holds)
-    (subst (IsConfigurationSpec held) here can)
+    (subst (IsPlainConfiguration held) here can)
     (subst (λ (configuration : ConfigurationSpecModel). ¬ (IsNew configuration.name names)) here old) in
     search rules
 
@@ -73,13 +76,15 @@ loop-index-preserved c =
           c.in_ok-insert.ensures.updates);
       distinct = subst AreDistinct more (AreDistinct-push names spec.name.now c.loop-index.invariant.distinct new);
       passed = λ held holds.
-          let can : IsConfigurationSpec held (configuration_spec_model spec) = record {
+          let can : IsPlainConfiguration held (configuration_spec_model spec) = record {
             is_name = c.is_child_name.ensures.0 c.if-not-is_child_name.false;
             name_bytes = c.are_bytes.ensures;
+            description = tt;
+            compatible = tt;
             of_images = (c.lists_only.ensures held holds).0 c.if-not-lists_only.false;
           } in
           configuration_passed held models index no_configuration_model within (c.loop-index.invariant.passed held holds)
-          (subst (IsConfigurationSpec held) here can)
+          (subst (IsPlainConfiguration held) here can)
           (subst (λ (configuration : ConfigurationSpecModel). IsNew configuration.name names) here new);
     }
 

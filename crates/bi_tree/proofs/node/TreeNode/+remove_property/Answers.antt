@@ -1,4 +1,4 @@
-use Rattle.std.proofs.Common.{◌-◌, ◌∷◌, length, take, drop, sym, ap, ◌∙◌, arith}
+use Rattle.std.proofs.Common.{◌-◌, length, take, drop, sym, ap, ◌∙◌, arith}
 use Rattle.bi_tree.specs.Changes.{with_node, with_change_at}
 use Rattle.bi_tree.specs.Properties.{tree_properties, without_own_property}
 use Rattle.bi_tree.specs.TreeNodes.{below}

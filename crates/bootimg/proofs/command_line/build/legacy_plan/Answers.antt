@@ -1,6 +1,6 @@
-use Rattle.std.proofs.Common.{◌≡◌, codes, refl, subst, sym}
+use Rattle.std.proofs.Common.{◌≡◌, codes, subst, sym}
 use Rattle.bootimg.specs.CommandLine.{texts_of, values_of, ArePartSources, IsBadValue, IsLegacyPlan}
-use Rattle.bootimg.proofs.CommandLines.{fails_with, outcome_weaker, words_are}
+use Rattle.bootimg.proofs.CommandLines.{fails_with, outcome_weaker}
 use Rattle.bootimg.proofs.command_line.build.legacy_plan.Goals as goal
 
 pub returns-in_err-fields-clause-failure : goal.returns-in_err-fields-clause-failure
@@ -13,10 +13,8 @@ returns-in_err-fields-clause-failure c =
 pub returns-in_err-parts-clause-failure : goal.returns-in_err-parts-clause-failure
 returns-in_err-parts-clause-failure c =
     let options = c.args.options.now in
-    let arguments = c.unwrap_or-arguments.result.now in
-    let same : texts_of arguments ≡ values_of options
-    (codes "lengths") = words_are c.get_strs.result _ _ c.unwrap_or-arguments.result c.get_strs.ensures
-    c.unwrap_or-arguments.ensures refl in
+    let arguments = c.all_values-arguments.result.now in
+    let same : texts_of arguments ≡ values_of options (codes "lengths") = c.all_values-arguments.ensures in
     outcome_weaker (IsBadValue (ArePartSources (texts_of arguments)))
     (IsBadValue (IsLegacyPlan options)) c.from_residual-in_err-parts.result c.in_err-parts.field-0.0 c.from_residual-in_err-parts.ensures.1
     c.in_err-parts.ensures.failure

@@ -77,6 +77,8 @@ loop-index-preserved c =
     let can : IsConfigurationSpec names (configuration_model configuration) = record {
       is_name = c.is_child_name.ensures.0 c.if-not-is_child_name.false;
       name_bytes = c.are_bytes.ensures;
+      description = tt;
+      compatible = tt;
       of_images = subst (ListsOnly names) c.spec.ensures
           ((c.lists_only.ensures names c.in_ok-image_names.ensures).0 c.if-not-lists_only.false);
     } in

@@ -6,7 +6,7 @@ use Rattle.bi_values.specs.declared.value_name.ValueName.{ValueName}
 use Rattle.bootimg.specs.CommandLine.{IsBadValue, IsGetPlan, texts_of, values_of}
 use Rattle.bootimg.specs.ValueWords.{texts_of_value}
 use Rattle.bootimg.specs.declared.failure.Failure.TheVariants.{BadValue}
-use Rattle.bootimg.proofs.CommandLines.{fails_with, ok_or_failed, ok_or_some, outcome_weaker, words_are}
+use Rattle.bootimg.proofs.CommandLines.{fails_with, ok_or_failed, ok_or_some, outcome_weaker}
 use Rattle.bootimg.proofs.command_line.get.get_plan.Goals as goal
 
 pub invariant_of-result : goal.invariant_of-result
@@ -31,9 +31,8 @@ returns-in_err-form-clause-failure c =
 pub returns-in_err-names-clause-failure : goal.returns-in_err-names-clause-failure
 returns-in_err-names-clause-failure c =
     let options = c.args.options.now in
-    let words = c.unwrap_or-words.result.now in
-    let same : texts_of words ≡ values_of options (codes "where")
-    = words_are c.get_strs.result _ _ c.unwrap_or-words.result c.get_strs.ensures c.unwrap_or-words.ensures refl in
+    let words = c.all_values-words.result.now in
+    let same : texts_of words ≡ values_of options (codes "where") = c.all_values-words.ensures in
     outcome_weaker (λ failure. (failure ≡ BadValue) × AreNoWords (texts_of words)) (IsBadValue (IsGetPlan options))
     c.from_residual-in_err-names.result c.in_err-names.field-0.0 c.from_residual-in_err-names.ensures.1 c.in_err-names.ensures.failure
     (λ failure bad. (
@@ -50,9 +49,8 @@ same_number names others same =
 pub returns-then-not-can_write-clause-failure : goal.returns-then-not-can_write-clause-failure
 returns-then-not-can_write-clause-failure c =
     let options = c.args.options.now in
-    let words = c.unwrap_or-words.result.now in
-    let same : texts_of words ≡ values_of options (codes "where")
-    = words_are c.get_strs.result _ _ c.unwrap_or-words.result c.get_strs.ensures c.unwrap_or-words.ensures refl in
+    let words = c.all_values-words.result.now in
+    let same : texts_of words ≡ values_of options (codes "where") = c.all_values-words.ensures in
     let cannot = c.can_write.ensures.cannot c.if-not-can_write.true in
     let found = ok_or_some c.parse_form.result BadValue c.in_ok-form.form c.ok_or.result c.ok_or.ensures.value c.in_ok-form.was in
     inl (

@@ -1,5 +1,4 @@
 use Rattle.std.proofs.Common.{[], ◌∷◌}
-use Rattle.bi_common.specs.CommonLines.{reservations_member}
 use Rattle.bi_common.specs.JsonTokens.{member_tokens}
 use Rattle.bi_common.proofs.WrittenTokens.{member_tokens-append}
 use Rattle.bi_report.specs.Checking.{allowed_by_default, concerns_member, kept_concerns}
@@ -17,10 +16,9 @@ returns g c =
     in_turn _ _ _ _ _ c.put.ensures
     (in_turn _ _ _ _ _
     (then _ _ _ (read_head_members content) _ c.put_head_members.ensures
-    (then _ _ _ (reservations_member content.blob.reservations ∷ []) _ (rw c.blob.ensures at c.put_reservations_member.ensures)
     (then _ _ _ (read_images_member content ∷ []) _ c.put_images_member.ensures
     (then _ _ _ (read_configurations_member content ∷ []) _ c.put_configurations_member.ensures
     (put_last puts member_tokens _ _
     (concerns_member (kept_concerns allowed_by_default (concerns_in (found_in_fit c.args.file.now content))) ∷ [])
-    (rw c.of_fit.ensures at c.put_concerns_member.ensures)))))).put
+    (rw c.of_fit.ensures at c.put_concerns_member.ensures))))).put
     c.put-2.ensures)

@@ -1,0 +1,147 @@
+use Rattle.std.proofs.Common.{◌≡◌, ◌↔◌, ◌⊎◌, ◌∙◌, ◌++◌, Bool, true, false, IsTrue, ℕ, List, [], ◌∷◌, codes, inl, inr, Option, None, Some, refl, sym, ap, subst, true≢false}
+use Rattle.std.proofs.lemmas.Grind.{flat_map-append}
+use Rattle.bi_base.specs.Limits.{Limits}
+use Rattle.bi_fit.specs.ImageTree.{ImageTree}
+use Rattle.bi_legacy.specs.Meaning.{LegacyImage}
+use Rattle.bi_norm.specs.Meaning.{Meaning, OfLegacy, OfFit}
+use Rattle.bi_norm.specs.declared.image.BootImage.{BootImage}
+use Rattle.bi_norm.specs.Reading.{IsReadBootImage, meaning_of}
+use Rattle.bi_norm.proofs.Comparisons.{opened_means}
+use Rattle.bi_common.specs.declared.format.Format.{Format}
+use Rattle.bi_common.specs.declared.format.Format.TheVariants.{Lines}
+use Rattle.bi_common.specs.CommonLines.{header_code_lines}
+use Rattle.bi_common.specs.LineTokens.{LineToken, line_tokens, tokens_of_lines}
+use Rattle.bi_common.specs.Lines.{Line, Text, Name, Hexadecimal}
+use Rattle.bi_describe.specs.declared.compare.CompareError.{CompareError}
+use Rattle.bi_describe.specs.declared.compare.CompareError.TheVariants.{OutOfMemory}
+use Rattle.bi_describe.specs.declared.compare.signed_lines.Sign.TheVariants.{Removed, Added}
+use Rattle.bi_describe.specs.declared.describe.kept.KeptImage.{KeptImage}
+use Rattle.bi_describe.specs.declared.describe.kept.KeptImage.TheVariants.{Legacy, Fit}
+use Rattle.bi_describe.specs.declared.describe.kept.legacy.KeptLegacy.{KeptLegacy}
+use Rattle.bi_describe.specs.declared.describe.kept.tree.KeptFit.{KeptFit}
+use Rattle.bi_describe.specs.Comparing.{IsDescribingError, IsReadingError, comparison_text, differences_or_reason, lines_to_compare, reason}
+use Rattle.bi_describe.specs.ComparingWithout.{AreComparedWithout, AreMeanings, IgnoringOptionsModel, IsComparisonWithout, IsIgnoringError}
+use Rattle.bi_describe.specs.ComparingWithout.{comparison_without, lines_without, text_without}
+use Rattle.bi_describe.specs.Describing.{CanBeDescribed}
+use Rattle.bi_describe.specs.Differences.{SignedLine, differences, text_of_differences}
+use Rattle.bi_describe.specs.Ignoring.{Ignored}
+use Rattle.bi_describe.specs.KeptImages.{IsKeptImage}
+use Rattle.bi_describe.specs.ReducedMeanings.{AreSameWithout, meaning_without, reduced_header_lines, reduced_lines, time_lines}
+use Rattle.bi_common.specs.Lines.{text_of_lines}
+use Rattle.bi_describe.proofs.ComparedImages.{memory_error, some_or, some_text}
+
+-- Two files that were read are compared without what is left out of both.
+
+-- What differs between images of one kind.
+abbrev stay_apart : List Ignored → (one other : Meaning) → List SignedLine
+stay_apart words one other = differences_or_reason (reduced_lines (meaning_without words one)) (reduced_lines (meaning_without words other))
+
+legacy_apart : (words : List Ignored) (one other : Meaning) (a b : KeptLegacy) → IsKeptImage (meaning_without words one) (Legacy a) →
+    IsKeptImage (meaning_without words other) (Legacy b) → stay_apart words one other ≡ comparison_without words one other
+legacy_apart words (OfLegacy one) (OfLegacy other) a b is also = refl
+legacy_apart words (OfLegacy one) (OfFit other) a b is also = absurd also
+legacy_apart words (OfFit one) other a b is also = absurd is
+
+fits_apart : (words : List Ignored) (one other : Meaning) (a b : KeptFit) → IsKeptImage (meaning_without words one) (Fit a) →
+    IsKeptImage (meaning_without words other) (Fit b) → stay_apart words one other ≡ comparison_without words one other
+fits_apart words (OfFit one) (OfFit other) a b is also = refl
+fits_apart words (OfFit one) (OfLegacy other) a b is also = absurd also
+fits_apart words (OfLegacy one) other a b is also = absurd is
+
+pub two_legacy_stay : (words : List Ignored) (one other : Meaning) (image others : KeptImage) (a b : KeptLegacy) → image ≡ Legacy a →
+    others ≡ Legacy b → IsKeptImage (meaning_without words one) image → IsKeptImage (meaning_without words other) others →
+    stay_apart words one other ≡ comparison_without words one other
+two_legacy_stay words one other image others a b is also kept other_kept =
+    legacy_apart words one other a b (subst (IsKeptImage (meaning_without words one)) is kept) (subst (IsKeptImage (meaning_without words other)) also other_kept)
+
+pub two_fits_stay : (words : List Ignored) (one other : Meaning) (image others : KeptImage) (a b : KeptFit) → image ≡ Fit a →
+    others ≡ Fit b → IsKeptImage (meaning_without words one) image → IsKeptImage (meaning_without words other) others →
+    stay_apart words one other ≡ comparison_without words one other
+two_fits_stay words one other image others a b is also kept other_kept =
+    fits_apart words one other a b (subst (IsKeptImage (meaning_without words one)) is kept) (subst (IsKeptImage (meaning_without words other)) also other_kept)
+
+-- What differs is not nothing.
+some_without : (words : List Ignored) (one other : Meaning) → text_of_differences (comparison_without words one other) ≡ [] → ⊥
+some_without words (OfLegacy one) (OfFit other) =
+    some_text (record { sign = Removed; text = codes "kind legacy" }) (record { sign = Added; text = codes "kind fit" } ∷ [])
+some_without words (OfFit one) (OfLegacy other) =
+    some_text (record { sign = Removed; text = codes "kind fit" }) (record { sign = Added; text = codes "kind legacy" } ∷ [])
+some_without words (OfLegacy one) (OfLegacy other) =
+    some_or (differences (lines_to_compare (reduced_lines (meaning_without words (OfLegacy one)))) (lines_to_compare
+    (reduced_lines (meaning_without words (OfLegacy other)))))
+    (reason (text_of_lines (reduced_lines (meaning_without words (OfLegacy one)))) (text_of_lines (reduced_lines (meaning_without words (OfLegacy other)))))
+some_without words (OfFit one) (OfFit other) =
+    some_or (differences (lines_to_compare (reduced_lines (meaning_without words (OfFit one)))) (lines_to_compare
+    (reduced_lines (meaning_without words (OfFit other)))))
+    (reason (text_of_lines (reduced_lines (meaning_without words (OfFit one)))) (text_of_lines (reduced_lines (meaning_without words (OfFit other)))))
+
+-- There are differences if and only if meanings are not the same.
+none_if_same : (words : List Ignored) (one other : Meaning) (same : Bool) →
+    (text_of_differences (lines_without words one other same) ≡ []) ↔ IsTrue same
+none_if_same words one other true = (λ empty. refl, λ is. refl)
+none_if_same words one other false =
+    (λ empty. absurd (some_without words one other empty), λ is. absurd (true≢false (sym is)))
+
+-- The result of comparing what stays.
+pub compared_without : (options : IgnoringOptionsModel) (one other : Meaning) (same : Bool) (text : List ℕ) →
+    IsTrue same ↔ AreSameWithout options.words one other →
+    text ≡ text_without options same (lines_without options.words one other same) → IsComparisonWithout options one other same text
+compared_without options one other same text is is_text = record {
+  is_same = is;
+  lines = lines_without options.words one other same;
+  are_lines = refl;
+  empty = none_if_same options.words one other same;
+  is_text = is_text;
+}
+
+-- What two files mean that were read.
+abbrev pub meanings_of : (limits : Limits) (one other : List ℕ) (image other_image : BootImage) → IsReadBootImage limits one image →
+    IsReadBootImage limits other other_image → AreMeanings limits one other
+meanings_of limits one other image other_image opened other_opened = record {
+  meaning = meaning_of image;
+  other_meaning = meaning_of other_image;
+  means = opened_means limits one image opened;
+  other_means = opened_means limits other other_image other_opened;
+}
+
+pub files_without : (options : IgnoringOptionsModel) (limits : Limits) (one other : List ℕ) (image other_image : BootImage)
+    (same : Bool) (text : List ℕ) → IsReadBootImage limits one image → IsReadBootImage limits other other_image →
+    CanBeDescribed Lines limits (meaning_of image) → CanBeDescribed Lines limits (meaning_of other_image) →
+    IsComparisonWithout options (meaning_of image) (meaning_of other_image) same text →
+    AreComparedWithout options limits one other same text
+files_without options limits one other image other_image same text opened other_opened described other_described differs = record {
+  are = meanings_of limits one other image other_image opened other_opened;
+  described = described;
+  other_described = other_described;
+  differs = differs;
+}
+
+-- The error of describing two files that were read.
+pub ignoring_error : (limits : Limits) (one other : List ℕ) (image other_image : BootImage) (error : CompareError) →
+    IsReadBootImage limits one image → IsReadBootImage limits other other_image →
+    (error ≡ OutOfMemory) ⊎ IsDescribingError limits (meaning_of image) (meaning_of other_image) error →
+    IsIgnoringError limits one other error
+ignoring_error limits one other image other_image error opened other_opened (inl memory) =
+    inl (memory_error limits one other image error opened memory)
+ignoring_error limits one other image other_image error opened other_opened (inr describing) =
+    inr (record { are = meanings_of limits one other image other_image opened other_opened; is_error = describing })
+
+-- ---- headers
+
+-- The lines of a header are put in four parts.
+abbrev first_lines : LegacyImage → List Line
+first_lines image = (Text (codes "kind") ∷ Text (codes "legacy") ∷ []) ∷ (Text (codes "name") ∷ Name image.name ∷ []) ∷ []
+
+abbrev number_lines : LegacyImage → List Line
+number_lines image = (Text (codes "load") ∷ Hexadecimal image.load ∷ []) ∷ (Text (codes "entry") ∷ Hexadecimal image.entry ∷ []) ∷ []
+
+pub header_in_parts : (image : LegacyImage) (time : Option ℕ) → tokens_of_lines (reduced_header_lines image time)
+    ≡ tokens_of_lines (first_lines image)
+    ++ (tokens_of_lines (time_lines time) ++ (tokens_of_lines (number_lines image) ++ tokens_of_lines (header_code_lines image)))
+header_in_parts image time =
+    let later : List Line = number_lines image ++ header_code_lines image in
+    flat_map-append line_tokens (first_lines image) (time_lines time ++ later)
+    ∙ ap (λ (tokens : List LineToken). tokens_of_lines (first_lines image) ++ tokens)
+    (flat_map-append line_tokens (time_lines time) later
+    ∙ ap (λ (tokens : List LineToken). tokens_of_lines (time_lines time) ++ tokens)
+    (flat_map-append line_tokens (number_lines image) (header_code_lines image)))

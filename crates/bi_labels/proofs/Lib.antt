@@ -1,0 +1,3 @@
+mod LinesInTexts
+pub mod DoneInTurn
+mod LabelFacts

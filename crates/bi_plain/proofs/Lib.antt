@@ -1,0 +1,15 @@
+pub mod Marks
+pub mod MarkedNames
+pub mod UsedNames
+pub mod AddedEntries
+pub mod ReadLists
+pub mod ChangedNodes
+pub mod OwnPayloads
+pub mod SortedEntries
+pub mod ReadProperties
+pub mod NodeNumbers
+pub mod MarkedSteps
+pub mod PlainPayloads
+pub mod LongNames
+pub mod PlainDocuments
+pub mod PlainTrees
