@@ -363,8 +363,8 @@ fn add_path_concerns<'a>(
     Ok(())
 }
 
-/// Adds the concerns about the parts that are not covered by the paths that a value lists, and about
-/// those paths that are not needed. Fails if memory runs out.
+/// Adds the concerns about the parts that are not covered by the paths that a value lists, and
+/// about those paths that are not needed. Fails if memory runs out.
 fn add_differences<'a>(
     alloc: Global,
     concerns: &mut Vec<SignatureConcern<'a>>,

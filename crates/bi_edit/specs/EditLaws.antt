@@ -39,7 +39,8 @@ EditsKeepPlainTrees =
 -- Edits of a flattened image tree make a flattened image tree, whose plain tree is the edited one.
 pub record EditsKeepImageTree (tree : ImageTree) (edits : List Edit) : Type 0 where
   pub is_tree : IsImageTree (edited_tree edits tree)
-  pub same : plain_root (edited_tree edits tree) ≡ root_after (plain_root tree) (in_edit_order edits)
+  pub same : plain_root (edited_tree edits tree)
+      ≡ root_after (plain_root tree) (in_edit_order edits)
 
 abbrev pub EditsKeepImageTrees : Type 0
 EditsKeepImageTrees =

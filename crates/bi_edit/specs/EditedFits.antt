@@ -44,15 +44,15 @@ pub record HasTooDeep (limits : Limits) (edits : List Edit) : Type 0 where
   pub there : Contains edits edit
   pub too_deep : IsTooDeep limits edit
 
--- The fault of edits: one of them is too deep, or the edited tree has a text that is longer than the
--- limit.
+-- The fault of edits: one of them is too deep, or the edited tree has a text that is longer than
+-- the limit.
 abbrev pub IsEditFault : Limits → ImageTree → List Edit → Fault → Type 0
 IsEditFault limits tree edits fault =
     ((fault ≡ record { cause = TooDeep; offset = 0 }) × HasTooDeep limits edits)
     ⊎ IsTextFault limits Embedded (edited_tree edits tree) fault
 
--- The error of edits: the first of them that finds nothing, by its index; their fault; or memory ran
--- out.
+-- The error of edits: the first of them that finds nothing, by its index; their fault; or memory
+-- ran out.
 abbrev pub IsEditError : Limits → ImageTree → List Edit → EditError → Type 0
 IsEditError limits tree edits (error.FindsNothing index) =
     (refused : Edit) × (slice_get edits index ≡ Some refused)

@@ -6,7 +6,8 @@ use Rattle.bi_base.specs.Cells.{cell}
 use Rattle.bi_base.specs.Limits.{Limits}
 use Rattle.bi_blob.specs.Tree.{Nodes, none, node, Root, PropertyMap}
 use Rattle.bi_tree.specs.Changes.{node_by_path, with_change_at, without_node_at}
-use Rattle.bi_tree.specs.Trees.{value_by_path, with_own_value, with_value_by_path, without_value_by_path}
+use Rattle.bi_tree.specs.Trees.{value_by_path, with_own_value}
+use Rattle.bi_tree.specs.Trees.{with_value_by_path, without_value_by_path}
 use Rattle.bi_fit.specs.ImageTree.{ImageTree, with_image_nodes}
 use Rattle.bi_fit.specs.Names.{data_name, timestamp_name}
 use Rattle.bi_fit.specs.Updating.{with_digests_of}
@@ -60,7 +61,8 @@ with_payload_digests (node name own children later) =
 abbrev pub edited_root : Root PropertyMap → Edit → Root PropertyMap
 edited_root root (RemoveNode path) = without_node_at path root
 edited_root root (RemoveProperty place) = without_value_by_path place.path place.name root
-edited_root root (SetProperty place value) = with_value_by_path place.path place.name value.items root
+edited_root root (SetProperty place value) =
+    with_value_by_path place.path place.name value.items root
 edited_root root (SetField value) = root
 edited_root root (SetPayload image payload) =
     with_change_at (image_path image) (with_own_value data_name payload.now) root

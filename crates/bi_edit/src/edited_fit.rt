@@ -75,9 +75,9 @@ impl From<ApplyError> for EditError {
 /// the same turn in their order. The text is accepted under the limits, and means the edited tree.
 /// Requires: the tree was read under these limits.
 ///
-/// Errors: TooDeep at 0, if an edit sets a property of a node with `limits.depth()` names or more in
-/// its path; FindsNothing for the first edit that finds nothing to remove, or no image to change;
-/// TooLarge at `limits.file()`, if the text is longer than that; OutOfMemory.
+/// Errors: TooDeep at 0, if an edit sets a property of a node with `limits.depth()` names or more
+/// in its path; FindsNothing for the first edit that finds nothing to remove, or no image to
+/// change; TooLarge at `limits.file()`, if the text is longer than that; OutOfMemory.
 pub fn edit_fit<'a>(
     alloc: Global,
     fit: &Fit<'a>,

@@ -2,8 +2,8 @@
 
 ghost use Rattle.bi_edit.specs.EditLaws.{EditsKeepImageTrees, EditsKeepPlainTrees};
 
-/// Edits of a plain tree make a plain tree. It is no deeper than a limit, if the tree is not, and no
-/// edit adds nodes that are.
+/// Edits of a plain tree make a plain tree. It is no deeper than a limit, if the tree is not, and
+/// no edit adds nodes that are.
 pub fn edits_keep_plain_trees()
     ensures { EditsKeepPlainTrees }
 {}

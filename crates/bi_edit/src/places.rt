@@ -36,8 +36,8 @@ impl Model for NodePath {
 }
 
 impl NodePath {
-    /// Returns the path with these names. Returns None if and only if one of them is not a name that
-    /// a child may have, or there are more than 63.
+    /// Returns the path with these names. Returns None if and only if one of them is not a name
+    /// that a child may have, or there are more than 63.
     pub fn new(names: Vec<Vec<u8>>) -> Option<NodePath>
         ensures some { IfSome result (λ path.
             (path ≡ names_of_path names.items) × IsNodePath path) }

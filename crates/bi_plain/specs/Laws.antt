@@ -32,8 +32,8 @@ abbrev pub EachPlainTreeIsOfImageTree : Type 0
 EachPlainTreeIsOfImageTree = (root : Root PropertyMap) (tree : ImageTree) → IsPlainTree root
     → IsImageTree tree → IsOfImageTree root tree
 
--- The text of a plain tree is accepted under limits that hold it, and means the flattened image tree
--- that the plain tree is of.
+-- The text of a plain tree is accepted under limits that hold it, and means the flattened image
+-- tree that the plain tree is of.
 abbrev pub PlainTreesReturn : Type 0
 PlainTreesReturn =
     (bounds : Limits) (root : Root PropertyMap) (tree : ImageTree) → IsPlainTree root

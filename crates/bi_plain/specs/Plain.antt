@@ -30,8 +30,8 @@ abbrev pub HasOnlyData : PropertyMap → Type 0
 HasOnlyData properties = (name : List ℕ) → is_payload_name name ≡ true → name ≢ data_name
     → get properties name ≡ None
 
--- What a tree must be so that it is the plain tree of a flattened image tree: names are names, names
--- and values are bytes, and there is a child `images`, whose children hold their payloads.
+-- What a tree must be so that it is the plain tree of a flattened image tree: names are names,
+-- names and values are bytes, and there is a child `images`, whose children hold their payloads.
 pub record IsPlainTree (root : Root PropertyMap) : Type 0 where
   pub is_tree : IsTree ArePropertiesByName root
   pub name_bytes : HaveByteNames root.children

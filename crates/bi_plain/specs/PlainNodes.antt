@@ -20,7 +20,8 @@ AreNumberedNodes names nodes = EachOwn (AreNumberedAmong names) (nodes_of_models
 
 -- Properties without those that hold a payload or name its region.
 abbrev pub without_payload_names : List TreePropertyModel → List TreePropertyModel
-without_payload_names properties = filter (λ property. not (is_payload_name property.name)) properties
+without_payload_names properties =
+    filter (λ property. not (is_payload_name property.name)) properties
 
 -- An image node with this payload, or none, as the value of `data`, and without the other
 -- properties that hold a payload or name its region.

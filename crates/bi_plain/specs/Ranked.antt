@@ -84,7 +84,8 @@ pub record AreRanked (sorted : List (List ℕ)) (ranks : List ℕ) (properties :
     : Type 0 where
   pub distinct : AreDistinct (own_property_names properties)
   pub ranked : AllByRecursion
-      (λ property. IsNumberOf sorted property.name (slice_index_or ranks property.number 0)) properties
+      (λ property. IsNumberOf sorted property.name (slice_index_or ranks property.number 0))
+      properties
 
 -- Properties by the ranks of their names, with their values.
 abbrev pub named_entries : List (List ℕ) → List (ℕ × Bor (List ℕ)) → List Property

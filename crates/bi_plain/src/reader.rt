@@ -114,8 +114,8 @@ fn read_properties<'a>(
     properties_of(alloc, node.property_count(), node.properties_in(order))
 }
 
-/// Returns these properties, each with the number that is its key. `count` is their number. Fails if
-/// memory runs out.
+/// Returns these properties, each with the number that is its key. `count` is their number. Fails
+/// if memory runs out.
 fn properties_of<'a>(
     alloc: Global,
     count: usize,

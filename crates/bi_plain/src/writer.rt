@@ -22,8 +22,8 @@ use std::alloc::{AllocError, Global};
 /// Returns the normal text of a tree, with the boot processor and the memory reservations of a
 /// blob. If the tree is the plain tree of a flattened image tree, the text is the normal text of
 /// that in the form Embedded. Takes n log n steps for n nodes and properties; names of 64 bytes or
-/// more are compared only if they are together no longer than `limits.file()`. Requires: they can be
-/// laid out, and at most 64 nodes are inside one another.
+/// more are compared only if they are together no longer than `limits.file()`. Requires: they can
+/// be laid out, and at most 64 nodes are inside one another.
 ///
 /// Errors: TooLarge at `limits.file()`, if the text is longer than that; OutOfMemory.
 pub fn write_plain_tree(

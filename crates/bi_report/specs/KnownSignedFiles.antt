@@ -64,7 +64,8 @@ abbrev pub signed_meaning : Root (List Property) → ImageTree
 signed_meaning root = record {
   cpu = 0;
   reservations = [];
-  root = tree_without_payloads (tree_without_order (tree_without_places (tree_with_places [] root)));
+  root = tree_without_payloads
+      (tree_without_order (tree_without_places (tree_with_places [] root)));
   payloads = Some (codes "abc") ∷ Some (codes "abc") ∷ Some (codes "abc") ∷ [];
 }
 
@@ -129,7 +130,8 @@ pub record SignedFileIsKnown : Type 0 where
   pub uncovered : lines_with (recording (first_needed_paths (codes "kernel-1")) 85)
       ≡ lines (third_line ∷ [])
   pub image_alone :
-      lines_with (recording (first_needed_paths (codes "kernel-1") ++ codes "/images/ramdisk-1" ∷ []) 85)
+      lines_with
+      (recording (first_needed_paths (codes "kernel-1") ++ codes "/images/ramdisk-1" ∷ []) 85)
       ≡ lines (third_line ∷ [])
   pub covered : lines_with (recording all_paths 85) ≡ []
   pub no_strings : lines_with (signature_and ((hashed_nodes_name, list_value all_paths) ∷ []))

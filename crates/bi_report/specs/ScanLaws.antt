@@ -26,8 +26,8 @@ ScannedImagesAreWhole =
     → IsImageAt limits input offset extent meaning
     → IsWholeImage limits input offset extent meaning
 
--- Of the images that are found at offsets, there is one for each image that is accepted at an offset
--- of an input, and no other.
+-- Of the images that are found at offsets, there is one for each image that is accepted at an
+-- offset of an input, and no other.
 pub record HasEachImage (limits : Limits) (input : List ℕ) (found : List (List ScannedImage))
     : Type 0
   where

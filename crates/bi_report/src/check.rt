@@ -313,7 +313,8 @@ pub fn check_to<R: Read, W: Write>(
     limits: Limits,
 ) -> Result<bool, Error>
     ensures { IsPiped (check_promise Lines (allowed_under policy) limits) limits
-        (R.remaining reader.old) (R.remaining reader.new) (W.contents writer.old) (W.contents writer.new) result }
+        (R.remaining reader.old) (R.remaining reader.new)
+        (W.contents writer.old) (W.contents writer.new) result }
 {
     let checker = Checker {
         policy,
@@ -332,7 +333,8 @@ pub fn check_json_to<R: Read, W: Write>(
     limits: Limits,
 ) -> Result<bool, Error>
     ensures { IsPiped (check_promise Json (allowed_under policy) limits) limits
-        (R.remaining reader.old) (R.remaining reader.new) (W.contents writer.old) (W.contents writer.new) result }
+        (R.remaining reader.old) (R.remaining reader.new)
+        (W.contents writer.old) (W.contents writer.new) result }
 {
     let checker = Checker {
         policy,

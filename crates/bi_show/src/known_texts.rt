@@ -31,8 +31,8 @@ pub fn pages_are_known()
     bi_legacy::laws::one_meaning();
 }
 
-/// Values of properties are texts or numbers in JSON, or none; codes are names that can be given, or
-/// numbers.
+/// Values of properties are texts or numbers in JSON, or none; codes are names that can be given,
+/// or numbers.
 pub fn object_values_are_known()
     ensures { ObjectValuesAreKnown }
 {}

@@ -75,9 +75,11 @@ two_property_node x = record {
 
 -- A property that is there keeps its place, and one that is added is the last.
 pub record ChangesOfPropertiesAreKnown : Type 0 where
-  pub value : with_own_property (known_property (codes "x") 0 (codes "9")) (two_property_node (codes "1"))
+  pub value :
+      with_own_property (known_property (codes "x") 0 (codes "9")) (two_property_node (codes "1"))
       ≡ two_property_node (codes "9")
-  pub addition : with_own_property (known_property (codes "a") 2 (codes "3")) (two_property_node (codes "1"))
+  pub addition :
+      with_own_property (known_property (codes "a") 2 (codes "3")) (two_property_node (codes "1"))
       ≡ record {
         own = known_property (codes "x") 0 (codes "1") ∷ known_property (codes "y") 1 (codes "2")
             ∷ known_property (codes "a") 2 (codes "3") ∷ [];

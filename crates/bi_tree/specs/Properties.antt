@@ -16,7 +16,8 @@ pub record TreePropertyModel : Type 0 where
 -- How a property is stored.
 abbrev pub property_code : Coded TreePropertyModel
 property_code =
-    code_by (List ℕ × (ℕ × List ℕ)) (coded× (coded_list coded_ℕ) (coded× coded_ℕ (coded_list coded_ℕ)))
+    code_by (List ℕ × (ℕ × List ℕ))
+    (coded× (coded_list coded_ℕ) (coded× coded_ℕ (coded_list coded_ℕ)))
     (λ property. (property.name, (property.number, property.value)))
     (λ parts. record { name = parts.0; number = parts.1.0; value = parts.1.1 })
     (λ _. refl)
@@ -67,4 +68,5 @@ without_own_property name root = record root { own = without_property_in name ro
 -- there.
 abbrev pub with_property_at : (path : List (List ℕ)) → TreePropertyModel
     → Root (List TreePropertyModel) → Root (List TreePropertyModel)
-with_property_at path new root = with_change_at path (with_own_property new) (with_node_at [] path root)
+with_property_at path new root =
+    with_change_at path (with_own_property new) (with_node_at [] path root)

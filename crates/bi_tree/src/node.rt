@@ -88,9 +88,9 @@ impl<'a> TreeNode<'a> {
         value_of(&self.properties, name)
     }
 
-    /// Puts a property into the node at a path below this one, in the place of the property with its
-    /// name, or as the last. Nodes of the path that are not there are added, each as the last child
-    /// of its parent.
+    /// Puts a property into the node at a path below this one, in the place of the property with
+    /// its name, or as the last. Nodes of the path that are not there are added, each as the last
+    /// child of its parent.
     ///
     /// Fails if memory runs out. Some of those nodes may then have been added, and nothing else is
     /// changed.

@@ -21,7 +21,8 @@ pub struct TreeProperty<'a> {
     pub value: CowSlice<'a, u8, Global>,
 }
 
-/// Returns the value of the first of these properties with this name. Returns None if there is none.
+/// Returns the value of the first of these properties with this name. Returns None if there is
+/// none.
 pub(crate) fn value_of<'b>(properties: &'b [TreeProperty<'_>], name: &[u8]) -> Option<&'b [u8]>
     ensures { option_map (λ value. value.now) result
         ≡ first_value (tree_properties properties.now) name.now }

@@ -24,9 +24,9 @@ use std::alloc::Global;
 /// Returns the values with these names of a boot image, in their order and in a form.
 ///
 /// Errors, the first that applies: Failed with the error of `BootImage::read`; then for each name
-/// in order WrongKind, if a field is named of a FIT, or a property of a legacy image; NoProperty, if
-/// no node has the path, or the node has no such property, where an image node has none of the four
-/// properties that hold its payload or name its region; NoText; NoNumber. Failed
+/// in order WrongKind, if a field is named of a FIT, or a property of a legacy image; NoProperty,
+/// if no node has the path, or the node has no such property, where an image node has none of the
+/// four properties that hold its payload or name its region; NoText; NoNumber. Failed
 /// with OutOfMemory occurs only for a legacy image, or for a file whose header and memory
 /// reservation block, as those of a blob, have no fault.
 pub fn get(

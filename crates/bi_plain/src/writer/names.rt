@@ -80,8 +80,8 @@ fn used_names<'a>(
     keep_marked(alloc, names, &marks)
 }
 
-/// Sets the marks at the numbers of the names of the properties of a node, and of those of all nodes
-/// below it. Requires: there is a mark for each.
+/// Sets the marks at the numbers of the names of the properties of a node, and of those of all
+/// nodes below it. Requires: there is a mark for each.
 fn mark_node(node: &TreeNode<'_>, marks: &mut [bool])
     requires { AllByRecursion (λ number. number < length marks.old)
         (all_numbers (as_nodes (below node.now))) }

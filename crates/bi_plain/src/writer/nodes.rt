@@ -36,7 +36,8 @@ pub(super) fn add_node<'a, 'b>(
 where
     'a: 'b,
     requires in_order { IsStrictlySortedBy (slice_cmp nat_cmp) doc.old.names }
-    requires ranked { AreRankedNodes doc.old.names ranks.now (alone_named name.now (below node.now)) }
+    requires ranked { AreRankedNodes doc.old.names ranks.now
+        (alone_named name.now (below node.now)) }
     requires may { MayAdd doc.old
         (events (sorted_models (alone_named name.now (below node.now)))) }
     ensures added { OnOk result (doc.new ≡ with_events doc.old
@@ -51,8 +52,9 @@ where
 }
 
 /// Begins a node with this name and these properties, as a child of the innermost open node or as
-/// the root. Requires: the names of the document are in byte order, each once, and have these ranks;
-/// no two of the properties have the same name; and the node and they may come next in the document.
+/// the root. Requires: the names of the document are in byte order, each once, and have these
+/// ranks; no two of the properties have the same name; and the node and they may come next in the
+/// document.
 fn begin_node<'b>(
     alloc: Global,
     doc: &mut Doc<'b>,
@@ -114,8 +116,8 @@ fn rank_at(ranks: &[usize], number: usize) -> usize
     ranks.get(number).copied().unwrap_or(0)
 }
 
-/// Adds properties to the innermost open node. Each is given by the rank of its name, and its value.
-/// Requires: they may come next in the document.
+/// Adds properties to the innermost open node. Each is given by the rank of its name, and its
+/// value. Requires: they may come next in the document.
 fn add_entries<'a>(doc: &mut Doc<'a>, entries: &[(usize, &'a [u8])]) -> Result<(), AllocError>
     requires { MayAdd doc.old (map NodeProperty (named_entries doc.old.names entries.now)) }
     ensures { OnOk result (doc.new ≡ with_events doc.old

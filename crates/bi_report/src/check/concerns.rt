@@ -126,7 +126,8 @@ impl<'a, 'b> Iterator for Concerns<'a, 'b> {
 fn next_of_images<'a, 'b>(
     concerns: &mut Option<AllImageConcerns<'a, 'b>>,
 ) -> Option<Concern<'a, 'b>>
-    ensures { YieldsFirstBy found_value (left_or_none images_left) concerns.old result concerns.new }
+    ensures { YieldsFirstBy found_value (left_or_none images_left)
+        concerns.old result concerns.new }
 {
     match concerns {
         Some(concerns) => concerns.next(),

@@ -576,7 +576,8 @@ static READING_COMMANDS: [CommandText; 4] = [
         after_help: "\
                  Reads an image, and writes to standard output a page for a person, in aligned\n\
                  columns: what the image is, its date and size; its parts or payloads, with the\n\
-                 verdict on each hash node; its configurations; its signature nodes, which are not\n\
+                 verdict on each hash node; its configurations; its signature nodes, which are \
+                 not\n\
                  verified, with what each of them covers; with --layout, the regions of the file\n\
                  by their offsets, padding and free space too; and last the lines of check. The\n\
                  form of the page may change with each version: for scripts is --json, which\n\
@@ -635,7 +636,8 @@ static CHECKING_COMMANDS: [CommandText; 4] = [
                  different kinds differ, whatever is left out.\n\n\
                  The exit status is 0 if both mean the same thing, and 1 if they do not.\n\n\
                  Example: bootimg compare yesterday.itb today.itb\n\
-                 Example: bootimg compare --ignore time --ignore '/images/kernel-1 load' a.itb b.itb",
+                 Example: bootimg compare --ignore time \
+                 --ignore '/images/kernel-1 load' a.itb b.itb",
         options: &[IGNORE, QUIET, JSON, LIMIT, OUTPUT, ONE, OTHER],
     },
     CommandText {
@@ -662,7 +664,8 @@ static CHECKING_COMMANDS: [CommandText; 4] = [
                  is not protected: nothing if all is. The first word of a line is its kind:\n\n\
                  \x20 bad-hash      the verdict on a hash node is not good\n\
                  \x20 skipped-hash  U-Boot skips a hash node, which has uboot-ignore\n\
-                 \x20 unhashed      an image with a payload has no good hash node but skipped ones\n\
+                 \x20 unhashed      an image with a payload has no good hash node but \
+                 skipped ones\n\
                  \x20 weak-hash     it has good ones, and none of SHA-256, SHA-384 or SHA-512\n\
                  \x20 bad-list      a value in a configuration is not a list of names\n\
                  \x20 missing       a configuration lists an image that is not there\n\
