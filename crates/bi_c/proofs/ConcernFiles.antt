@@ -21,7 +21,8 @@ use Rattle.bi_fit.proofs.FileConfigurations.{default_is}
 use Rattle.bi_report.specs.declared.check.Allowed.{Allowed}
 use Rattle.bi_norm.proofs.NormalForms.{needs_memory}
 use Rattle.bi_report.specs.CheckedFiles.{IsCheckError}
-use Rattle.bi_report.specs.Checking.{BadDefault, BadKey, Concern, MissingImage, OfSignature, SkippedHash, TrailingBytes, UnhashedImage, UnitAddress}
+use Rattle.bi_report.specs.Checking.{BadDefault, BadKey, Concern, MissingImage, OfSignature, SkippedHash, TrailingBytes, UnhashedImage}
+use Rattle.bi_report.specs.Checking.{UnitAddress}
 use Rattle.bi_report.specs.Checking.{Unsigned, WeakHash, BadHash, absence_concerns, address_concerns, allows, coverage_concerns}
 use Rattle.bi_report.specs.Checking.{default_concerns, is_good, signature_concerns, unsigned_concerns}
 use Rattle.bi_report.specs.Checking.{is_strong, kept_concerns, kind_of, list_concerns, names_one_of, payload_concerns}

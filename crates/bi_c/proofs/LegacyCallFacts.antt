@@ -362,7 +362,8 @@ module _ (one_legacy : OneLegacyMeaning) where
   unfolding header cell
   found_is found (InLegacyImage image read is) =
       is
-      ∙ ap (λ n. record { concern = Unsigned None; subject = NamedNodes } ∷ found_in_rest (drop (length kernel_file_with_rest - n) kernel_file_with_rest)) (seven_unused image read)
+      ∙ ap (λ n. record { concern = Unsigned None; subject = NamedNodes } ∷ found_in_rest
+      (drop (length kernel_file_with_rest - n) kernel_file_with_rest)) (seven_unused image read)
   found_is found (InImageTree content read is) =
       absurd (one_kind kernel_file_with_rest kernel_image (tree_of content) kernel_with_rest_means.is_file read.means.is_file)
 

@@ -29,4 +29,5 @@ kept_differences described others one other lines other_lines found all text oth
     ∙ ap (λ found. lines_or found line)
     (is_found ∙ ap (λ lines. differences lines other_lines) own ∙ ap (differences (lines_to_compare described)) rest)
     ∙ ap (lines_or (differences (lines_to_compare described) (lines_to_compare others)))
-    (is_line ∙ ap (λ text. reason text other_text) (is_text ∙ kept.text) ∙ ap (reason (text_of_lines described)) (is_other ∙ other_kept.text))
+    (is_line ∙ ap (λ text. reason text other_text) (is_text ∙ kept.text) ∙ ap (reason (text_of_lines described))
+    (is_other ∙ other_kept.text))

@@ -2,8 +2,10 @@ use Rattle.std.proofs.Common.{◌≡◌, ℕ, Bool, true, false, cond, List, [],
 use Rattle.std.specs.Option.{option_map}
 use Rattle.bi_blob.specs.Tree.{Nodes, none, node, PropertyMap, with_each}
 use Rattle.bi_fit.specs.Names.{images_name}
-use Rattle.bi_describe.specs.ComparedNodes.{ComparedNode, compared_children, compared_images, nodes_to_compare, described_node, plain_compared}
-use Rattle.bi_describe.specs.Descriptions.{DescribedNode, OfImage, described_children, described_images, described_nodes, digest_of_payload, plain_node}
+use Rattle.bi_describe.specs.ComparedNodes.{ComparedNode, compared_children, compared_images, nodes_to_compare, described_node}
+use Rattle.bi_describe.specs.ComparedNodes.{plain_compared}
+use Rattle.bi_describe.specs.Descriptions.{DescribedNode, OfImage, described_children, described_images, described_nodes}
+use Rattle.bi_describe.specs.Descriptions.{digest_of_payload, plain_node}
 
 -- The nodes of a tree as they are compared are described as in a description.
 

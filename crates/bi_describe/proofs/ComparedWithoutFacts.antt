@@ -1,4 +1,5 @@
-use Rattle.std.proofs.Common.{◌≡◌, ◌↔◌, ◌∙◌, ℕ, Bool, true, false, IsTrue, List, [], ◌∷◌, codes, inl, inr, lit≤, lit<, refl, sym, ap, arith, true≢false}
+use Rattle.std.proofs.Common.{◌≡◌, ◌↔◌, ◌∙◌, ℕ, Bool, true, false, IsTrue, List, [], ◌∷◌, codes, inl, inr, lit≤, lit<, refl, sym, ap}
+use Rattle.std.proofs.Common.{arith, true≢false}
 use Rattle.std.specs.Fmt.{digits}
 use Rattle.bi_base.specs.Limits.{widest}
 use Rattle.bi_legacy.specs.KnownFaults.{limited_to}
@@ -14,7 +15,8 @@ use Rattle.bi_describe.specs.ReducedMeanings.{AreSameWithout}
 use Rattle.bi_describe.specs.Ignoring.{IgnoredPart, IgnoredTime}
 use Rattle.bi_describe.specs.KnownComparedWithout.{ComparedWithoutIsKnown, IgnoredValuesAreKnown, IgnoringErrorsAreKnown}
 use Rattle.bi_describe.specs.KnownRefusals.{longer_meaning}
-use Rattle.bi_describe.proofs.DescribedFileFacts.{bare, tree_of_bare_file, both_differ, image_count, new_lines, only_bare, only_smallest, small, tree_of_smallest_text}
+use Rattle.bi_describe.proofs.DescribedFileFacts.{bare, tree_of_bare_file, both_differ, image_count, new_lines, only_bare, only_smallest}
+use Rattle.bi_describe.proofs.DescribedFileFacts.{small, tree_of_smallest_text}
 use Rattle.bi_describe.proofs.IgnoredFacts.{ignored_words_are_known}
 use Rattle.bi_describe.proofs.NothingLeftOut.{nothing_left_out_compares}
 use Rattle.bi_describe.proofs.RefusalFacts.{description_bounds_are_known, kernel_means_within, reading_errors_are_known}
@@ -34,7 +36,8 @@ module _ (one_legacy : OneLegacyMeaning) where
   }
 
   whole : AreComparedWhole (OfFit tree_of_smallest_text) (OfFit tree_of_bare_file)
-  whole = nothing_left_out_compares widest widest smallest_text bare_file (OfFit tree_of_smallest_text) (OfFit tree_of_bare_file) smallest_means bare_means
+  whole = nothing_left_out_compares widest widest smallest_text bare_file (OfFit tree_of_smallest_text) (OfFit tree_of_bare_file)
+      smallest_means bare_means
 
   differ : IsTrue false ↔ AreSameWithout [] (OfFit tree_of_smallest_text) (OfFit tree_of_bare_file)
   differ = (λ no. absurd (true≢false (sym no)), λ same. absurd (omega (arith, ap image_count (whole.is_same.0 same))))

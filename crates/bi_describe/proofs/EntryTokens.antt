@@ -84,7 +84,8 @@ root_tokens tree =
     (flat_map-append entry_tokens own (node_entries nodes)
     ∙ ap (λ (tokens : List JsonToken). tokens_of own ++ tokens) (tokens_of_nodes nodes))
     ∙ append_assoc (tokens_of own) (value_tokens (node_objects (as_described nodes))) (entry_tokens NodeEnds)
-    ∙ ap (λ (end : List JsonToken). tokens_of own ++ (value_tokens (node_objects (as_described nodes)) ++ end)) (sym (append-nil (entry_tokens NodeEnds)))
+    ∙ ap (λ (end : List JsonToken). tokens_of own ++ (value_tokens (node_objects (as_described nodes)) ++ end))
+    (sym (append-nil (entry_tokens NodeEnds)))
     ∙ own_tokens (plain_compared tree.root.own) (node_objects (as_described nodes)) []
     ∙ ap (λ (end : List JsonToken). member_tokens (node_members (plain_node tree.root.own) (node_objects (as_described nodes))) ++ end)
     (append-nil (one EndObject))

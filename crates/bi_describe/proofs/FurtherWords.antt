@@ -1,4 +1,5 @@
-use Rattle.std.proofs.Common.{◌≡◌, ℕ, Bool, true, false, not, cond, List, [], ◌∷◌, ◌++◌, Option, Some, None, flat_map, refl, sym, ap, ap₂, ◌∙◌}
+use Rattle.std.proofs.Common.{◌≡◌, ℕ, Bool, true, false, not, cond, List, [], ◌∷◌, ◌++◌, Option, Some, None, flat_map, refl, sym, ap, ap₂}
+use Rattle.std.proofs.Common.{◌∙◌}
 use Rattle.std.specs.Prelude.{◌||◌}
 use Rattle.std.specs.FinMap.{get, get-retain_keys, retain_keys}
 use Rattle.std.specs.List.{list_any}
@@ -105,7 +106,8 @@ root_kept words more root = by (is_node_ignored words []) (is_node_ignored more 
 parts_kept : (words more : List Ignored) (parts : List (ℕ × List ℕ)) →
     flat_map (kept_part more) (flat_map (kept_part words) parts) ≡ flat_map (kept_part (words ++ more)) parts
 parts_kept words more [] = refl
-parts_kept words more (part ∷ later) = by (is_part_ignored words part.0) (is_part_ignored more part.0) refl refl (parts_kept words more later)
+parts_kept words more (part ∷ later) = by (is_part_ignored words part.0) (is_part_ignored more part.0) refl refl
+    (parts_kept words more later)
   where
     all : (one other : Bool) → is_part_ignored words part.0 ≡ one → is_part_ignored more part.0 ≡ other →
         is_part_ignored (words ++ more) part.0 ≡ (one || other)

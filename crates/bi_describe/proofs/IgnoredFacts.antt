@@ -1,4 +1,5 @@
-use Rattle.std.proofs.Common.{◌≡◌, ◌≢◌, ℕ, Bool, true, false, List, [], ◌∷◌, ◌++◌, Contains, Option, None, Some, codes, inl, inr, lit≤, lit<, map, refl, sym, ap, subst, ◌∙◌, true≢false}
+use Rattle.std.proofs.Common.{◌≡◌, ◌≢◌, ℕ, Bool, true, false, List, [], ◌∷◌, ◌++◌, Contains, Option, None, Some, codes, inl, inr, lit≤}
+use Rattle.std.proofs.Common.{lit<, map, refl, sym, ap, subst, ◌∙◌, true≢false}
 use Rattle.std.specs.Fmt.{digits}
 use Rattle.std.specs.List.{AllByRecursion, AllZip, slice_split}
 use Rattle.std.specs.Prelude.{◌==◌}
@@ -12,7 +13,8 @@ use Rattle.bi_values.specs.ValueNames.{IsChildNameOfBytes}
 use Rattle.bi_values.proofs.Steps.{path_begins}
 use Rattle.bi_common.proofs.ReadableWords.Cuts.{begin_apart, later_same}
 use Rattle.bi_describe.specs.ComparedNodes.{ComparedNode, ComparedPayload, ImageWith, NoImage}
-use Rattle.bi_describe.specs.IgnoredWords.{AreNoPlainWords, IsBadIgnoredValue, IsNoPlainWord, IsNoWordWithPath, IsPlain, IsPlainWord, ignored_text, payload_path}
+use Rattle.bi_describe.specs.IgnoredWords.{AreNoPlainWords, IsBadIgnoredValue, IsNoPlainWord, IsNoWordWithPath, IsPlain, IsPlainWord}
+use Rattle.bi_describe.specs.IgnoredWords.{ignored_text, payload_path}
 use Rattle.bi_describe.specs.IgnoredWords.{path_in, place_path}
 use Rattle.bi_describe.specs.Ignoring.{Ignored, IgnoredTime, IgnoredSignatures, IgnoredNode, IgnoredProperty, IgnoredPart, Inside, Itself}
 use Rattle.bi_describe.specs.Ignoring.{OfImageNamed, OfPart, NodePlace, PayloadPlace, TreePlace}
@@ -34,9 +36,23 @@ trees_that_stay_are_known = record {
   no_image = rw (entries_kept, entries_kept, sorted_entries timestamp_alone tt, no_entries) refl;
   no_images = rw (entries_kept, entries_kept, sorted_entries timestamp_alone tt, no_entries) refl;
   no_root = refl;
-  no_property = rw (entries_kept, entries_kept, entries_kept, sorted_entries timestamp_alone tt, sorted_entries only_load tt, no_entries) refl;
+  no_property = rw (
+    entries_kept,
+    entries_kept,
+    entries_kept,
+    sorted_entries timestamp_alone tt,
+    sorted_entries only_load tt,
+    no_entries,
+  ) refl;
   no_time = rw (entries_kept, entries_kept, entries_kept, sorted_entries timestamp_alone tt, sorted_entries only_load tt, no_entries) refl;
-  no_signatures = rw (entries_kept, entries_kept, entries_kept, sorted_entries timestamp_alone tt, sorted_entries only_load tt, no_entries) refl;
+  no_signatures = rw (
+    entries_kept,
+    entries_kept,
+    entries_kept,
+    sorted_entries timestamp_alone tt,
+    sorted_entries only_load tt,
+    no_entries,
+  ) refl;
   nothing = rw (entries_kept, entries_kept, entries_kept, sorted_entries timestamp_alone tt, sorted_entries only_load tt, no_entries) refl;
 }
 
@@ -86,7 +102,8 @@ same_without_is_known = record {
   no_part = refl;
   other_part = λ same. begin_apart 97 99 [] [] refl (ap first_part same);
   no_image = refl;
-  payload = λ same. begin_apart 99 100 [] [] refl (later_same (later_same (same_bytes (codes "abc") (codes "abd") (ap first_payload same))));
+  payload = λ same. begin_apart 99 100 [] [] refl
+      (later_same (later_same (same_bytes (codes "abc") (codes "abd") (ap first_payload same))));
   kinds = λ same. true≢false (ap is_of_legacy same);
 }
 
@@ -116,7 +133,7 @@ module _ (text : List ℕ) (no_slash : (later : List ℕ) → text ≢ 47 ∷ la
   no_word : AllByRecursion (λ byte. byte ≢ 32) text → IsNoWordWithPath text
   no_word plain = no_node_word text plain (λ index small same. no_part _ (sym same)) no_place
 
--- A text that is no word without a path, among those of a value.
+-- A value is bad if one of its texts is not a word without a path.
 bad_by : (value text : List ℕ) → Contains (slice_split (λ byte. byte == 44) value) text → IsNoPlainWord text → IsNoWordWithPath value →
     IsBadIgnoredValue value
 bad_by value text has no_plain no_path =
@@ -169,7 +186,8 @@ ignored_words_are_known = record {
   no_last = bad_by (codes "time,") [] (Contains-others (codes "time") ([] ∷ []) [] (Contains-first [] [])) no_empty_word
       (no_word (codes "time,") (λ later e. begin_apart 116 47 _ _ refl e) (λ later e. begin_apart 116 112 _ _ refl e)
       (time_and_comma [] tt));
-  path_after = bad_by (codes "time,/") (codes "/") (Contains-others (codes "time") (codes "/" ∷ []) (codes "/") (Contains-first (codes "/") []))
+  path_after = bad_by (codes "time,/") (codes "/")
+      (Contains-others (codes "time") (codes "/" ∷ []) (codes "/") (Contains-first (codes "/") []))
       (no_plain_word (codes "/") (λ e. begin_apart 116 47 _ _ refl e) (λ e. begin_apart 115 47 _ _ refl e))
       (no_word (codes "time,/") (λ later e. begin_apart 116 47 _ _ refl e) (λ later e. begin_apart 116 112 _ _ refl e)
       (time_and_comma (codes "/") (λ e. absurd cc, tt)));

@@ -1,4 +1,5 @@
-use Rattle.std.proofs.Common.{◌≡◌, ◌↔◌, ◌⊎◌, ◌∙◌, ◌++◌, Bool, true, false, IsTrue, ℕ, List, [], ◌∷◌, codes, inl, inr, Option, None, Some, refl, sym, ap, subst, true≢false}
+use Rattle.std.proofs.Common.{◌≡◌, ◌↔◌, ◌⊎◌, ◌∙◌, ◌++◌, Bool, true, false, IsTrue, ℕ, List, [], ◌∷◌, codes, inl, inr, Option, None, Some}
+use Rattle.std.proofs.Common.{refl, sym, ap, subst, true≢false}
 use Rattle.std.proofs.lemmas.Grind.{flat_map-append}
 use Rattle.bi_base.specs.Limits.{Limits}
 use Rattle.bi_fit.specs.ImageTree.{ImageTree}
@@ -32,7 +33,7 @@ use Rattle.bi_describe.proofs.ComparedImages.{memory_error, some_or, some_text}
 
 -- Two files that were read are compared without what is left out of both.
 
--- What differs between images of one kind.
+-- What differs between two images of the same kind.
 abbrev stay_apart : List Ignored → (one other : Meaning) → List SignedLine
 stay_apart words one other = differences_or_reason (reduced_lines (meaning_without words one)) (reduced_lines (meaning_without words other))
 
@@ -52,13 +53,15 @@ pub two_legacy_stay : (words : List Ignored) (one other : Meaning) (image others
     others ≡ Legacy b → IsKeptImage (meaning_without words one) image → IsKeptImage (meaning_without words other) others →
     stay_apart words one other ≡ comparison_without words one other
 two_legacy_stay words one other image others a b is also kept other_kept =
-    legacy_apart words one other a b (subst (IsKeptImage (meaning_without words one)) is kept) (subst (IsKeptImage (meaning_without words other)) also other_kept)
+    legacy_apart words one other a b (subst (IsKeptImage (meaning_without words one)) is kept)
+    (subst (IsKeptImage (meaning_without words other)) also other_kept)
 
 pub two_fits_stay : (words : List Ignored) (one other : Meaning) (image others : KeptImage) (a b : KeptFit) → image ≡ Fit a →
     others ≡ Fit b → IsKeptImage (meaning_without words one) image → IsKeptImage (meaning_without words other) others →
     stay_apart words one other ≡ comparison_without words one other
 two_fits_stay words one other image others a b is also kept other_kept =
-    fits_apart words one other a b (subst (IsKeptImage (meaning_without words one)) is kept) (subst (IsKeptImage (meaning_without words other)) also other_kept)
+    fits_apart words one other a b (subst (IsKeptImage (meaning_without words one)) is kept)
+    (subst (IsKeptImage (meaning_without words other)) also other_kept)
 
 -- What differs is not nothing.
 some_without : (words : List Ignored) (one other : Meaning) → text_of_differences (comparison_without words one other) ≡ [] → ⊥
@@ -69,11 +72,13 @@ some_without words (OfFit one) (OfLegacy other) =
 some_without words (OfLegacy one) (OfLegacy other) =
     some_or (differences (lines_to_compare (reduced_lines (meaning_without words (OfLegacy one)))) (lines_to_compare
     (reduced_lines (meaning_without words (OfLegacy other)))))
-    (reason (text_of_lines (reduced_lines (meaning_without words (OfLegacy one)))) (text_of_lines (reduced_lines (meaning_without words (OfLegacy other)))))
+    (reason (text_of_lines (reduced_lines (meaning_without words (OfLegacy one))))
+    (text_of_lines (reduced_lines (meaning_without words (OfLegacy other)))))
 some_without words (OfFit one) (OfFit other) =
     some_or (differences (lines_to_compare (reduced_lines (meaning_without words (OfFit one)))) (lines_to_compare
     (reduced_lines (meaning_without words (OfFit other)))))
-    (reason (text_of_lines (reduced_lines (meaning_without words (OfFit one)))) (text_of_lines (reduced_lines (meaning_without words (OfFit other)))))
+    (reason (text_of_lines (reduced_lines (meaning_without words (OfFit one))))
+    (text_of_lines (reduced_lines (meaning_without words (OfFit other)))))
 
 -- There are differences if and only if meanings are not the same.
 none_if_same : (words : List Ignored) (one other : Meaning) (same : Bool) →

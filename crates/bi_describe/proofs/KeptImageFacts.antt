@@ -57,7 +57,7 @@ trees_same tree others one other is also = (
   )),
 )
 
--- Meanings of one kind are the same if and only if what they are of is.
+-- Reduced meanings of legacy images are the same only if the reduced images are.
 same_of_legacy : (one other : ReducedLegacy) → OfReducedLegacy one ≡ OfReducedLegacy other → one ≡ other
 same_of_legacy one other same = cc
 
@@ -70,7 +70,7 @@ legacy_as_meanings one other = (ap OfReducedLegacy, same_of_legacy one other)
 pub trees_as_meanings : (one other : ReducedTree) → (one ≡ other) ↔ (OfReducedTree one ≡ OfReducedTree other)
 trees_as_meanings one other = (ap OfReducedTree, same_of_tree one other)
 
--- The same of images of one kind.
+-- Whether two legacy images are the same decides whether their meanings are.
 pub legacy_images_same : (result : Bool) (one other : KeptImage) (a b : KeptLegacy) → one ≡ Legacy a → other ≡ Legacy b →
     ((image others : ReducedLegacy) → IsKeptLegacy image a → IsKeptLegacy others b → IsTrue result ↔ (image ≡ others)) →
     (meaning other_meaning : ReducedMeaning) → IsKeptImage meaning one → IsKeptImage other_meaning other →

@@ -12,7 +12,7 @@ use Rattle.bi_fit.proofs.PayloadProperties.{same}
 -- Properties that are kept by their names are those, in the same order: for example those of an image node without the ones that hold a
 -- payload or name its region.
 
--- Names that no order tells apart are both kept or both not.
+-- Of two names that compare as equal, both are kept or neither is.
 pub same_kept : (p : List ℕ → Bool) (name other : List ℕ) → slice_cmp nat_cmp name other ≡ Equal → p other ≡ p name
 same_kept p name other tied = ap p (sym (order_tells name other tied))
 

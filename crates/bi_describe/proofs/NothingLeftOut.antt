@@ -1,4 +1,5 @@
-use Rattle.std.proofs.Common.{◌≡◌, ◌≢◌, ◌↔◌, ℕ, ◌+◌, Bool, true, false, cond, List, [], ◌∷◌, ◌++◌, Option, Some, None, bytes_eq, flat_map, map, refl, sym, ap, ap₂, ◌∙◌}
+use Rattle.std.proofs.Common.{◌≡◌, ◌≢◌, ◌↔◌, ℕ, ◌+◌, Bool, true, false, cond, List, [], ◌∷◌, ◌++◌, Option, Some, None, bytes_eq, flat_map}
+use Rattle.std.proofs.Common.{map, refl, sym, ap, ap₂, ◌∙◌}
 use Rattle.std.proofs.Common.{append-nil, subst, true≢false}
 use Rattle.std.specs.FinMap.{get, get-retain_keys}
 use Rattle.std.specs.List.{AllByRecursion, AllZip}
@@ -15,7 +16,8 @@ use Rattle.bi_legacy.specs.Meaning.{LegacyImage}
 use Rattle.bi_norm.specs.Meaning.{Meaning, Means, OfLegacy, OfFit}
 use Rattle.bi_common.specs.Lines.{Line}
 use Rattle.bi_common.specs.CommonLines.{header_lines, reservation_line}
-use Rattle.bi_describe.specs.ComparedNodes.{ComparedNode, ComparedPayload, NoImage, ImageWith, compared_children, compared_images, nodes_to_compare}
+use Rattle.bi_describe.specs.ComparedNodes.{ComparedNode, ComparedPayload, NoImage, ImageWith, compared_children, compared_images}
+use Rattle.bi_describe.specs.ComparedNodes.{nodes_to_compare}
 use Rattle.bi_describe.specs.ComparedNodes.{plain_compared}
 use Rattle.bi_describe.specs.Comparing.{comparison, differences_or_reason}
 use Rattle.bi_describe.specs.ComparingWithout.{comparison_without}
@@ -23,7 +25,8 @@ use Rattle.bi_describe.specs.Descriptions.{description_lines, digest_of_payload,
 use Rattle.bi_describe.specs.Descriptions.{plain_node}
 use Rattle.bi_describe.specs.IgnoringLaws.{AreComparedWhole, NothingLeftOutCompares}
 use Rattle.bi_describe.specs.ReducedMeanings.{AreSameWithout, OfReducedLegacy, OfReducedTree, ReducedLegacy, ReducedMeaning, ReducedTree}
-use Rattle.bi_describe.specs.ReducedMeanings.{compared_root, kept_nodes, kept_own, kept_part, kept_properties, kept_root, numbered_parts, meaning_without}
+use Rattle.bi_describe.specs.ReducedMeanings.{compared_root, kept_nodes, kept_own, kept_part, kept_properties, kept_root, numbered_parts}
+use Rattle.bi_describe.specs.ReducedMeanings.{meaning_without}
 use Rattle.bi_describe.specs.ReducedMeanings.{reduced_lines, reduced_part_lines, reduced_root_lines, reduced_tree_lines}
 use Rattle.bi_describe.proofs.ComparedTrees.{as_described, nodes_described}
 use Rattle.bi_describe.proofs.KeptImageFacts.{legacy_as_meanings, trees_as_meanings}
@@ -84,7 +87,8 @@ others_plain : (nodes : Nodes PropertyMap) (payloads : List (Option (List ℕ)))
     AllByRecursion (λ name. name ≢ images_name) (names nodes) → payloads_of (nodes_to_compare nodes payloads) ≡ []
 others_plain none payloads others = refl
 others_plain (node name own children later) payloads others =
-    ap₂ (λ (below after : List (Option (List ℕ))). below ++ after) (by (bytes_eq name images_name) refl) (others_plain later payloads others.1)
+    ap₂ (λ (below after : List (Option (List ℕ))). below ++ after) (by (bytes_eq name images_name) refl)
+    (others_plain later payloads others.1)
   where
     by : (b : Bool) → bytes_eq name images_name ≡ b → payloads_of (compared_children name children payloads) ≡ []
     by true is = absurd (others.0 (same_bytes name images_name is))
@@ -138,7 +142,8 @@ numbers_off index (part ∷ later) = ap (λ (parts : List (List ℕ)). part ∷ 
 parts_lined : (index : ℕ) (parts : List (List ℕ)) →
     reduced_part_lines (numbered_parts index parts) ≡ part_lines index (map digest_of_payload parts)
 parts_lined index [] = refl
-parts_lined index (part ∷ later) = ap (λ (lines : List Line). part_line index (digest_of_payload part) ∷ lines) (parts_lined (index + 1) later)
+parts_lined index (part ∷ later) = ap (λ (lines : List Line). part_line index (digest_of_payload part) ∷ lines)
+    (parts_lined (index + 1) later)
 
 -- All of a legacy image.
 abbrev whole_legacy : LegacyImage → ReducedLegacy

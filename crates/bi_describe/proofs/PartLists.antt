@@ -17,7 +17,8 @@ parts_from parts index part is within =
 
 pub part_digests_from : (parts : List DescribedPart) (index : ℕ) (part : DescribedPart) → part ≡ get_or parts index part →
     index < length parts → map digest_of_part (drop index parts) ≡ digest_of_part part ∷ map digest_of_part (drop (index + 1) parts)
-part_digests_from parts index part is within = ap (λ (left : List DescribedPart). map digest_of_part left) (parts_from parts index part is within)
+part_digests_from parts index part is within = ap (λ (left : List DescribedPart). map digest_of_part left)
+    (parts_from parts index part is within)
 
 -- The parts that stay of those from one on.
 abbrev pub kept_from : List Ignored → (index : ℕ) → List DescribedPart → List (ℕ × List ℕ)

@@ -1,4 +1,5 @@
-use Rattle.std.proofs.Common.{◌≡◌, ℕ, ◌-◌, List, [], ◌∷◌, ◌++◌, Option, None, Some, take, length, map, refl, sym, ap, ap₂, ◌∙◌, arith, append_assoc}
+use Rattle.std.proofs.Common.{◌≡◌, ℕ, ◌-◌, List, [], ◌∷◌, ◌++◌, Option, None, Some, take, length, map, refl, sym, ap, ap₂, ◌∙◌, arith}
+use Rattle.std.proofs.Common.{append_assoc}
 use Rattle.std.proofs.Common.{append-nil, length-append}
 use Rattle.std.specs.FinMap.{entries}
 use Rattle.std.proofs.lemmas.Grind.{flat_map-append}
@@ -43,7 +44,8 @@ own_before names own later = by own.payload
         ≡ (payload_lines names (described_payload payload) ++ map (property_line names) (entries own.properties)) ++ entry_lines names later
     by NoImage = properties_before names (entries own.properties) later
     by (ImageWith payload) =
-        ap (λ (lines : List Line). payload_lines names (described_payload (ImageWith payload)) ++ lines) (properties_before names (entries own.properties) later)
+        ap (λ (lines : List Line). payload_lines names (described_payload (ImageWith payload)) ++ lines)
+        (properties_before names (entries own.properties) later)
 
 -- After the end of a node, the nodes above it are open.
 pub names_above : (above : List (List ℕ)) (name : List ℕ) → take (length (above ++ name ∷ []) - 1) (above ++ name ∷ []) ≡ above

@@ -1,4 +1,5 @@
-use Rattle.std.proofs.Common.{◌≡◌, ◌<◌, ◌+◌, ℕ, List, [], ◌∷◌, ◌++◌, Contains, get_or, length, map, take, inl, inr, refl, sym, ap, subst, ◌∙◌, arith}
+use Rattle.std.proofs.Common.{◌≡◌, ◌<◌, ◌+◌, ℕ, List, [], ◌∷◌, ◌++◌, Contains, get_or, length, map, take, inl, inr, refl, sym, ap, subst}
+use Rattle.std.proofs.Common.{◌∙◌, arith}
 use Rattle.std.proofs.Common.{append_assoc, append-nil}
 use Rattle.std.specs.Prelude.{◌⊎◌}
 use Rattle.std.specs.Borrow.{Bor}
@@ -6,7 +7,8 @@ use Rattle.std.specs.List.{AllZip}
 use Rattle.std.proofs.lemmas.List.{get_or-map, get_or_default, length-map, take_more}
 use Rattle.bi_common.specs.MadeFields.{bytes_of_names}
 use Rattle.bi_base.proofs.ListMembers.{Contains-cases, Contains-none}
-use Rattle.bi_describe.specs.IgnoredWords.{AreFirstWords, AreNoPlainWords, AreWordsOfValue, AreWordsOfValues, IsBadIgnoredValue, IsFirstBadIgnored, IsNoPlainWord}
+use Rattle.bi_describe.specs.IgnoredWords.{AreFirstWords, AreNoPlainWords, AreWordsOfValue, AreWordsOfValues, IsBadIgnoredValue}
+use Rattle.bi_describe.specs.IgnoredWords.{IsFirstBadIgnored, IsNoPlainWord}
 use Rattle.bi_describe.specs.IgnoredWords.{IsNoWordWithPath, IsOneWord, IsPlainWord, IsWordWithPath}
 use Rattle.bi_describe.specs.Ignoring.{Ignored}
 
@@ -33,7 +35,7 @@ one_more_plain [] (other ∷ words) text word are is = absurd are
 one_more_plain (first ∷ texts) [] text word are is = absurd are
 one_more_plain (first ∷ texts) (other ∷ words) text word are is = (are.0, one_more_plain texts words text word are.1 is)
 
--- A text that is no word without a path, among others.
+-- Texts one of which is not a word without a path are not those of words.
 pub no_plain_among : (texts : List (List ℕ)) (text : List ℕ) → Contains texts text → IsNoPlainWord text → (words : List Ignored) →
     AllZip IsPlainWord texts words → ⊥
 no_plain_among [] text has none words are = Contains-none text has
@@ -57,7 +59,8 @@ values_from values index value is within =
     let long = length-map values (λ (value : Bor (List ℕ)). value.now) in
     take_more (bytes_of_names values) index value.now (omega (arith, within, long))
     ∙ ap (λ bytes. take index (bytes_of_names values) ++ bytes ∷ [])
-    (get_or-map (λ (value : Bor (List ℕ)). value.now) values index value value.now within ∙ ap (λ (value : Bor (List ℕ)). value.now) (sym is))
+    (get_or-map (λ (value : Bor (List ℕ)). value.now) values index value value.now within ∙ ap (λ (value : Bor (List ℕ)). value.now)
+    (sym is))
 
 -- These are the words of so many of these values, from the first on.
 abbrev pub AreWordsUpTo : (values : List (Bor (List ℕ))) → (number : ℕ) → List Ignored → Type 0

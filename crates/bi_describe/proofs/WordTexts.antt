@@ -1,4 +1,5 @@
-use Rattle.std.proofs.Common.{◌≡◌, ◌≢◌, ◌<◌, ◌≤◌, ◌+◌, ◌-◌, ℕ, Bool, true, false, List, [], ◌∷◌, ◌++◌, Option, None, Some, codes, drop, take, flat_map}
+use Rattle.std.proofs.Common.{◌≡◌, ◌≢◌, ◌<◌, ◌≤◌, ◌+◌, ◌-◌, ℕ, Bool, true, false, List, [], ◌∷◌, ◌++◌, Option, None, Some, codes, drop}
+use Rattle.std.proofs.Common.{take, flat_map}
 use Rattle.std.proofs.Common.{get_or, length, refl, sym, ap, subst, ◌∙◌, append_assoc, append-nil, arith, true≢false, inl, inr, suc, zero}
 use Rattle.std.proofs.Common.{add-one, take-append-drop, length-drop}
 use Rattle.std.specs.Prelude.{◌==◌, ◌&&◌, ◌||◌}
@@ -19,11 +20,13 @@ use Rattle.bi_values.specs.ValueNames.{IsChildNameOfBytes, IsNodePath, IsPropert
 use Rattle.bi_values.specs.NameWords.{IsNoChildName, IsNoPath, IsNoPropertyName, IsPathWord, IsShownChildName, IsShownPropertyName}
 use Rattle.bi_values.specs.NameWords.{steps_text}
 use Rattle.bi_values.proofs.Steps.{path_begins}
-use Rattle.bi_describe.specs.IgnoredWords.{HasPath, IsNodePlace, IsNoWordWithPath, IsPayloadPlace, IsTreePlace, IsWordWithPath, ignored_text}
+use Rattle.bi_describe.specs.IgnoredWords.{HasPath, IsNodePlace, IsNoWordWithPath, IsPayloadPlace, IsTreePlace, IsWordWithPath}
+use Rattle.bi_describe.specs.IgnoredWords.{ignored_text}
 use Rattle.bi_describe.specs.IgnoredWords.{path_in, payload_path, place_path}
 use Rattle.bi_describe.specs.Ignoring.{Ignored, IgnoredTime, IgnoredSignatures, IgnoredNode, IgnoredProperty, IgnoredPart, NodePlace}
 use Rattle.bi_describe.specs.Ignoring.{OfImageNamed, OfPart, PayloadPlace, TreePlace, Itself, Inside}
-use Rattle.bi_describe.specs.WordParts.{IsNoPart, IsNoPayload, IsNoPlace, IsShownPart, IsPayloadPath, IsShownPlace, IsSplit, has_two_slashes}
+use Rattle.bi_describe.specs.WordParts.{IsNoPart, IsNoPayload, IsNoPlace, IsShownPart, IsPayloadPath, IsShownPlace, IsSplit}
+use Rattle.bi_describe.specs.WordParts.{has_two_slashes}
 
 -- The texts of words with a path are read back from their parts.
 
@@ -84,7 +87,8 @@ split_same [] (byte ∷ other) x y none also same =
 split_same (byte ∷ one) [] x y none also same =
     absurd (true≢false (sym (begins_with_two [] y byte one x (sym same)) ∙ none))
 split_same (byte ∷ one) (next ∷ other) x y none also same =
-    let rest = split_same one other x y (none_later byte (one ++ 47 ∷ []) none) (none_later next (other ++ 47 ∷ []) also) (later_same same) in
+    let rest = split_same one other x y (none_later byte (one ++ 47 ∷ []) none) (none_later next (other ++ 47 ∷ []) also)
+    (later_same same) in
     let first : byte ≡ next = first_same same in
     let later : one ≡ other = rest.0 in
     (cc, rest.1)
@@ -183,7 +187,7 @@ no_own_place text none no_path place is same = by place.tree place.names is.is_p
         ∙ ap (λ names. has_two_slashes (payload_path payload ++ (47 ∷ names))) (sym begins.1)
         ∙ ap has_two_slashes same ∙ none)
 
--- So is a text with them, if what is before them is no payload,
+-- A text with two slashes has a place only if what is before them is a payload,
 inner_place : (payload path_text : List ℕ) → IsSplit (payload ++ (47 ∷ path_text)) payload path_text → (tree : TreePlace)
     (names : List (List ℕ)) → IsTreePlace tree → IsNodePath names → path_in tree names ≡ payload ++ (47 ∷ path_text) →
     (place : PayloadPlace) × (IsPayloadPlace place × ((payload_path place ≡ payload) × (path names ≡ path_text)))
@@ -202,7 +206,7 @@ no_inner_payload payload path_text split none place is same =
     let found = inner_place payload path_text split place.tree place.names is.is_tree is.is_path same in
     none found.0 found.1.0 found.1.1.0
 
--- or what follows is no path.
+-- and what follows is a path.
 pub no_inner_path : (payload path_text : List ℕ) → IsSplit (payload ++ (47 ∷ path_text)) payload path_text → IsNoPath path_text →
     IsNoPlace (payload ++ (47 ∷ path_text))
 no_inner_path payload path_text split none place is same =
@@ -308,14 +312,14 @@ space_there (byte ∷ later) rest none = space_there later rest none.1
 
 -- ---- words
 
--- Bytes none of which is a space are no text with one.
+-- Bytes without a space are not a text with a space between two others.
 no_end_there : (bytes : List ℕ) → HasNoEnd is_space bytes → (before rest : List ℕ) → bytes ≡ before ++ (32 ∷ rest) → ⊥
 no_end_there [] plain [] rest same = absurd cc
 no_end_there [] plain (byte ∷ before) rest same = absurd cc
 no_end_there (byte ∷ later) plain [] rest same = true≢false (sym (ap is_space (first_same same)) ∙ plain.0)
 no_end_there (byte ∷ later) plain (other ∷ before) rest same = no_end_there later plain.1 before rest (later_same same)
 
--- A text without a space that is no part and no place is no word.
+-- A text without a space is a word only if it is a part or a place.
 pub no_node_word : (text : List ℕ) → HasNoSpace text → IsNoPart text → IsNoPlace text → IsNoWordWithPath text
 no_node_word text none no_part no_place word is = by word is.has_path is.is
   where

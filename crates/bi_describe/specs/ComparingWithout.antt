@@ -60,7 +60,7 @@ pub record AreMeanings (limits : Limits) (one other : List ℕ) : Type 0 where
   pub other_means : MeansOnly limits other other_meaning
 
 -- The text is what differs between two files without what is left out, and `same` is whether they
--- mean the same without it. Both can be described, even if nothing differs or nothing is written.
+-- mean the same without it. Both can be described, even if nothing differs or is written.
 pub record AreComparedWithout (options : IgnoringOptionsModel) (limits : Limits)
     (one other : List ℕ) (same : Bool) (text : List ℕ) : Type 0
   where

@@ -16,7 +16,8 @@ use Rattle.bi_fit.proofs.FileTrees.{depth-image_tree, is_image_tree}
 use Rattle.bi_plain.specs.Laws.{HasPlainTree, IsOfImageTree}
 use Rattle.bi_plain.specs.Plain.{IsPlainTree, plain_root, with_plain_root}
 use Rattle.bi_plain.specs.PlainText.{HasPlainText, IsPlainTextFault, plain_text}
-use Rattle.bi_plain.proofs.PlainTrees.{each_image_tree_has_plain_tree, each_plain_tree_is_of_image_tree, plain_tree_has_text, plain_trees_return}
+use Rattle.bi_plain.proofs.PlainTrees.{each_image_tree_has_plain_tree, each_plain_tree_is_of_image_tree, plain_tree_has_text}
+use Rattle.bi_plain.proofs.PlainTrees.{plain_trees_return}
 use Rattle.bi_edit.specs.declared.edit.Edit.{Edit}
 use Rattle.bi_edit.specs.declared.edited_fit.EditError.{EditError}
 use Rattle.bi_edit.specs.declared.edited_fit.EditError.TheVariants as error

@@ -24,8 +24,10 @@ use Rattle.bi_edit.specs.EditLaws.{EditsKeepImageTrees, EditsKeepPlainTrees, IsE
 use Rattle.bi_edit.specs.Edits.{IsTooDeep, edited_root, edits_of_turn, in_edit_order, root_after, with_payload_digests}
 use Rattle.bi_edit.specs.Places.{IsPropertyNameOfBytes, image_path, is_image_path}
 use Rattle.bi_edit.proofs.KeptDepths.{bound_at, bound_with, bound_without_at}
-use Rattle.bi_edit.proofs.KeptDigests.{bytes_with_payload_digests, depth_with_payload_digests, nodes_with_payload_digests, own_with_payload_digests}
-use Rattle.bi_edit.proofs.KeptImages.{HasPlainImages, plain_images_at, plain_images_with, images_without_at, only-put, only-put_data, only-remove}
+use Rattle.bi_edit.proofs.KeptDigests.{bytes_with_payload_digests, depth_with_payload_digests, nodes_with_payload_digests}
+use Rattle.bi_edit.proofs.KeptDigests.{own_with_payload_digests}
+use Rattle.bi_edit.proofs.KeptImages.{HasPlainImages, plain_images_at, plain_images_with, images_without_at, only-put, only-put_data}
+use Rattle.bi_edit.proofs.KeptImages.{only-remove}
 use Rattle.bi_edit.proofs.KeptNodes.{IsGood, KeepsGood, good_at_path, good_with_path, good_without_path, properties-remove}
 
 -- Edits of a plain tree make a plain tree.

@@ -83,10 +83,11 @@ module _ (word first : List ℕ) (after : Option (List ℕ)) (cut : IsCutAt 32 w
 -- ---- new values
 
 -- The three parts of a word for a new value.
-pub record AreWordParts (place : PropertyPlaceModel) (after : Option (List ℕ)) (first second : List ℕ) (text : Option (List ℕ)) : Type 0 where
-  pub path_is : path place.path ≡ first
-  pub name_is : shown_text place.name ≡ second
-  pub text_is : after ≡ text
+pub record AreWordParts (place : PropertyPlaceModel) (after : Option (List ℕ)) (first second : List ℕ) (text : Option (List ℕ)) : Type 0
+  where
+    pub path_is : path place.path ≡ first
+    pub name_is : shown_text place.name ≡ second
+    pub text_is : after ≡ text
 
 module _ (word first : List ℕ) (after : Option (List ℕ)) (cut : IsCutAt 32 word first after) where
   rest_cut : (place : PropertyPlaceModel) (value : List ℕ) (is : IsSettingWord word place value) →

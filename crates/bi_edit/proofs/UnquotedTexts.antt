@@ -24,7 +24,8 @@ unquoted_inside : (text later : List ℕ) →
 unquoted_inside [] later = refl
 unquoted_inside (byte ∷ text) later =
     ap (bytes_in_quotes Inside) (append_assoc (escaped_byte byte) (flat_map escaped_byte text) (34 ∷ later))
-    ∙ where_quote byte (flat_map escaped_byte text ++ 34 ∷ later) (text ++ 0 ∷ bytes_in_quotes Outside later) text (unquoted_inside text later)
+    ∙ where_quote byte (flat_map escaped_byte text ++ 34 ∷ later) (text ++ 0 ∷ bytes_in_quotes Outside later) text
+    (unquoted_inside text later)
     (byte == 34) (byte == 92) refl refl
 
 -- A text in quotes.

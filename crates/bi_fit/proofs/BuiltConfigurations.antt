@@ -20,7 +20,8 @@ use Rattle.bi_fit.specs.declared.key.Key.{Key}
 use Rattle.bi_fit.specs.declared.key.Key.TheVariants.{Kernel, Fdt, Ramdisk, Firmware, Loadables, Script}
 use Rattle.bi_fit.specs.Names.{key_name, all_keys, default_name}
 use Rattle.bi_fit.specs.Judgement.{Image, images_with, ListedImages, image_named, list_images, listed_at, listed_under, listed_of}
-use Rattle.bi_fit.specs.Building.{HeadModel, ImageSpecModel, ConfigurationSpecModel, PlanModel, text_value, description_of, built_image_properties}
+use Rattle.bi_fit.specs.Building.{HeadModel, ImageSpecModel, ConfigurationSpecModel, PlanModel, text_value, description_of}
+use Rattle.bi_fit.specs.Building.{built_image_properties}
 use Rattle.bi_fit.specs.Building.{built_hash_nodes, built_images, list_property, built_configuration_properties, built_configurations}
 use Rattle.bi_fit.specs.Building.{built_tree, configuration_name, configuration_by_types, plan_by_types, type_name}
 use Rattle.bi_fit.specs.Building.{names_of_images, configuration_names, IsImageSpec, CanBeBuilt, IsConfigurationSpec, IsPlanFor}

@@ -21,8 +21,14 @@ pub one_more_done : {X Y S : Type 0} (IsDone : X → Y → S → S → Type 0) (
     → AreDoneSoFar IsDone is_last (take i images) outcomes old middle → IsDone (get_or images i d) outcome middle new
     → is_last outcome ≡ false → AreDoneSoFar IsDone is_last (take (i + 1) images) (outcomes ++ outcome ∷ []) old new
 one_more_done IsDone is_last images i d outcomes outcome old middle new within so_far done more others later last rest =
-    rw (take_more images i d within, append_assoc (take i images) (get_or images i d ∷ []) others, append_assoc outcomes (outcome ∷ []) later)
-    (so_far (get_or images i d ∷ others) (outcome ∷ later) last (NextDone (get_or images i d) others outcome later middle new last done more rest))
+    rw (
+      take_more images i d within,
+      append_assoc (take i images) (get_or images i d ∷ []) others,
+      append_assoc outcomes (outcome ∷ [])
+          later,
+    )
+    (so_far (get_or images i d ∷ others) (outcome ∷ later) last
+    (NextDone (get_or images i d) others outcome later middle new last done more rest))
 
 -- The last one.
 pub last_done : {X Y S : Type 0} (IsDone : X → Y → S → S → Type 0) (is_last : Y → Bool) (images : List X) (i : ℕ) (d : X)

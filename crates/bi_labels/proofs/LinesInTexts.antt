@@ -28,7 +28,8 @@ cut_line (byte ∷ text) within = by (is_newline byte) refl within (λ within. c
         take (end_of_line (byte ∷ text)) (byte ∷ text) ∷ lines_in (drop (suc (end_of_line (byte ∷ text))) (byte ∷ text))
     by true is within rest = rw is refl
     by false is within rest =
-        let less : end_of_line text < length text = (let few : 1 + end_of_line text < length (byte ∷ text) = rw is at within in omega (arith, few)) in
+        let less : end_of_line text < length text =
+        (let few : 1 + end_of_line text < length (byte ∷ text) = rw is at within in omega (arith, few)) in
         rw (is, one-add) (ap (onto_first byte) (rest less))
 
 -- A text without a newline is one line, if it has a byte.

@@ -18,7 +18,8 @@ use Rattle.bi_fit.specs.Text.{fit_text}
 use Rattle.bi_legacy.specs.Codes.{os_names, arch_names, type_names, compression_names, name_of_code}
 use Rattle.bi_norm.specs.declared.fit_building.ImageSpec.{ImageSpec}
 use Rattle.bi_norm.specs.FitBuilding.{PlanSpecModel, ImageTextsModel, BuildCheck, HasFewImages, HasFewConfigurations, HasTextDescription}
-use Rattle.bi_norm.specs.FitBuilding.{HasFields, HasCodeNames, HasNewName, ListsImages, HasNewConfigurationName, HasDefault, HasOwnTexts, FitsLimit}
+use Rattle.bi_norm.specs.FitBuilding.{HasFields, HasCodeNames, HasNewName, ListsImages, HasNewConfigurationName, HasDefault, HasOwnTexts}
+use Rattle.bi_norm.specs.FitBuilding.{FitsLimit}
 use Rattle.bi_norm.specs.FitBuilding.{AreTexts, HasTypeOrTexts, HasNames, HasNamesIfNeeded, ListsOnly, HasKnownDefault, BuildPasses}
 use Rattle.bi_norm.specs.FitBuilding.{tree_of_images, build_fault, build_checks, IsBuildFaultAs}
 

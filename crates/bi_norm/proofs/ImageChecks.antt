@@ -14,7 +14,8 @@ use Rattle.bi_fit.specs.NamedImages.{named_model, named_models}
 use Rattle.bi_norm.specs.declared.fit_building.ImageSpec.{ImageSpec}
 use Rattle.bi_norm.specs.declared.fit_building.ImageTexts.{ImageTexts}
 use Rattle.std.specs.Borrow.{Bor}
-use Rattle.bi_norm.specs.FitBuilding.{ImageTextsModel, image_texts_model, texts_models, descriptions_models, GivenImage, given_images, spec_model, BuildCheck}
+use Rattle.bi_norm.specs.FitBuilding.{ImageTextsModel, image_texts_model, texts_models, descriptions_models, GivenImage, given_images}
+use Rattle.bi_norm.specs.FitBuilding.{spec_model, BuildCheck}
 use Rattle.bi_norm.specs.FitBuilding.{HasFields, HasCodeNames, HasNewName, spec_checks, first_image_checks, names_of_specs}
 use Rattle.bi_norm.specs.BuildChecks.{AllPass, IsFirstFailure, IsPlainImage, at_index, given_image, given_for, fields_and_names}
 use Rattle.bi_norm.proofs.LeftChecks.{AreLeftChecks, fails_first, left_after}

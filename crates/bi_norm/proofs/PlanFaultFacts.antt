@@ -4,7 +4,8 @@ use Rattle.bi_blob.proofs.CheckDecisions.{lacks_byte, is_new, is_property_name, 
 use Rattle.bi_fit.specs.declared.form.Form.TheVariants.{Embedded}
 use Rattle.bi_norm.specs.declared.fit_building.ImageSpec.{ImageSpec}
 use Rattle.bi_norm.specs.FitBuilding.{PlanSpecModel, BuildCheck, HasFewConfigurations, HasFields, HasNewName, ListsImages}
-use Rattle.bi_norm.specs.FitBuilding.{HasNewConfigurationName, HasDefault, HasOwnTexts, build_fault, build_checks, IsBuildFaultAs, plain_plan}
+use Rattle.bi_norm.specs.FitBuilding.{HasNewConfigurationName, HasDefault, HasOwnTexts, build_fault, build_checks, IsBuildFaultAs}
+use Rattle.bi_norm.specs.FitBuilding.{plain_plan}
 use Rattle.bi_norm.specs.KnownBuildFaults.{head_like, kernel_like, narrow_limits, description_with_zero}
 use Rattle.bi_norm.specs.KnownPlans.{only_scripts, configuration_with, plan_with, plan_with_texts, firmware_texts, two_configurations}
 use Rattle.bi_norm.specs.KnownPlans.{plan_with_descriptions, bad_text, described_configuration, compatible_configuration}
@@ -48,7 +49,8 @@ plan_faults_are_known any = (
     missing_image = plan_fails any (codes "k") (plan_with (configuration_with (codes "d") (codes "a" ∷ codes "c" ∷ []) ∷ []))
         (two_kernels any) (ListsImages _) refl;
     missing_script = plan_fails any (codes "k")
-        (plan_with (record (configuration_with (codes "d") []) { lists = only_scripts (codes "c" ∷ []) } ∷ [])) (two_kernels any) (ListsImages _) refl;
+        (plan_with (record (configuration_with (codes "d") []) { lists = only_scripts (codes "c" ∷ []) } ∷ [])) (two_kernels any)
+        (ListsImages _) refl;
     same_names = plan_fails any (codes "k") (plan_with (configuration_with (codes "d") [] ∷ two_configurations)) []
         (HasNewConfigurationName _) refl;
     other_default = plan_fails any (codes "k") (record (plan_with two_configurations) { default = Some (codes "a") })

@@ -1,4 +1,5 @@
-use Rattle.std.proofs.Common.{◌≡◌, ℕ, ◌+◌, ◌<◌, Bool, true, false, List, [], ◌∷◌, ◌++◌, Bor, drop, get_or, length, sym, ap, ◌∙◌, append_assoc, length-append}
+use Rattle.std.proofs.Common.{◌≡◌, ℕ, ◌+◌, ◌<◌, Bool, true, false, List, [], ◌∷◌, ◌++◌, Bor, drop, get_or, length, sym, ap, ◌∙◌}
+use Rattle.std.proofs.Common.{append_assoc, length-append}
 use Rattle.std.proofs.lemmas.List.{drop_more}
 use Rattle.bi_base.specs.Slices.{bytes_of}
 use Rattle.bi_tree.proofs.NumberedNames.{bytes_with}
@@ -32,7 +33,8 @@ module _ (names : List (Bor (List ℕ))) (marks : List Bool) (index : ℕ) (name
   kept_more is more are =
       ap (λ l. bytes_of l ++ marked_names (bytes_of (drop (index + 1) names)) (drop (index + 1) marks)) are
       ∙ ap (λ l. l ++ marked_names (bytes_of (drop (index + 1) names)) (drop (index + 1) marks)) (bytes_with kept (get_or names index name))
-      ∙ append_assoc (bytes_of kept) ((get_or names index name).now ∷ []) (marked_names (bytes_of (drop (index + 1) names)) (drop (index + 1) marks))
+      ∙ append_assoc (bytes_of kept) ((get_or names index name).now ∷ [])
+      (marked_names (bytes_of (drop (index + 1) names)) (drop (index + 1) marks))
       ∙ ap (λ l. bytes_of kept ++ l) (sym (left names marks index name within marked_within true is marked_names))
 
   pub left_out : get_or marks index false ≡ false → (more : List (Bor (List ℕ))) → more ≡ kept →

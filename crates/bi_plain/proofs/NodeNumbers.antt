@@ -1,4 +1,5 @@
-use Rattle.std.proofs.Common.{◌≡◌, ℕ, zero, suc, ◌<◌, List, [], ◌∷◌, ◌++◌, length, get_or, sym, ap, subst, ◌∙◌, arith, append_assoc, append-nil}
+use Rattle.std.proofs.Common.{◌≡◌, ℕ, zero, suc, ◌<◌, List, [], ◌∷◌, ◌++◌, length, get_or, sym, ap, subst, ◌∙◌, arith, append_assoc}
+use Rattle.std.proofs.Common.{append-nil}
 use Rattle.bi_blob.specs.Tree.{Nodes, as_nodes, node_count}
 use Rattle.bi_tree.specs.Properties.{TreePropertyModel}
 use Rattle.bi_tree.specs.TreeNodes.{TreeNodeModel, below, nodes_of_models}

@@ -120,7 +120,8 @@ pub numbered_kept : (names : List (List ℕ)) (properties : List TreePropertyMod
     AreNumberedAmong names (without_payload_names properties)
 numbered_kept names properties all = record {
   distinct = distinct_kept properties all.distinct;
-  numbered = each-filter (λ property. IsNumberOf names property.name property.number) (λ property. stays property.name) properties all.numbered;
+  numbered = each-filter (λ property. IsNumberOf names property.name property.number) (λ property. stays property.name) properties
+      all.numbered;
 }
 
 -- The payload of the image at an index.

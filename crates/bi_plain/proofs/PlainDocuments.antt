@@ -44,7 +44,8 @@ same_tree_events root = ap (λ children. events (node [] (sorted_own root.own) c
 
 module _ (boot_cpu : ℕ) (reserved : List Reservation) (root : Root PropertyMap) (has : HasPlainText boot_cpu reserved root)
     (inside : Root (List TreePropertyModel)) (is : tree_by_name inside ≡ root) (names : List (List ℕ))
-    (started begun : Doc) (is_started : started ≡ empty_with_names boot_cpu names) (is_begun : begun ≡ with_reservations started reserved) where
+    (started begun : Doc) (is_started : started ≡ empty_with_names boot_cpu names)
+    (is_begun : begun ≡ with_reservations started reserved) where
   whole_is : begun ≡ with_reservations (empty_with_names boot_cpu names) reserved
   whole_is = is_begun ∙ ap (λ document. with_reservations document reserved) is_started
 

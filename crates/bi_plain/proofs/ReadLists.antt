@@ -45,7 +45,8 @@ more_before : (done : List TreeNodeModel) (top : TreeNodeModel) (later : Nodes P
     nodes_before (models_by_name (done ++ top ∷ [])) later
     ≡ nodes_before (models_by_name done) (node top.name (by_name top.own) (with_each by_name top.children) later)
 more_before [] top later = refl
-more_before (first ∷ done) top later = ap (node first.name (by_name first.own) (with_each by_name first.children)) (more_before done top later)
+more_before (first ∷ done) top later = ap (node first.name (by_name first.own) (with_each by_name first.children))
+    (more_before done top later)
 
 more_numbered : (names : List (List ℕ)) (done : List TreeNodeModel) (top : TreeNodeModel) → AreNumberedNodes names done →
     AreNumberedAmong names top.own → EachOwn (AreNumberedAmong names) top.children → AreNumberedNodes names (done ++ top ∷ [])

@@ -76,7 +76,8 @@ read_properties_are names own keyed distinct are = record {
     distinct = subst AreDistinct (sym (names_of_keyed keyed))
         (distinct_moved (map (λ property. property.0) (map property_of own.properties))
         (map (λ property. property.0) (map property_of (map (λ one. one.1) keyed)))
-        (IsPermutation-map (λ (property : Property). property.0) (map property_of own.properties) (map property_of (map (λ one. one.1) keyed))
+        (IsPermutation-map (λ (property : Property). property.0) (map property_of own.properties)
+        (map property_of (map (λ one. one.1) keyed))
         (IsPermutation-map property_of own.properties (map (λ one. one.1) keyed) are.permutation)) distinct);
     numbered = numbered_are names keyed are.numbered;
   };

@@ -99,7 +99,8 @@ module _ (names : List (List ℕ)) where
             (IsStrictlyIncreasing-from_distinct (map (λ (entry : Entry). entry.0) moved) (keys_in_order moved rising)
             (IsDistinct-IsPermutation nat_eq nat_eq_equiv.symm (map (λ (entry : Entry). entry.0) entries)
             (map (λ (entry : Entry). entry.0) moved) (IsPermutation-map (λ (entry : Entry). entry.0) entries moved move)
-            (distinct_numbers names (map property_at entries) (map (λ (entry : Entry). entry.0) entries) apart (numbers-zip entries within)))));
+            (distinct_numbers names (map property_at entries) (map (λ (entry : Entry). entry.0) entries) apart
+            (numbers-zip entries within)))));
       })
       ∙ ap sorted_properties (named-properties entries)
 

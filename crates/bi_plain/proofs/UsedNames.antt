@@ -1,9 +1,11 @@
-use Rattle.std.proofs.Common.{◌≡◌, ◌⊎◌, ℕ, ◌<◌, Bool, true, false, List, [], ◌∷◌, ◌++◌, replicate, get_or, length, Contains, inl, inr, flat_map}
+use Rattle.std.proofs.Common.{◌≡◌, ◌⊎◌, ℕ, ◌<◌, Bool, true, false, List, [], ◌∷◌, ◌++◌, replicate, get_or, length, Contains, inl, inr}
+use Rattle.std.proofs.Common.{flat_map}
 use Rattle.std.proofs.Common.{sym, subst, ◌∙◌}
 use Rattle.std.specs.List.{AllByRecursion}
 use Rattle.std.proofs.lemmas.List.Elements.{Contains-append_left, Contains-append_right, Contains-append_cases}
 use Rattle.std.proofs.lemmas.Option.{slice_get_within, same_Some}
-use Rattle.bi_base.proofs.ListMembers.{Contains-none, Contains-cases, Contains-first, Contains-others, each-append, each-contains, each-weaker}
+use Rattle.bi_base.proofs.ListMembers.{Contains-none, Contains-cases, Contains-first, Contains-others, each-append, each-contains}
+use Rattle.bi_base.proofs.ListMembers.{each-weaker}
 use Rattle.std.proofs.Math.ListN.{length-replicate}
 use Rattle.bi_blob.specs.Tree.{Nodes, none, node, EachOwn, AreDistinct}
 use Rattle.bi_fdt.specs.Numbers.{AreNumbered, IsNumberOf}

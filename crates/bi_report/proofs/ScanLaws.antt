@@ -80,7 +80,8 @@ each_image_is_found one_meaning format limits input text is = record {
       ) in
       let at = at_offset (IsFoundAt limits input) 0 (length input) contains.0 is.has.found is.has.are_found within in
       let same : at.item ≡ images = sym (at.is_item images) ∙ contains.2 in
-      let found = found_is_image limits input (0 + contains.0) images (subst (IsFoundAt limits input (0 + contains.0)) same at.holds) some in
+      let found = found_is_image limits input (0 + contains.0) images (subst (IsFoundAt limits input (0 + contains.0)) same at.holds)
+      some in
       (0 + contains.0, found.0, found.1, found.2, found.3);
 }
 

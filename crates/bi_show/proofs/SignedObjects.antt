@@ -67,4 +67,5 @@ module _ (content : FitModel) (configuration child : Sibling FileNode) (all late
   coverage_after_unsigned unsigned =
       passed_without_coverage (signature_coverage content (meaning_of_sibling configuration)) child later (map signature_value left)
       (sym (signed_is child (value_in child.own value_name) refl) ∙ unsigned)
-      (same ∙ ap (λ l. map (signature_coverage content (meaning_of_sibling configuration)) (filter is_signed (map meaning_of_sibling l))) is)
+      (same ∙ ap (λ l. map (signature_coverage content (meaning_of_sibling configuration))
+      (filter is_signed (map meaning_of_sibling l))) is)

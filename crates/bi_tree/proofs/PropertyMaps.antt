@@ -92,7 +92,8 @@ set_without_order new properties =
     get-from_entries nat_list_cmp_total (without_numbers (with_property_in new properties)) wanted
     ∙ set_in new wanted properties
     ∙ sym (get-insert nat_list_cmp_total (by_name properties) new.name new.value wanted
-    ∙ ap (λ o. cond (is_same wanted new.name) (Some new.value) o) (get-from_entries nat_list_cmp_total (without_numbers properties) wanted)))
+    ∙ ap (λ o. cond (is_same wanted new.name) (Some new.value) o)
+    (get-from_entries nat_list_cmp_total (without_numbers properties) wanted)))
 
 -- A name that is new is not found.
 new_not_found : (name : List ℕ) (properties : List TreePropertyModel) → IsNew name (own_property_names properties) →

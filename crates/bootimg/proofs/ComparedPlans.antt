@@ -1,4 +1,5 @@
-use Rattle.std.proofs.Common.{◌≡◌, ◌==◌, ℕ, Bool, true, false, true≢false, List, [], ◌∷◌, Option, None, Some, Result, IfErr, codes, length, arith, refl, subst, subst₂}
+use Rattle.std.proofs.Common.{◌≡◌, ◌==◌, ℕ, Bool, true, false, true≢false, List, [], ◌∷◌, Option, None, Some, Result, IfErr, codes}
+use Rattle.std.proofs.Common.{length, arith, refl, subst, subst₂}
 use Rattle.std.specs.Prelude.{IfOk, string_bytes}
 use Rattle.std.proofs.lemmas.Bool.{eqb-true}
 use Rattle.bi_base.specs.Limits.{Limits}

@@ -15,7 +15,8 @@ use Rattle.clap.proofs.OnLiterals.{clap_on_literals}
 use Rattle.bootimg.specs.CommandLine.{AreOwnTexts, ChangesHashes, HasFitValues, HasNoForm, IsBadPlan, IsChanges, IsChangesFailure}
 use Rattle.bootimg.specs.CommandLine.{IsFirstBad, IsFitPlanFailure, IsForm, IsFormWith, IsImageText, IsLimits, IsNewTime}
 use Rattle.bootimg.specs.CommandLine.{IsTaskFailure, NoneIs, NotAllowed, NotChanged, NotCompared, NotExplained, NotFit, NotFormed}
-use Rattle.bootimg.specs.CommandLine.{NotFormedChanged, NotLegacy, NotLimited, NotNamed, NotPlaced, NotSelected, NotShown, align_option, external_flag}
+use Rattle.bootimg.specs.CommandLine.{NotFormedChanged, NotLegacy, NotLimited, NotNamed, NotPlaced, NotSelected, NotShown, align_option}
+use Rattle.bootimg.specs.CommandLine.{external_flag}
 use Rattle.bootimg.specs.CommandLine.{given_offset, hashes_flag, limit_of, option_of, value_of, values_of}
 use Rattle.bootimg.specs.ConfigurationWords.{AreHashes, IsDefault, IsFirstBadConfiguration, name_of_word}
 use Rattle.bootimg.specs.KnownBuildRequests.{FirstFailuresAreKnown, IsTheOne, text_for_name}

@@ -1,4 +1,5 @@
-use Rattle.std.proofs.Common.{◌≡◌, ◌++◌, ◌∷◌, ◌⊎◌, ℕ, List, [], inl, inr, refl, sym, ap, codes, arith, drop, take, length, ◌-◌, ◌≤◌, ◌<◌, subst}
+use Rattle.std.proofs.Common.{◌≡◌, ◌++◌, ◌∷◌, ◌⊎◌, ℕ, List, [], inl, inr, refl, sym, ap, codes, arith, drop, take, length, ◌-◌, ◌≤◌, ◌<◌}
+use Rattle.std.proofs.Common.{subst}
 use Rattle.std.proofs.lemmas.Grind.{common_steps}
 use Rattle.bootimg.specs.Explanations.{IsLastSaid, FollowsColon}
 

@@ -67,7 +67,8 @@ pub get_failures_are_known : OneLegacyMeaning → GetFailuresAreKnown
 get_failures_are_known one_legacy = record {
   failed = λ failure is. is;
   wrong_kind = λ failure is. is;
-  no_property = λ one other failure is. let second : other ≡ is.0 = let found = is.1 in cc in is.2 ∙ ap (λ words. NoProperty words) (sym second);
+  no_property = λ one other failure is. let second : other ≡ is.0 = let found = is.1 in cc in is.2 ∙ ap (λ words. NoProperty words)
+      (sym second);
   no_text = λ one other failure is. let first : one ≡ is.0 = let found = is.1 in cc in is.2 ∙ ap (λ words. NoText words) (sym first);
   no_words = λ failure is. let found = is.1 in absurd cc;
   no_number = λ plan one other failure form_is names_are words_are is.

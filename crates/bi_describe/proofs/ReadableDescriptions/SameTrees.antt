@@ -17,7 +17,8 @@ pub similar_parts : (file other_file : List ℕ) (one other : ImageTree) → IsF
     SameParts one other → AreSimilarTrees one other
 similar_parts file other_file one other is also same =
     let content = same_described ArePropertiesByName one.root.children other.root.children one.payloads other.payloads
-    (images_of_image_tree one (file_means_image_tree file one is)) (images_of_image_tree other (file_means_image_tree other_file other also)) same.nodes in
+    (images_of_image_tree one (file_means_image_tree file one is))
+    (images_of_image_tree other (file_means_image_tree other_file other also)) same.nodes in
     record {
       cpu = same.cpu;
       reservations = same.reservations;

@@ -17,7 +17,8 @@ returns-in-Ok c =
     (record {
       clean = c.in-Ok.clean;
       number = c.from.ensures ∙ byte_is_flag c.in-Ok.clean;
-      is = subst (λ (text : List ℕ). IsCheckOutput checker.format (allowed_under checker.policy) c.args.limits c.in-Ok.clean c.args.file.now text)
+      is = subst (λ (text : List ℕ). IsCheckOutput checker.format (allowed_under checker.policy) c.args.limits c.in-Ok.clean
+          c.args.file.now text)
           (sym same) appended.is_text;
     }) c.fill.ensures.answer c.fill.ensures.filled
 
@@ -29,6 +30,7 @@ returns-in-Err c =
     FilledNothing c.failure_of.result (record {
       cause = c.in-Err.error;
       is_failure = c.failure_of.ensures;
-      is_error = error_in_memory _ (IsChecked checker.format (allowed_under checker.policy) limits file) (IsCheckError limits file) _ _ c.in-Err.error
+      is_error = error_in_memory _ (IsChecked checker.format (allowed_under checker.policy) limits file) (IsCheckError limits file) _ _
+          c.in-Err.error
           (λ text failed. failed.1) (λ text is. needs_memory limits file is.meaning is.means.means) c.in-Err.ensures.failed;
     }) refl c.fail.ensures.answer c.fail.ensures.status

@@ -34,7 +34,8 @@ returns-in-Ok-Some c =
     } in
     let one : IsOneName place name names =
     subst (IsOneName place name) (ap value_name_models (sym c.deref.ensures.value))
-    (some_holds (λ found. IsOneName place name (value_name_models found.items)) c.in-Ok-Some.field-0 c.in-Ok-Some.names c.in-Ok-Some.field-0-is
+    (some_holds (λ found. IsOneName place name (value_name_models found.items)) c.in-Ok-Some.field-0 c.in-Ok-Some.names
+    c.in-Ok-Some.field-0-is
     c.in-Ok-Some.ensures.some) in
     made_fills (λ text. IsTextOfValues form names limits file text.items) (IsGetError form names limits file) (λ text. text.items) (λ _. 0)
     failure_of_get_error (IsGotten c.args.limit c.args.depth c.args.form place name file)

@@ -14,6 +14,7 @@ loop-line-preserved g c =
       c.loop-line.invariant.1 ∙ ap (λ lines. before ++ lines) c.in-Some.ensures.some
           ∙ sym (append_assoc before (line ∷ []) (lines_in c.in-Some.later.now)),
       subst (λ (text : List ℕ). g.P.Pen.puts c.args.pen.now text c.put_line.new.pen)
-          (sym (flat_map-append labelled before (line ∷ []) ∙ ap (λ (text : List ℕ). flat_map labelled before ++ text) (append-nil (labelled line))))
+          (sym (flat_map-append labelled before (line ∷ []) ∙ ap (λ (text : List ℕ). flat_map labelled before ++ text)
+          (append-nil (labelled line))))
           (g.met.P.Pen.puts_in_turn _ _ _ _ _ c.loop-line.invariant.2 c.put_line.ensures),
     )

@@ -10,4 +10,5 @@ abbrev pub invariant-loop-index : goal.invariant-loop-index
 invariant-loop-index l =
     (changed_after l.index (with_own_payloads (drop l.index (payloads_of l.images))) (models_by_name l.nodes)
     ≡ with_own_payloads (payloads_of l.images) (models_by_name l.initial.nodes))
-    × ((names : List (List ℕ)) → IsNumberOf names data_name l.number → AreNumberedNodes names l.initial.nodes → AreNumberedNodes names l.nodes)
+    × ((names : List (List ℕ)) → IsNumberOf names data_name l.number → AreNumberedNodes names l.initial.nodes → AreNumberedNodes names
+    l.nodes)

@@ -27,7 +27,8 @@ returns-in_err-ranked-clause-failed c =
       one.0 ∙ ap too_large c.file.ensures.value,
       subst (λ root. limits.file < length (plain_text blob.cpu blob.reservations root)) c.tree.view_is
           (subst (λ all. limits.file < length (text_of_events 4 blob.cpu blob.reservations all)) (sym (same_tree_events inside))
-          (subst (λ limit. limit < length (text_of_events 4 blob.cpu blob.reservations (events (sorted_models (as_nodes inside))))) c.file.ensures.value
+          (subst (λ limit. limit < length (text_of_events 4 blob.cpu blob.reservations (events (sorted_models (as_nodes inside)))))
+          c.file.ensures.value
           (longer_text c.file.result blob.cpu blob.reservations (as_nodes inside) one.1))),
     ))
 

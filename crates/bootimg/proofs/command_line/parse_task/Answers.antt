@@ -3,7 +3,8 @@ use Rattle.bootimg.specs.CommandLine.{IsFormFailure, IsTask, IsTaskFailure, NotF
 use Rattle.bootimg.specs.declared.command_line.NoRequest.TheVariants.{Failure}
 use Rattle.bootimg.proofs.CommandLines.{outcome_weaker}
 use Rattle.bootimg.proofs.command_line.parse_task.Goals as goal
-use Rattle.bootimg.proofs.command_line.parse_task.Goals.{in-normalise+in_ok-form-in-normalise, in-show+in_ok-show_form-in-show, in-list, in-describe, in-verify}
+use Rattle.bootimg.proofs.command_line.parse_task.Goals.{in-normalise+in_ok-form-in-normalise, in-show+in_ok-show_form-in-show, in-list}
+use Rattle.bootimg.proofs.command_line.parse_task.Goals.{in-describe, in-verify}
 use Rattle.bootimg.proofs.command_line.parse_task.Goals.{in-check+in_ok-policy-in-check}
 use Rattle.bootimg.proofs.command_line.parse_task.Goals.{in-update+in_ok-changes-in-update+in_ok-form-in-update}
 use Rattle.bootimg.proofs.command_line.parse_task.Goals.{in-scan, in-get+in_ok-get_plan-in-get, in-extract+in_ok-selection-in-extract}

@@ -11,7 +11,8 @@ returns-in-Legacy-Legacy c = IfOk-weaker c.differences_or_reason.result _ _ (λ 
     c.differences_or_reason.ensures
 
 pub returns-in-Fit-Fit : goal.returns-in-Fit-Fit
-returns-in-Fit-Fit c = IfOk-weaker c.differences_or_reason-in-Fit-Fit.result _ _ (λ lines is words one other kept other_kept keeps other_keeps.
+returns-in-Fit-Fit c = IfOk-weaker c.differences_or_reason-in-Fit-Fit.result _ _
+    (λ lines is words one other kept other_kept keeps other_keeps.
     is (reduced_lines (meaning_without words one)) (reduced_lines (meaning_without words other)) keeps other_keeps
     ∙ two_fits_stay words one other c.args.image.now c.args.other.now _ _ c.in-Fit-Fit.is-0 c.in-Fit-Fit.is-1 kept other_kept)
     c.differences_or_reason-in-Fit-Fit.ensures

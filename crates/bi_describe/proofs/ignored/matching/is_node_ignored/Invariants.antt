@@ -7,4 +7,5 @@ use Rattle.bi_describe.proofs.ignored.matching.is_node_ignored.Given as goal
 -- The words that are left decide.
 abbrev pub invariant-loop-word : goal.invariant-loop-word
 invariant-loop-word l =
-    words.is_node_ignored (ignored_words (drop l.word-index l.words)) (bytes_of_names l.names) ≡ words.is_node_ignored (ignored_words l.words) (bytes_of_names l.names)
+    words.is_node_ignored (ignored_words (drop l.word-index l.words)) (bytes_of_names l.names) ≡ words.is_node_ignored
+    (ignored_words l.words) (bytes_of_names l.names)

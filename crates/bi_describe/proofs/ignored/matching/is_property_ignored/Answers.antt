@@ -6,5 +6,6 @@ use Rattle.bi_describe.proofs.ignored.matching.is_property_ignored.Goals as goal
 
 pub returns-then-names_property : goal.returns-then-names_property
 returns-then-names_property c =
-    any_found (words.names_property (bytes_of_names c.args.names.now) c.args.name.now) c.args.words.now c.loop-word.word-index c.word-item.result _ c.word-item.is
+    any_found (words.names_property (bytes_of_names c.args.names.now) c.args.name.now) c.args.words.now c.loop-word.word-index
+    c.word-item.result _ c.word-item.is
     c.loop-word-test.true (sym c.names_property.ensures ∙ c.if-names_property.true) c.loop-word.invariant

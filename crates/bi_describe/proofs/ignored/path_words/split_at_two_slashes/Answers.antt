@@ -6,8 +6,11 @@ pub loop-end-init : goal.loop-end-init
 loop-end-init c = (omega arith, no_two_at_first c.args.text.now)
 
 pub loop-end-preserved : goal.loop-end-preserved
-loop-end-preserved c =
-    (omega arith, no_two_more c.args.text.now c.loop-end.end (omega arith) (sym c.are_slashes.ensures ∙ c.if-are_slashes.false) c.loop-end.invariant.1)
+loop-end-preserved c = (
+  omega arith,
+  no_two_more c.args.text.now c.loop-end.end (omega arith) (sym c.are_slashes.ensures ∙ c.if-are_slashes.false)
+      c.loop-end.invariant.1,
+)
 
 pub returns-then-are_slashes-clause-some : goal.returns-then-are_slashes-clause-some
 returns-then-are_slashes-clause-some c =

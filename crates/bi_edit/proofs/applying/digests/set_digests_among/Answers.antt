@@ -18,7 +18,8 @@ returns-then-has_images-clause-set c =
     on_ok_weaker c.set_images_digests.result
     (λ is.
     sym (others_stay (index + 1) (models_by_name (set nodes index new)))
-    ∙ one_changed (changed_below with_payload_digests) (λ others. others) nodes index new c.node-item.result (omega (arith, c.loop-node-test.true))
+    ∙ one_changed (changed_below with_payload_digests) (λ others. others) nodes index new c.node-item.result
+    (omega (arith, c.loop-node-test.true))
     (λ later. other_children new old (with_payload_digests (with_each by_name old.children))
     c.set_images_digests.ensures.name c.set_images_digests.ensures.same is later
     ∙ images_here with_payload_digests old later (sym c.has_images.ensures ∙ c.if-has_images.true))
@@ -36,7 +37,8 @@ loop-node-preserved c =
     let nodes = c.loop-node.nodes in
     let index = c.loop-node.node-index in
     let old = get_or nodes index c.node-item.result in (
-      one_changed (changed_below with_payload_digests) (changed_below with_payload_digests) nodes index old c.node-item.result (omega (arith, c.loop-node-test.true))
+      one_changed (changed_below with_payload_digests) (changed_below with_payload_digests) nodes index old c.node-item.result
+          (omega (arith, c.loop-node-test.true))
           (λ later. no_images_here with_payload_digests old later (sym c.has_images.ensures ∙ c.if-has_images.false))
           ∙ c.loop-node.invariant.0,
       set-get_or nodes index c.node-item.result ∙ c.loop-node.invariant.1,
@@ -44,5 +46,6 @@ loop-node-preserved c =
 
 pub returns-clause-set : goal.returns-clause-set
 returns-clause-set c =
-    sym (all_changed (changed_below with_payload_digests) refl c.loop-node.node-index c.loop-node.nodes (omega (arith, c.loop-node-test.false)))
+    sym (all_changed (changed_below with_payload_digests) refl c.loop-node.node-index c.loop-node.nodes
+    (omega (arith, c.loop-node-test.false)))
     ∙ c.loop-node.invariant.0

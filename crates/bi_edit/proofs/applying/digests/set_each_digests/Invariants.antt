@@ -10,4 +10,5 @@ abbrev pub invariant-loop-image : goal.invariant-loop-image
 invariant-loop-image l =
     (changed_after l.image-index with_payload_digests (models_by_name l.images)
     ≡ with_payload_digests (models_by_name l.initial.images))
-    × ((names : List (List ℕ)) → IsNumberOf names value_name l.number → AreNumberedNodes names l.initial.images → AreNumberedNodes names l.images)
+    × ((names : List (List ℕ)) → IsNumberOf names value_name l.number → AreNumberedNodes names l.initial.images → AreNumberedNodes names
+    l.images)

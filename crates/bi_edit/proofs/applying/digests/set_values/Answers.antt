@@ -45,7 +45,8 @@ loop-node-preserved c =
           c.in_ok-set_value.ensures.name c.in_ok-set_value.ensures.set (given rest later))
           ∙ ap (λ digests. changed_after index (given digests) (models_by_name nodes)) (sym is.0)
           ∙ c.loop-node.invariant.0,
-      λ names is all. numbered_after names nodes index new c.node-item.result within (c.set_value.ensures.numbered names is) (c.loop-node.invariant.1 names is all),
+      λ names is all. numbered_after names nodes index new c.node-item.result within (c.set_value.ensures.numbered names is)
+          (c.loop-node.invariant.1 names is all),
       omega (arith, is.1, c.loop-node.invariant.2, ap length is.0),
     )
 

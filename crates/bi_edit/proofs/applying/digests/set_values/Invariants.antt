@@ -13,5 +13,6 @@ invariant-loop-node l =
     (models_by_name l.nodes)
     ≡ with_each_digest (map (option_map (λ bytes. bytes.items)) (into_iter_items l.initial.left))
     (models_by_name l.initial.nodes))
-    × ((names : List (List ℕ)) → IsNumberOf names value_name l.number → AreNumberedNodes names l.initial.nodes → AreNumberedNodes names l.nodes)
+    × ((names : List (List ℕ)) → IsNumberOf names value_name l.number → AreNumberedNodes names l.initial.nodes → AreNumberedNodes names
+    l.nodes)
     × (into_iter_len l.left ≡ length (into_iter_items l.left))

@@ -18,6 +18,11 @@ returns-in_err-result-clause-failed g c =
     let laws = g.met.C.Command.laws labelled.command.now c.args.limits in
     rw (p.1)
     (SinkFailed text c.in_err-result.field-0.0
-    (record { text = made.text; holds = laws.is_text c.in_ok-value.value c.args.input.now made.text made.is_text; is = ap (labelled_text labelled.format label) held })
+    (record {
+      text = made.text;
+      holds = laws.is_text c.in_ok-value.value c.args.input.now made.text made.is_text;
+      is = ap
+          (labelled_text labelled.format label) held;
+    })
     (search (rules, wrote, failure))
     (g.met.C.Command.wraps_from labelled.command.now c.args.limits _ _ p.2))

@@ -13,7 +13,6 @@ use Rattle.bi_norm.proofs.ConfigurationChecks.{configuration_name_fails, configu
 use Rattle.bi_norm.proofs.ConfigurationChecks.{model_at, within_models, past_models}
 use Rattle.bi_norm.proofs.fit_building.configurations.check_configurations.Goals as goal
 use Rattle.bi_norm.proofs.fit_building.configurations.check_configurations.Goals.{then-not-is_child_name-via-then-not-is_child_name}
-use Rattle.bi_norm.proofs.fit_building.configurations.check_configurations.Goals.{}
 use Rattle.bi_norm.proofs.fit_building.configurations.check_configurations.Goals.{then-not-is_child_name-via-else-not-is_child_name+then-not-lists_only}
 
 pub returns-then-not-is_child_name-clause-failed : goal.returns-then-not-is_child_name-clause-failed

@@ -77,7 +77,8 @@ returns-then-not-branch-clause-failed c =
     let held = HoldsNames-held c.loop-index.names (get_or images index no_spec).name
     (names_of_given (take index given)) c.loop-index.invariant.names has in
     let also_held = subst (λ (image : GivenImage). ¬ (IsNew image.spec.name.now (names_of_given (take index given)))) here held in
-    let first = name_fails given index no_given (within_given texts descriptions images index c.loop-index-test.true) c.loop-index.invariant.passed
+    let first = name_fails given index no_given (within_given texts descriptions images index c.loop-index-test.true)
+    c.loop-index.invariant.passed
     (subst (λ (image : GivenImage). AllPass (fields_and_names index image)) here c.in_ok-next.ensures.passed) also_held in
     search rules
 
@@ -131,7 +132,8 @@ returns-clause-passed c =
     let descriptions = c.args.descriptions.now in
     let images = c.args.images.now in
     c.loop-index.invariant.passed.left.passes
-    (passed_all (given_for texts descriptions images) c.loop-index.index (past_given texts descriptions images c.loop-index.index c.loop-index-test.false))
+    (passed_all (given_for texts descriptions images) c.loop-index.index
+    (past_given texts descriptions images c.loop-index.index c.loop-index-test.false))
 
 pub returns-clause-can : goal.returns-clause-can
 returns-clause-can c =
@@ -149,7 +151,8 @@ returns-clause-distinct c =
     let descriptions = c.args.descriptions.now in
     let images = c.args.images.now in
     subst AreDistinct
-    (ap names_of_given (all_given texts descriptions images c.loop-index.index c.loop-index-test.false) ∙ names-given_images (texts_models texts) (descriptions_models descriptions) images)
+    (ap names_of_given (all_given texts descriptions images c.loop-index.index c.loop-index-test.false) ∙ names-given_images
+    (texts_models texts) (descriptions_models descriptions) images)
     c.loop-index.invariant.distinct
 
 pub returns-clause-named : goal.returns-clause-named
@@ -163,5 +166,6 @@ returns-clause-names c =
     let descriptions = c.args.descriptions.now in
     let images = c.args.images.now in
     subst (HoldsNames c.loop-index.names)
-    (ap names_of_given (all_given texts descriptions images c.loop-index.index c.loop-index-test.false) ∙ names-given_images (texts_models texts) (descriptions_models descriptions) images)
+    (ap names_of_given (all_given texts descriptions images c.loop-index.index c.loop-index-test.false) ∙ names-given_images
+    (texts_models texts) (descriptions_models descriptions) images)
     c.loop-index.invariant.names

@@ -7,11 +7,11 @@ use Rattle.bi_fit.specs.NamedImages.{configuration_spec_model, configuration_spe
 use Rattle.bi_norm.specs.BuildChecks.{HasTextValues}
 use Rattle.bi_norm.specs.FitBuilding.{own_texts_of_configuration}
 use Rattle.bi_norm.proofs.ConfigurationChecks.{no_configuration_spec}
-use Rattle.bi_norm.proofs.OwnTexts.{all_texts_pass, configuration_texts_at, length-configuration_texts, models_more, none_passed, texts_fail}
+use Rattle.bi_norm.proofs.OwnTexts.{all_texts_pass, configuration_texts_at, length-configuration_texts, models_more, none_passed}
+use Rattle.bi_norm.proofs.OwnTexts.{texts_fail}
 use Rattle.bi_norm.proofs.OwnTexts.{texts_of_option, texts_pass}
 use Rattle.bi_norm.proofs.fit_building.texts.check_configuration_texts.Goals as goal
 use Rattle.bi_norm.proofs.fit_building.texts.check_configuration_texts.Goals.{then-not-has_text-via-then-not-has_text}
-use Rattle.bi_norm.proofs.fit_building.texts.check_configuration_texts.Goals.{}
 use Rattle.bi_norm.proofs.fit_building.texts.check_configuration_texts.Goals.{then-not-has_text-via-else-not-has_text+then-not-are_texts}
 
 pub loop-index-init : goal.loop-index-init

@@ -5,7 +5,8 @@ use Rattle.bi_blob.specs.Tree.{HasNoZero}
 use Rattle.bi_fit.specs.Building.{ImageSpecModel, IsText}
 use Rattle.bi_fit.specs.NamedImages.{named_model, named_models}
 use Rattle.bi_norm.specs.FitBuilding.{own_texts_of_image}
-use Rattle.bi_norm.proofs.OwnTexts.{all_texts_pass, image_texts_at, length-image_texts, models_more, no_checked_image, none_passed, texts_fail}
+use Rattle.bi_norm.proofs.OwnTexts.{all_texts_pass, image_texts_at, length-image_texts, models_more, no_checked_image, none_passed}
+use Rattle.bi_norm.proofs.OwnTexts.{texts_fail}
 use Rattle.bi_norm.proofs.OwnTexts.{texts_of_option, texts_pass}
 use Rattle.bi_norm.proofs.fit_building.texts.check_image_texts.Goals as goal
 

@@ -58,7 +58,8 @@ add_node-requires t c =
     ap nodes_of_models c.deref-child-items.ensures.value ∙ ap (λ top. top.children) c.node.view_is in
     let named : c.child.inside.name.now ≡ child.name = ap (λ top. top.name) c.child.view_is in
     let ranked = subst (AreRankedNodes document.names c.args.ranks.now) left c.loop-child.invariant.2 in
-    let begun_names : c.begin_node.new.doc.names ≡ c.args.doc.now.names = ap (λ document. document.names) c.in_ok-begin_node.ensures.added in (
+    let begun_names : c.begin_node.new.doc.names ≡ c.args.doc.now.names = ap (λ document. document.names)
+    c.in_ok-begin_node.ensures.added in (
       omega (
         arith,
         subst (λ nodes. node_count child.children < node_count nodes) same

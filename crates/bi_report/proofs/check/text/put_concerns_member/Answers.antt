@@ -14,5 +14,6 @@ returns g c =
     let same : concerns_in (kept_left c.kept.result) ≡ kept_concerns allowed_by_default all =
     ap concerns_in c.kept.ensures ∙ kept_in c.allowed_kinds.result (concerns_left c.args.concerns)
     ∙ ap (λ kinds. kept_concerns kinds all) (c.allowed_kinds.ensures ∙ ap allowed_under is_none) in
-    subst (λ (kept : List Concern). g.J.JsonPen.puts c.args.json.now (member_tokens (concerns_member kept ∷ [])) c.put_member_of_concerns-any.new.json)
+    subst (λ (kept : List Concern). g.J.JsonPen.puts c.args.json.now (member_tokens (concerns_member kept ∷ []))
+    c.put_member_of_concerns-any.new.json)
     same c.put_member_of_concerns-any.ensures.member

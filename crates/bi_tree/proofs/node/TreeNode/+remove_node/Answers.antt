@@ -20,7 +20,8 @@ returns-then-index-len-clause-removed t c =
     ap (λ nodes. record { own = tree_properties c.self.inside.properties.items; children = nodes }) changed
     ∙ ap (λ top. record { own = top.own; children = with_node (first_name path) (without_node_at later) top.children })
     c.self.view_is
-    ∙ sym (removed_below (first_name path) later (below c.args.self.now) (some_names (take (length path - 1) (drop 1 path)) (sym c.is_empty.ensures ∙ c.if-is_empty.false)))
+    ∙ sym (removed_below (first_name path) later (below c.args.self.now)
+    (some_names (take (length path - 1) (drop 1 path)) (sym c.is_empty.ensures ∙ c.if-is_empty.false)))
     ∙ sym
     (ap (λ names. without_node_at names (below c.args.self.now))
     (path_is path c.in-len1-up.len_at_least))
@@ -37,7 +38,8 @@ returns-else-index-len-clause-removed t c =
     ∙ ap (λ nodes. record { own = tree_properties c.self.inside.properties.items; children = nodes }) same
     ∙ ap (λ top. record { own = top.own; children = with_node (first_name path) (without_node_at later) top.children })
     c.self.view_is
-    ∙ sym (removed_below (first_name path) later (below c.args.self.now) (some_names (take (length path - 1) (drop 1 path)) (sym c.is_empty.ensures ∙ c.if-is_empty.false)))
+    ∙ sym (removed_below (first_name path) later (below c.args.self.now)
+    (some_names (take (length path - 1) (drop 1 path)) (sym c.is_empty.ensures ∙ c.if-is_empty.false)))
     ∙ sym
     (ap (λ names. without_node_at names (below c.args.self.now))
     (path_is path c.in-len1-up.len_at_least))

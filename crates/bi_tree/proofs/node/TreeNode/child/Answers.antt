@@ -8,5 +8,6 @@ returns c =
     let items = c.self.inside.children.items in
     read_at items c.deref-2.result.now c.find_child-index.result c.get.result c.deref-2.ensures.value c.get.ensures.lookup.3
     ∙ sym
-    (node_found_at items c.deref.result.now c.deref.ensures.value c.find_child-index.result c.args.name.now c.find_child-index.ensures.index)
+    (node_found_at items c.deref.result.now c.deref.ensures.value c.find_child-index.result c.args.name.now
+    c.find_child-index.ensures.index)
     ∙ ap (λ top. child_named top.children c.args.name.now) c.self.view_is

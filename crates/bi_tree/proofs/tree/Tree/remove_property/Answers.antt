@@ -18,5 +18,6 @@ pub returns : goal.returns
 returns c =
     let path = bytes_of c.args.path.now in
     ap tree_by_name c.remove_property.ensures.removed
-    ∙ changes_by_name.property (bytes_of c.self.inside.names.items) (below c.self.inside.root) path c.args.name.now c.self.invariant.numbered
+    ∙ changes_by_name.property (bytes_of c.self.inside.names.items) (below c.self.inside.root) path c.args.name.now
+    c.self.invariant.numbered
     ∙ ap (without_value_by_path path c.args.name.now) c.self.view_is

@@ -12,7 +12,6 @@ use Rattle.bootimg.proofs.CommandLines.{outcome_weaker}
 use Rattle.bootimg.proofs.ConfigurationFacts.{first_bad_word, good_word, name_twice, names_next, cannot_build_word, no_word, words_to}
 use Rattle.bootimg.proofs.command_line.configurations.parse_configurations.Goals as goal
 use Rattle.bootimg.proofs.command_line.configurations.parse_configurations.Goals.{then-not-is_child_name-via-then-not-is_child_name}
-use Rattle.bootimg.proofs.command_line.configurations.parse_configurations.Goals.{}
 use Rattle.bootimg.proofs.command_line.configurations.parse_configurations.Goals.{then-not-is_child_name-via-else-not-is_child_name+then-not-lists_only}
 
 -- What a list of words gives past its end.

@@ -25,7 +25,8 @@ returns-in_err-form-clause-failure c =
     fails_with (IsBadValue (IsGetPlan options)) c.from_residual.result c.in_err-form.field-0.0 c.from_residual.ensures.1 (
       failed.1,
       λ plan is.
-          absurd (let e : None ≡ Some plan.form = sym failed.0 ∙ c.parse_form.ensures.exactly plan.form (c.get_str.ensures ∙ is.form) in cc),
+          absurd (let e : None ≡ Some plan.form = sym failed.0 ∙ c.parse_form.ensures.exactly plan.form (c.get_str.ensures ∙ is.form) in
+          cc),
     )
 
 pub returns-in_err-names-clause-failure : goal.returns-in_err-names-clause-failure
@@ -56,7 +57,8 @@ returns-then-not-can_write-clause-failure c =
     inl (
       refl,
       λ plan is.
-          let given : Some c.in_ok-form.form ≡ Some plan.form = sym found ∙ c.parse_form.ensures.exactly plan.form (c.get_str.ensures ∙ is.form) in
+          let given : Some c.in_ok-form.form ≡ Some plan.form = sym found ∙ c.parse_form.ensures.exactly plan.form
+          (c.get_str.ensures ∙ is.form) in
           let form : c.in_ok-form.form ≡ plan.form = cc in
           let all = c.in_ok-names.ensures.names.only (value_name_models plan.names.items) is.names.valid (is.names.are ∙ sym same) in
           let one = is.one (sym form ∙ cannot.0) in

@@ -25,5 +25,6 @@ loop-node-preserved g c =
           put_goes_on g.J.JsonPen.puts g.met.J.JsonPen.puts_in_turn c.args.json.now c.loop-node.json c.put_configuration_object.new.json
           (json_tokens (object (node_of c.in-Some.node))) (value_tokens (map object later)) _ _ c.loop-node.invariant.are_put
           (ap (λ entries. value_tokens (map object entries)) steps) c.put_configuration_object.ensures;
-      covered = others_after configuration_value cover c.loop-node.left.now first _ _ (node_of c.in-Some.node) later parts steps c.loop-node.invariant.covered;
+      covered = others_after configuration_value cover c.loop-node.left.now first _ _ (node_of c.in-Some.node) later parts steps
+          c.loop-node.invariant.covered;
     }

@@ -29,7 +29,8 @@ loop-child-init g c =
       are_put = put_begins g.J.JsonPen.puts g.met.J.JsonPen.puts_nothing c.args.json.now _ _
           (ap (λ l. value_tokens (map object (filter is_signed_node l))) start);
       covered = c.requires.covered ∙ coverage_of_children content entry
-          ∙ ap (λ l. map (signature_coverage content (meaning_of_node c.args.node)) (filter is_signed (map meaning_of_sibling l))) (sym start);
+          ∙ ap (λ l. map (signature_coverage content (meaning_of_node c.args.node)) (filter is_signed (map meaning_of_sibling l)))
+          (sym start);
     }
 
 pub unreachable-requires : goal.unreachable-requires
@@ -59,7 +60,8 @@ loop-child-preserved-then-is_signed g c =
           (objects_from_first object child _ later c.in-Some.ensures.steps signed)
           (subst (λ (value : Json). g.J.JsonPen.puts c.loop-child.json (json_tokens value) c.put_signature_object.new.json) covers
           c.put_signature_object.ensures);
-      covered = coverage_after_signed content entry child _ later left c.in-Some.ensures.steps c.loop-child.invariant.covered first _ signed parts;
+      covered = coverage_after_signed content entry child _ later left c.in-Some.ensures.steps c.loop-child.invariant.covered first _
+          signed parts;
     }
 
 pub loop-child-preserved : goal.loop-child-preserved
