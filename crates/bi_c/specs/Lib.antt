@@ -1,6 +1,7 @@
 pub mod Answers
 pub mod Arguments
 pub mod Calls
+pub mod CodeCalls
 pub mod ConcernElements
 pub mod Extracting
 pub mod FitElements
@@ -14,6 +15,7 @@ pub mod KnownTreeCalls
 pub mod KnownValueCalls
 pub mod LegacyElements
 pub mod NodeElements
+pub mod NoteNumbers
 pub mod PieceBuilding
 pub mod TreeBuilding
 pub mod TreeRegions
