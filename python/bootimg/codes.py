@@ -78,4 +78,6 @@ def _number_of(index: int, name: str) -> int:
 
 def _index_of(field: str) -> int:
     """Returns the number of a field for C."""
-    return bootimg._index_of(field, tuple(CODES))
+    if field not in CODES:
+        raise bootimg.WrongArgument(f"wrong argument: {field}")
+    return tuple(CODES).index(field)

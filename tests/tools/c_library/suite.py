@@ -176,9 +176,28 @@ for found in values:
 if len(values) < 30:
     print("FAILED: too few runs get one value")
 
+# Each code has its first name.
+named = [
+    f"{field} {bootimg.code_name(word, code)} {code}\n"
+    for field, word in enumerate(bootimg.CODES)
+    for code in range(256)
+    if bootimg.code_name(word, code) is not None
+]
+same = outcome([calls.resolve(), "codes"]) == (0, "".join(named).encode(), b"")
+passed += same
+failed += not same
+if not same:
+    print("FAILED: the names of codes")
+
 # Images that are built have the other two causes.
 refusals = {bootimg.cause_name(number) for number in range(1, 27)} - {"BadField", "Unsupported"} | set(bootimg.REASONS[:9])
 seen = {re.sub(r"( at)? \d+$", "", wanted[2].decode(errors="replace").strip().rpartition(": ")[2]) for _, _, wanted in results}
+noted = b"".join(wanted[2] for _, _, wanted in results)
+for note in b"signature nodes carried", b"payloads are no longer aligned", b"fixed positions of payloads":
+    passed += note in noted
+    failed += note not in noted
+    if note not in noted:
+        print(f"FAILED: no run has the note on {note.decode()}")
 for refusal in sorted(refusals):
     passed += refusal in seen
     failed += refusal not in seen
