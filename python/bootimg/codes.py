@@ -46,7 +46,8 @@ def code_number(field: str, code: Code) -> int:
     >>> bootimg.code_number("arch", "arm64"), bootimg.code_number("arch", 22)
     (22, 22)
     """
-    number = _number_of(_index_of(field), code) if isinstance(code, str) else code
+    index = _index_of(field)
+    number = _number_of(index, code) if isinstance(code, str) else code
     if not 0 <= number <= 255:
         raise bootimg.WrongArgument(f"wrong argument: {field} {code!r}")
     return number
