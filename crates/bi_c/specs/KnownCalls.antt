@@ -15,7 +15,9 @@ use Rattle.bi_describe.specs.declared.compare.CompareError.TheVariants as compar
 use Rattle.bi_fit.specs.Content.{FitModel, ImageModel, tree_of}
 use Rattle.bi_fit.specs.Judgement.{CheckedHash}
 use Rattle.bi_fit.specs.KnownJudgements.{configured_tree}
+use Rattle.bi_fit.specs.Text.{alignment_of}
 use Rattle.bi_blob.specs.Lookups.{Sibling}
+use Rattle.bi_fit.specs.declared.form.Form.TheVariants.{Embedded, External}
 use Rattle.bi_fit.specs.declared.image.Place.{Place}
 use Rattle.bi_fit.specs.declared.image.Place.TheVariants.{Data, DataOffset}
 use Rattle.bi_fit.specs.declared.key.Key.TheVariants.{Kernel, Fdt, Script}

@@ -8,7 +8,9 @@ pub mod FitElements
 pub mod ImageElements
 pub mod KnownElements
 pub mod KnownCalls
+pub mod KnownCodeCalls
 pub mod KnownLegacyCalls
+pub mod KnownNotes
 pub mod KnownNumbers
 pub mod KnownPaths
 pub mod KnownTreeCalls
