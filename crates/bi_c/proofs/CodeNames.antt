@@ -46,12 +46,15 @@ no_name_without_text (entry ∷ later) are name no_text = by (bytes_eq entry.nam
         (IsUtf8-from_ascii entry.name (is_ascii entry.name (ascii_by_test entry.name parts.0)))))
     by false other = no_name_without_text later parts.1 name no_text
 
+-- The names of a field, by the tests of its number.
+abbrev names_by : (first second third : Bool) → List CodeName
+names_by first second third = cond first given_os_names (cond second given_arch_names (cond third given_type_names compression_names))
+
 -- The names of each field.
 pub no_name_of_field_without_text : (field : ℕ) (name : List ℕ) → ¬ (IsUtf8 name) → code_of_name (names_of_field field) name ≡ None
 no_name_of_field_without_text field name no_text = by (field == 0) (field == 1) (field == 2)
   where
-    by : (first second third : Bool) →
-        code_of_name (cond first given_os_names (cond second given_arch_names (cond third given_type_names compression_names))) name ≡ None
+    by : (first second third : Bool) → code_of_name (names_by first second third) name ≡ None
     by true second third = no_name_without_text given_os_names refl name no_text
     by false true third = no_name_without_text given_arch_names refl name no_text
     by false false true = no_name_without_text given_type_names refl name no_text
@@ -60,7 +63,7 @@ no_name_of_field_without_text field name no_text = by (field == 0) (field == 1) 
 -- ---- the code of the name of a code
 
 -- Whether a code is this one.
-is_this : Option ℕ → ℕ → Bool
+abbrev is_this : Option ℕ → ℕ → Bool
 is_this None code = false
 is_this (Some found) code = found == code
 
@@ -94,11 +97,8 @@ code_of_its_name_of_field : (field code : ℕ) (name : List ℕ) → name_of_cod
     code_of_name (names_of_field field) name ≡ Some code
 code_of_its_name_of_field field code name = by (field == 0) (field == 1) (field == 2)
   where
-    names_by : (first second third : Bool) → List CodeName
-    names_by first second third = cond first given_os_names (cond second given_arch_names (cond third given_type_names compression_names))
-
-    by : (first second third : Bool) → name_of_code (names_by first second third) code ≡ Some name →
-        code_of_name (names_by first second third) name ≡ Some code
+    by : (first second third : Bool) →
+        name_of_code (names_by first second third) code ≡ Some name → code_of_name (names_by first second third) name ≡ Some code
     by true second third = code_of_its_name given_os_names given_os_names refl code name
     by false true third = code_of_its_name given_arch_names given_arch_names refl code name
     by false false true = code_of_its_name given_type_names given_type_names refl code name
@@ -106,18 +106,12 @@ code_of_its_name_of_field field code name = by (field == 0) (field == 1) (field 
 
 -- ---- known names
 
-same_code : (one other : ℕ) → Some one ≡ Some other → one ≡ other
-same_code one other same = cc
-
-same_name : (one other : List ℕ) → Some one ≡ Some other → one ≡ other
-same_name one other same = cc
-
 -- A name has one code, and the call returns it.
 finds_code : (field code : ℕ) (name : List ℕ) → field < 4 → code_of_name (names_of_field field) name ≡ Some code →
     AlwaysAnswers (IsNumberOfName field name) (IsCodeNumberFailure field name) (answer_of 0 code) 0
 finds_code field code name is_field found =
     always_answers (IsNumberOfName field name) (IsCodeNumberFailure field name) 0 code
-    (λ size value is. (is.nothing, same_code value code (sym is.is_code ∙ found))) fails
+    (λ size value is. (is.nothing, let same : Some value ≡ Some code = sym is.is_code ∙ found in cc)) fails
   where
     fails : (failure : Failure) → IsCodeNumberFailure field name failure → failure ≡ OutOfMemory
     fails WrongArgument is = absurd (is is_field)
@@ -164,7 +158,7 @@ names_of_codes_are_known = record {
   arch = record { arguments = record { is_field = lit< tt; is_code = lit< tt }; is_name = refl; no_value = refl };
   image_type = record { arguments = record { is_field = lit< tt; is_code = lit< tt }; is_name = refl; no_value = refl };
   compression = record { arguments = record { is_field = lit< tt; is_code = lit< tt }; is_name = refl; no_value = refl };
-  only_name = λ text value is. sym (same_name (codes "linux") text is.is_name);
+  only_name = λ text value is. let same : Some (codes "linux") ≡ Some text = is.is_name in cc;
   no_name = λ before.
       never_fills (IsNameOfCode 0 0) (IsCodeNameFailure 0 0) before (NotFound 14 0)
       (λ text value is. let wrong : None ≡ Some text = is.is_name in cc) no_name_fails;
