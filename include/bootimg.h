@@ -32,7 +32,7 @@
  *                           BOOTIMG_OK.
  *   BOOTIMG_WRONG_ARGUMENT  A number is out of the range of its argument.
  *   BOOTIMG_NOT_FOUND       What the call looks for is not there. `reason` is one of
- *                           BOOTIMG_WRONG_KIND to BOOTIMG_NO_NUMBER. `value` is the index of the
+ *                           BOOTIMG_WRONG_KIND to BOOTIMG_NO_CODE. `value` is the index of the
  *                           first name that no image has for BOOTIMG_MISSING, and otherwise 0.
  *
  * Numbers without meaning for the status or the call are 0. If the status is BOOTIMG_OK, the
@@ -100,11 +100,14 @@ enum bootimg_cause {
 #define BOOTIMG_LEGACY 1u
 #define BOOTIMG_FIT 2u
 
-/* `form`: whether the payloads in the normal form of a FIT are inside the blob or after it. */
+/* `form`: where the payloads in the normal form of a FIT are: inside the blob, or after it. A power
+ * of two from 4 to 1048576 is a form, too: the payloads are after the blob, and each of them begins
+ * at a multiple of this number of bytes, as with `--external --align` of the program. With
+ * BOOTIMG_EXTERNAL they begin at multiples of 4. */
 #define BOOTIMG_EMBEDDED 0u
 #define BOOTIMG_EXTERNAL 1u
 
-/* `changes` of bootimg_update. */
+/* `changes` of bootimg_update and bootimg_notes. */
 #define BOOTIMG_CHANGE_TIME 1u
 #define BOOTIMG_CHANGE_HASHES 2u
 
@@ -130,6 +133,14 @@ enum bootimg_cause {
 #define BOOTIMG_NO_PROPERTY 11u
 #define BOOTIMG_NO_TEXT 12u
 #define BOOTIMG_NO_NUMBER 13u
+#define BOOTIMG_NO_NAME 14u
+#define BOOTIMG_NO_CODE 15u
+
+/* `field`: a field of the header of a legacy image that contains a code. */
+#define BOOTIMG_CODE_OS 0u
+#define BOOTIMG_CODE_ARCH 1u
+#define BOOTIMG_CODE_IMAGE_TYPE 2u
+#define BOOTIMG_CODE_COMPRESSION 3u
 
 /* `form` of a value. */
 #define BOOTIMG_VALUE_SHOWN 0u
@@ -239,6 +250,18 @@ typedef struct bootimg_legacy_fields {
     uint8_t compression;
 } bootimg_legacy_fields;
 
+/* What a user should know about a normal form beyond what it means: the numbers in the notes that
+ * the program prints. `signatures` is the number of signature nodes, which are kept and not
+ * checked. With BOOTIMG_EXTERNAL, `lost_positions` is the number of payloads that `data-position`
+ * gives in the file, which `data-offset` gives instead, and `lost_alignment` is the alignment in
+ * bytes that the payloads after the blob have in the file, if one of them loses it. Empty payloads
+ * do not count. The last two are otherwise 0, and for a legacy image all numbers are. */
+typedef struct bootimg_note_numbers {
+    size_t signatures;
+    size_t lost_positions;
+    uint32_t lost_alignment;
+} bootimg_note_numbers;
+
 /* The fields of the blob of a FIT: the number of the boot processor, and its size in bytes. */
 typedef struct bootimg_fit_fields {
     uint32_t boot_cpu;
@@ -327,9 +350,9 @@ typedef struct bootimg_build_image {
  * four bytes, and with BadMagic at 0 for one without a magic number. */
 uint32_t bootimg_kind(const uint8_t *file, size_t file_size, bootimg_result *answer);
 
-/* Writes the normal form of a file. `form` is BOOTIMG_EMBEDDED or BOOTIMG_EXTERNAL, and changes
- * nothing for a legacy image. `value` is the number of signature nodes, which are kept and not
- * checked. The call fails with TooLarge if the normal form is longer than `limit`. */
+/* Writes the normal form of a file. `form` changes nothing for a legacy image. `value` is the
+ * number of signature nodes, which are kept and not checked. The call fails with TooLarge if the
+ * normal form is longer than `limit`. */
 uint32_t bootimg_normalise(const uint8_t *file, size_t file_size, uint32_t form, uint32_t limit,
                            uint32_t depth, uint8_t *buffer, size_t buffer_size,
                            bootimg_result *answer);
@@ -343,6 +366,14 @@ uint32_t bootimg_normalise(const uint8_t *file, size_t file_size, uint32_t form,
 uint32_t bootimg_update(const uint8_t *file, size_t file_size, uint32_t changes, uint32_t time,
                         uint32_t form, uint32_t limit, uint32_t depth, uint8_t *buffer,
                         size_t buffer_size, bootimg_result *answer);
+
+/* Sets the numbers in the notes that the program prints after it has written the normal form with
+ * these changes, or, if `changes` is 0, the normal form. They are unchanged unless the status is
+ * BOOTIMG_OK. The arguments are those of bootimg_update, and the call fails as it does. The output
+ * is made in memory that the call allocates. */
+uint32_t bootimg_notes(const uint8_t *file, size_t file_size, uint32_t changes, uint32_t time,
+                       uint32_t form, uint32_t limit, uint32_t depth, bootimg_note_numbers *notes,
+                       bootimg_result *answer);
 
 /* The calls that extract copy nothing. `value` is the offset in the file of the first selected
  * byte, and `size` is the number of selected bytes. All of them are inside the file. No hash node
@@ -578,18 +609,31 @@ uint32_t bootimg_build_legacy(const uint8_t *input, size_t input_size,
 
 /* Writes a FIT with these images, the SHA-256 of their payloads, and one configuration, `conf-1`,
  * which lists the images by their types. The tree, the images and the configuration get the
- * description. `time` is the time of creation, in seconds since 1970, and `form` BOOTIMG_EMBEDDED
- * or BOOTIMG_EXTERNAL. If a region is not inside the input, or `addresses` is not such a sum, the
- * status is BOOTIMG_WRONG_ARGUMENT. The call fails with TooLarge if there are more images than
- * `limit`; with BadField at 0 if the description contains a zero byte; for the images in order, at
- * their index: with BadField if the name is empty or contains a zero byte or a `/`, or the type is
- * multi, with NoCodeName if a code has no name, and with DuplicateNode if an earlier image has its
- * name; and with TooLarge if the FIT is longer than `limit`. */
+ * description. `time` is the time of creation, in seconds since 1970. If a region is not inside the
+ * input, or `addresses` is not such a sum, the status is BOOTIMG_WRONG_ARGUMENT. The call fails
+ * with TooLarge if there are more images than `limit`; with BadField at 0 if the description
+ * contains a zero byte; for the images in order, at their index: with BadField if the name is empty
+ * or contains a zero byte or a `/`, or the type is multi, with NoCodeName if a code has no name,
+ * and with DuplicateNode if an earlier image has its name; and with TooLarge if the FIT is longer
+ * than `limit`. */
 uint32_t bootimg_build_fit(const uint8_t *input, size_t input_size, const uint8_t *description,
                            size_t description_size, uint32_t time,
                            const bootimg_build_image *images, size_t images_count, uint32_t form,
                            uint32_t limit, uint32_t depth, uint8_t *buffer, size_t buffer_size,
                            bootimg_result *answer);
+
+/* Writes the name of a code, 0 to 255, of a field, one of BOOTIMG_CODE_OS to
+ * BOOTIMG_CODE_COMPRESSION: the name that `bootimg build-legacy` takes. It is the name in
+ * bootimg_list, if there is one. If the code has no name, the status is BOOTIMG_NOT_FOUND and
+ * `reason` is BOOTIMG_NO_NAME. */
+uint32_t bootimg_code_name(uint32_t field, uint32_t code, uint8_t *buffer, size_t buffer_size,
+                           bootimg_result *answer);
+
+/* Returns in `value` the code of a field that has the given name. The name is one that `bootimg
+ * build-legacy` takes, and is not NUL-terminated. If no code has the name, the status is
+ * BOOTIMG_NOT_FOUND and `reason` is BOOTIMG_NO_CODE. */
+uint32_t bootimg_code_number(uint32_t field, const uint8_t *name, size_t name_size,
+                             bootimg_result *answer);
 
 /* Writes the name of the cause with the given number, 1 to 26, for example `Truncated`. The status
  * is BOOTIMG_WRONG_ARGUMENT for any other number. */

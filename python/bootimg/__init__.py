@@ -18,8 +18,8 @@ out of its range or a name is unknown, NotFound if there is nothing to extract, 
 OutOfMemory if an allocation fails.
 
 `python3 -m bootimg COMMAND ..` writes what `bootimg COMMAND ..` writes, and ends with the same
-status. It lacks `-o`, `--escaped`, `--offset`, `--align` and `--all`, and its message about wrong
-arguments is different. It also takes names that are not UTF-8. `python3 -m bootimg --help` lists
+status. It lacks `-o`, `--escaped`, `--offset` and `--all`, and its message about wrong arguments
+is different. It also takes names that are not UTF-8. `python3 -m bootimg --help` lists
 its commands.
 
 The module loads the library that the environment variable BOOTIMG_LIBRARY names, if it is set, or
@@ -59,6 +59,7 @@ __all__ = [
     "LegacyHeader",
     "Node",
     "NotFound",
+    "Notes",
     "OutOfMemory",
     "Part",
     "REASONS",
@@ -92,6 +93,7 @@ __all__ = [
     "listing_json",
     "normalise",
     "normalise_and_count",
+    "notes",
     "open",
     "same_meaning",
     "show",
@@ -140,6 +142,8 @@ REASONS = (
     "no such property",
     "no text",
     "no number",
+    "no name",
+    "no code",
 )
 VALUE_FORMS = ("shown", "text", "number", "raw")
 
@@ -195,6 +199,18 @@ class Report(NamedTuple):
     all_good: bool
 
 
+class Notes(NamedTuple):
+    """What a user should know about a normal form beyond what it means. `signatures` is the number
+    of signature nodes, which are kept and not checked. The others are for a FIT in the external
+    form, without an alignment: `lost_alignment` is the alignment in bytes that the payloads after
+    the blob have in the file, if one of them loses it, or None, and `lost_positions` is the number
+    of fixed positions of payloads that are not kept."""
+
+    signatures: int
+    lost_alignment: int | None
+    lost_positions: int
+
+
 class Comparison(NamedTuple):
     """Whether two files mean the same thing, and what differs."""
 
@@ -227,6 +243,14 @@ class _LegacyFields(ctypes.Structure):
         ("arch", ctypes.c_uint8),
         ("image_type", ctypes.c_uint8),
         ("compression", ctypes.c_uint8),
+    ]
+
+
+class _NoteNumbers(ctypes.Structure):
+    _fields_ = [
+        ("signatures", ctypes.c_size_t),
+        ("lost_positions", ctypes.c_size_t),
+        ("lost_alignment", ctypes.c_uint32),
     ]
 
 
@@ -280,6 +304,7 @@ _CALLS = {
     "kind": _FILE,
     "normalise": _FILE + _NUMBER * 3 + _BUFFER,
     "update": _FILE + _NUMBER * 5 + _BUFFER,
+    "notes": _FILE + _NUMBER * 5 + [ctypes.c_void_p],
     "extract_part": _FILE + _NUMBER * 3,
     "extract_image": _FILE * 2 + _NUMBER * 2,
     "extract_config": _FILE * 2 + _NUMBER * 4,
@@ -305,6 +330,8 @@ _CALLS = {
     "compare_json": _FILE * 2 + _NUMBER * 2 + _BUFFER,
     "build_fit": _FILE * 2 + _NUMBER + _FILE + _NUMBER * 3 + _BUFFER,
     "build_legacy": _FILE + [ctypes.c_void_p] + _FILE + _NUMBER * 2 + _BUFFER,
+    "code_name": _NUMBER * 2 + _BUFFER,
+    "code_number": _NUMBER + _FILE,
     "cause_name": _NUMBER + _BUFFER,
     "explain": _NUMBER + _BUFFER,
     "version": _BUFFER,
@@ -474,21 +501,42 @@ def kind(file: Buffer) -> str:
     return ("legacy", "fit")[_call("kind", (file,)).value - 1]
 
 
+def _form(external: bool, align: int | None) -> int:
+    """Returns the number of a form. Raises WrongArgument for an alignment of embedded payloads, and
+    for 0 and 1, which are the numbers of the forms without an alignment."""
+    if align is None:
+        return int(external)
+    if not external or align in (0, 1):
+        raise WrongArgument("wrong argument")
+    return _number(align)
+
+
 def normalise(
-    file: Buffer, external: bool = False, limit: int = LIMIT, depth: int = DEPTH
+    file: Buffer,
+    external: bool = False,
+    limit: int = LIMIT,
+    depth: int = DEPTH,
+    *,
+    align: int | None = None,
 ) -> bytes:
-    """Returns the normal form of a file. With `external`, the payloads of a FIT are after the blob.
+    """Returns the normal form of a file. With `external`, the payloads of a FIT are after the blob,
+    and each begins at a multiple of `align` bytes, a power of two from 4 to 1048576, or of 4 bytes.
     Raises Refused with TooLarge if the normal form is longer than `limit`."""
-    return normalise_and_count(file, external, limit, depth)[0]
+    return normalise_and_count(file, external, limit, depth, align=align)[0]
 
 
 def normalise_and_count(
-    file: Buffer, external: bool = False, limit: int = LIMIT, depth: int = DEPTH
+    file: Buffer,
+    external: bool = False,
+    limit: int = LIMIT,
+    depth: int = DEPTH,
+    *,
+    align: int | None = None,
 ) -> tuple[bytes, int]:
     """Returns what `normalise` returns, and the number of signature nodes, which are kept and not
     checked."""
-    room = _size_of(file) + 4096
-    return _fill("normalise", room, (file,), int(external), _number(limit), _number(depth))
+    numbers = (_form(external, align), _number(limit), _number(depth))
+    return _fill("normalise", _size_of(file) + 4096, (file,), *numbers)
 
 
 def update(
@@ -498,11 +546,14 @@ def update(
     external: bool = False,
     limit: int = LIMIT,
     depth: int = DEPTH,
+    *,
+    align: int | None = None,
 ) -> bytes:
     """Returns the normal form of a file with the time of creation `time`, in seconds since 1970, if
-    it is given, and with new digests, if `hashes` is set. Raises Refused with TooLarge if the
-    output is longer than `limit`, or, with `hashes`, if the payloads together are longer."""
-    return update_and_count(file, time, hashes, external, limit, depth)[0]
+    it is given, and with new digests, if `hashes` is set. `external` and `align` are as for
+    `normalise`. Raises Refused with TooLarge if the output is longer than `limit`, or, with
+    `hashes`, if the payloads together are longer."""
+    return update_and_count(file, time, hashes, external, limit, depth, align=align)[0]
 
 
 def update_and_count(
@@ -512,12 +563,52 @@ def update_and_count(
     external: bool = False,
     limit: int = LIMIT,
     depth: int = DEPTH,
+    *,
+    align: int | None = None,
 ) -> tuple[bytes, int]:
     """Returns what `update` returns, and the number of signature nodes, which are kept and not
     checked."""
-    changes = int(time is not None) + 2 * int(hashes)
-    numbers = (changes, _number(time or 0), int(external), _number(limit), _number(depth))
+    numbers = _update_numbers(time, hashes, external, align, limit, depth)
     return _fill("update", _size_of(file) + 4096, (file,), *numbers)
+
+
+def notes(
+    file: Buffer,
+    time: int | None = None,
+    hashes: bool = False,
+    external: bool = False,
+    limit: int = LIMIT,
+    depth: int = DEPTH,
+    *,
+    align: int | None = None,
+) -> Notes:
+    """Returns what a user should know about what `update` returns with these arguments, or
+    `normalise` without `time` and `hashes`. Raises what `update` raises.
+
+    >>> import bootimg
+    >>> codes = ("linux", "arm64", "kernel")
+    >>> images = [bootimg.BuildImage(name, b"data", *codes) for name in ("a", "b")]
+    >>> fit = bootimg.build_fit(images, external=True, align=512)
+    >>> bootimg.notes(fit, external=True)
+    Notes(signatures=0, lost_alignment=512, lost_positions=0)
+    """
+    answer, found = _Answer(), _NoteNumbers()
+    numbers = _update_numbers(time, hashes, external, align, limit, depth)
+    with _arguments_for((file,)) as arguments:
+        status = _library.bootimg_notes(
+            *arguments, *numbers, ctypes.byref(found), ctypes.byref(answer)
+        )
+    _raise(status, answer)
+    return Notes(found.signatures, found.lost_alignment or None, found.lost_positions)
+
+
+def _update_numbers(
+    time: int | None, hashes: bool, external: bool, align: int | None, limit: int, depth: int
+) -> tuple[int, ...]:
+    """Returns the numbers of an update for C."""
+    changes = int(time is not None) + 2 * int(hashes)
+    form = _form(external, align)
+    return (changes, _number(time or 0), form, _number(limit), _number(depth))
 
 
 def _region(name: str, files: tuple[Buffer, ...], *numbers: int) -> memoryview:
@@ -792,9 +883,12 @@ def build_fit(
     external: bool = False,
     limit: int = LIMIT,
     depth: int = DEPTH,
+    *,
+    align: int | None = None,
 ) -> bytes:
     """Returns a FIT with these images, the SHA-256 of their payloads, and one configuration,
-    `conf-1`, which lists the images by their types. Raises Refused, with the index of the image or
+    `conf-1`, which lists the images by their types. `external` and `align` are as for `normalise`.
+    Raises Refused, with the index of the image or
     0, with BadField, NoCodeName or DuplicateNode for what cannot be written, and with TooLarge if
     the FIT is longer than `limit`. The payloads are copied.
 
@@ -818,7 +912,8 @@ def build_fit(
         load, entry = _number(image.load or 0), _number(image.entry or 0)
         elements.append(_BuildElement(*regions, load, entry, addresses, *codes))
     array = (_BuildElement * len(elements))(*elements)
-    numbers = (_number(time), array, len(array), int(external), _number(limit), _number(depth))
+    form = _form(external, align)
+    numbers = (_number(time), array, len(array), form, _number(limit), _number(depth))
     room = len(memory) + 4096
     return _fill("build_fit", room, (bytes(memory), _name_of(description)), *numbers)[0]
 
@@ -909,6 +1004,7 @@ def _parser() -> argparse.ArgumentParser:
         command.add_argument("--limit", type=_whole_number, default=LIMIT, metavar="N")
         if name in ("normalise", "update"):
             command.add_argument("--external", action="store_true")
+            command.add_argument("--align", type=_whole_number, metavar="N")
         if name == "update":
             command.add_argument("--time", type=_whole_number, metavar="SECONDS")
             command.add_argument("--hashes", action="store_true")
@@ -964,17 +1060,34 @@ def _extracted(options: argparse.Namespace, file: bytes) -> memoryview:
     return extract_config(file, name, options.key, options.index, options.limit)
 
 
+def _note(found: Notes) -> None:
+    """Prints the notes of the program."""
+    lines = []
+    if found.signatures:
+        lines.append(f"{found.signatures} signature nodes carried, not checked")
+    if found.lost_alignment:
+        lines.append(
+            f"payloads are no longer aligned to {found.lost_alignment} bytes, see --align"
+        )
+    if found.lost_positions:
+        lines.append(f"{found.lost_positions} fixed positions of payloads were not kept")
+    for line in lines:
+        print(f"bootimg: note: {line}", file=sys.stderr)
+
+
 def _run(options: argparse.Namespace, files: list[bytes]) -> tuple[bytes, int]:
     """Returns the output of a command and the exit status."""
     limit = options.limit
     if options.command in ("normalise", "update"):
+        external, align = options.external, options.align
         if options.command == "normalise":
-            image, count = normalise_and_count(files[0], options.external, limit)
+            image = normalise(files[0], external, limit, align=align)
+            found = notes(files[0], external=external, limit=limit, align=align)
         else:
-            changes = (options.time, options.hashes, options.external)
-            image, count = update_and_count(files[0], *changes, limit)
-        if count:
-            print(f"bootimg: note: {count} signature nodes carried, not checked", file=sys.stderr)
+            changes = (options.time, options.hashes)
+            image = update(files[0], *changes, external, limit, align=align)
+            found = notes(files[0], *changes, external, limit, align=align)
+        _note(found)
         return image, 0
     if options.command == "extract":
         return bytes(_extracted(options, files[0])), 0

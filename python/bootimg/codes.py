@@ -4,6 +4,8 @@
 
 from __future__ import annotations
 
+import ctypes
+
 import bootimg
 
 # A code of U-Boot: its name, or its number.
@@ -44,8 +46,8 @@ def code_number(field: str, code: Code) -> int:
     >>> bootimg.code_number("arch", "arm64"), bootimg.code_number("arch", 22)
     (22, 22)
     """
-    names = _names(field)
-    number = names.get(code, -1) if isinstance(code, str) else code
+    index = _index_of(field)
+    number = _number_of(index, code) if isinstance(code, str) else code
     if not 0 <= number <= 255:
         raise bootimg.WrongArgument(f"wrong argument: {field} {code!r}")
     return number
@@ -53,16 +55,30 @@ def code_number(field: str, code: Code) -> int:
 
 def code_name(field: str, number: int) -> str | None:
     """Returns the name of the code with the given number of a field, one of CODES, or None if it
-    has none. Raises WrongArgument for an unknown field.
+    has none. Raises WrongArgument for an unknown field, and for a number that is not 0 to 255.
 
     >>> import bootimg
     >>> bootimg.code_name("os", 5), bootimg.code_name("os", 255)
     ('linux', None)
     """
-    return next((name for name, code in _names(field).items() if code == number), None)
+    index = _index_of(field)
+    try:
+        name, _ = bootimg._fill("code_name", 64, (), index, bootimg._number(number))
+    except bootimg.NotFound:
+        return None
+    return name.decode("ascii")
 
 
-def _names(field: str) -> dict[str, int]:
+def _number_of(index: int, name: str) -> int:
+    """Returns the number of the code with the given name of the field with this index, or -1."""
+    answer, text = bootimg._Answer(), bootimg._name_of(name)
+    call = bootimg._library.bootimg_code_number
+    status = call(index, text, len(text), ctypes.byref(answer))
+    return int(answer.value) if status == bootimg._OK else -1
+
+
+def _index_of(field: str) -> int:
+    """Returns the number of a field for C."""
     if field not in CODES:
         raise bootimg.WrongArgument(f"wrong argument: {field}")
-    return CODES[field]
+    return tuple(CODES).index(field)

@@ -490,15 +490,32 @@ class Image:
                 algorithms.setdefault(one.image, []).append(one.algorithm or "")
         return algorithms
 
-    def normalise(self, external: bool = False) -> bytes:
+    def normalise(self, external: bool = False, *, align: int | None = None) -> bytes:
         """Returns the normal form of the file, as `bootimg.normalise` does."""
-        return bootimg.normalise(self.file, external, *self._bounds)
+        return bootimg.normalise(self.file, external, *self._bounds, align=align)
 
     def update(
-        self, time: int | None = None, hashes: bool = False, external: bool = False
+        self,
+        time: int | None = None,
+        hashes: bool = False,
+        external: bool = False,
+        *,
+        align: int | None = None,
     ) -> bytes:
         """Returns the normal form with a time or with new digests, as `bootimg.update` does."""
-        return bootimg.update(self.file, time, hashes, external, *self._bounds)
+        return bootimg.update(self.file, time, hashes, external, *self._bounds, align=align)
+
+    def notes(
+        self,
+        time: int | None = None,
+        hashes: bool = False,
+        external: bool = False,
+        *,
+        align: int | None = None,
+    ) -> bootimg.Notes:
+        """Returns what a user should know about what `normalise` or `update` returns, as
+        `bootimg.notes` does."""
+        return bootimg.notes(self.file, time, hashes, external, *self._bounds, align=align)
 
     def convert(self) -> bytes:
         """Returns the FIT that a legacy image is converted to, as `bootimg.convert` does."""

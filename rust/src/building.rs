@@ -128,7 +128,7 @@ pub fn build_fit(
                 time,
                 elements.as_ptr(),
                 elements.len(),
-                form as u32,
+                form.number(),
                 limits.limit,
                 limits.depth,
                 buffer,

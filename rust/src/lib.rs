@@ -19,6 +19,7 @@
 
 mod building;
 mod calls;
+mod codes;
 mod concerns;
 mod error;
 mod fit;
@@ -26,17 +27,20 @@ mod hashes;
 mod legacy;
 mod names;
 mod nodes;
+mod notes;
 mod sys;
 mod texts;
 mod values;
 
 pub use building::{build_fit, build_legacy, BuildImage};
+pub use codes::CodeField;
 pub use concerns::{concerns, Concern};
 pub use error::{Cause, Error, Refusal};
 pub use fit::{Configuration, Fit, FitImage, Place, Reservation};
 pub use hashes::{Hash, Verdict};
 pub use legacy::{Header, Legacy};
 pub use nodes::Property;
+pub use notes::{notes, Notes};
 pub use texts::{
     check, check_json, compare, compare_json, convert, describe, describe_json, listing,
     listing_json, normalise, same_meaning, show, update, verify, verify_json, Changes, Comparison,

@@ -34,6 +34,15 @@ pub struct LegacyFields {
     pub compression: u8,
 }
 
+/// The numbers in the notes on a normal form.
+#[repr(C)]
+#[derive(Clone, Copy, Debug, Default)]
+pub struct NoteNumbers {
+    pub signatures: usize,
+    pub lost_positions: usize,
+    pub lost_alignment: u32,
+}
+
 /// The fields of the blob of a FIT.
 #[repr(C)]
 #[derive(Clone, Copy, Debug, Default)]
@@ -158,6 +167,7 @@ declare! {
     bootimg_kind(Bytes, usize);
     bootimg_normalise(Bytes, usize, u32, u32, u32, *mut u8, usize);
     bootimg_update(Bytes, usize, u32, u32, u32, u32, u32, *mut u8, usize);
+    bootimg_notes(Bytes, usize, u32, u32, u32, u32, u32, *mut NoteNumbers);
     bootimg_legacy(Bytes, usize, u32, u32, *mut LegacyFields);
     bootimg_parts(Bytes, usize, u32, u32, *mut Region, usize);
     bootimg_fit(Bytes, usize, u32, u32, *mut FitFields);
@@ -190,6 +200,8 @@ declare! {
     bootimg_build_fit(
         Bytes, usize, Bytes, usize, u32, *const BuildImage, usize, u32, u32, u32, *mut u8, usize
     );
+    bootimg_code_name(u32, u32, *mut u8, usize);
+    bootimg_code_number(u32, Bytes, usize);
     #[cfg(test)]
     bootimg_cause_name(u32, *mut u8, usize);
     bootimg_explain(u32, *mut u8, usize);

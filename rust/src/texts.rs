@@ -3,14 +3,29 @@
 use crate::calls::{answer_of, fill, fill_of, fill_of_two, fill_with_number, text_of};
 use crate::{sys, Error, Limits};
 
-/// Whether the payloads in the normal form of a FIT are inside the blob or after it.
+/// Where the payloads in the normal form of a FIT are.
 #[derive(Clone, Copy, Debug, Default, PartialEq, Eq)]
 pub enum Form {
     /// Inside the blob.
     #[default]
     Embedded,
-    /// After the blob.
+    /// After the blob, each at a multiple of 4 bytes.
     External,
+    /// After the blob, each at a multiple of this number of bytes: a power of two from 4 to 1048576.
+    /// A call fails with WrongArgument for any other number.
+    Aligned(u32),
+}
+
+impl Form {
+    /// Returns the number of the form. An alignment that is the number of another form is not passed
+    /// on: 2 is the number of no form.
+    pub(crate) fn number(self) -> u32 {
+        match self {
+            Form::Embedded => 0,
+            Form::External => 1,
+            Form::Aligned(bytes) => bytes.max(2),
+        }
+    }
 }
 
 /// What an update changes.
@@ -20,6 +35,13 @@ pub struct Changes {
     pub time: Option<u32>,
     /// Whether the digests in the hash nodes of a FIT are computed again.
     pub hashes: bool,
+}
+
+impl Changes {
+    /// Returns a bit for each change.
+    pub(crate) fn bits(self) -> u32 {
+        u32::from(self.time.is_some()) + 2 * u32::from(self.hashes)
+    }
 }
 
 /// A normal form.
@@ -149,7 +171,7 @@ fn text_about(call: sys::OnFile<u8>, file: &[u8], limits: Limits) -> Result<(Str
 /// Those of reading the file, and TooLarge if the normal form is longer than the limit.
 pub fn normalise(file: &[u8], form: Form, limits: Limits) -> Result<NormalForm, Error> {
     let (call, room) = (sys::bootimg_normalise, file.len() + 4096);
-    let (image, signatures) = fill_with_number(call, form as u32, room, file, limits)?;
+    let (image, signatures) = fill_with_number(call, form.number(), room, file, limits)?;
     Ok(NormalForm { image, signatures })
 }
 
@@ -165,16 +187,15 @@ pub fn update(
     form: Form,
     limits: Limits,
 ) -> Result<NormalForm, Error> {
-    let bits = u32::from(changes.time.is_some()) + 2 * u32::from(changes.hashes);
     let call = |buffer: *mut u8, room, answer: *mut _| {
         // Safety: the file is as long as its length, and `fill` passes a buffer and its length.
         unsafe {
             sys::bootimg_update(
                 file.as_ptr(),
                 file.len(),
-                bits,
+                changes.bits(),
                 changes.time.unwrap_or(0),
-                form as u32,
+                form.number(),
                 limits.limit,
                 limits.depth,
                 buffer,

@@ -2,9 +2,10 @@
 
 use bootimg::{
     build_fit, build_legacy, check, check_json, compare, compare_json, concerns, convert, describe,
-    describe_json, get, kind, listing, listing_json, normalise, same_meaning, show, update, verify,
-    verify_json, version, BuildImage, Cause, Changes, Concern, Concerns, Error, Fit, Form, Header,
-    Key, Kind, Legacy, Limits, Place, Policy, Refusal, Value, ValueForm, Verdict,
+    describe_json, get, kind, listing, listing_json, normalise, notes, same_meaning, show, update,
+    verify, verify_json, version, BuildImage, Cause, Changes, CodeField, Concern, Concerns, Error,
+    Fit, Form, Header, Key, Kind, Legacy, Limits, Notes, Place, Policy, Refusal, Value, ValueForm,
+    Verdict,
 };
 
 const ALL: Limits = Limits {
@@ -138,6 +139,7 @@ fn new_fits() {
     for (form, place) in [
         (Form::Embedded, Place::Data),
         (Form::External, Place::DataOffset),
+        (Form::Aligned(64), Place::DataOffset),
     ] {
         let file = build_fit(&[kernel, tree], b"two", 7, form, ALL).unwrap();
         let fit = Fit::read(&file, ALL).unwrap();
@@ -368,6 +370,59 @@ fn names_are_bytes_or_text() {
     let normal = normalise(&file, Form::External, ALL).unwrap();
     assert_eq!(same_meaning(normal.as_ref(), &file, ALL), Ok(true));
     assert_eq!(Vec::from(normal.clone()), normal.image);
+}
+
+#[test]
+fn alignments() {
+    let board = example("board.itb");
+    let form = Form::Aligned(4096);
+    let aligned = normalise(&board, form, ALL).unwrap().image;
+    let fit = Fit::read(&aligned, ALL).unwrap();
+    for payload in fit.images.iter().filter_map(|image| image.payload) {
+        let offset = payload.as_ptr() as usize - aligned.as_ptr() as usize;
+        assert_eq!(offset % 4096, 0);
+    }
+    let nothing = Changes::default();
+    let lost = Notes {
+        lost_alignment: Some(4096),
+        ..Notes::default()
+    };
+    assert_eq!(notes(&aligned, nothing, Form::External, ALL), Ok(lost));
+    for kept in [Form::Embedded, form, Form::Aligned(4)] {
+        assert_eq!(notes(&aligned, nothing, kept, ALL), Ok(Notes::default()));
+    }
+    assert_eq!(
+        notes(b"", nothing, form, ALL),
+        Err(refusal(Cause::Truncated, 0, 1))
+    );
+    for bytes in [0, 1, 2, 3, 12, 1 << 21, u32::MAX] {
+        let wrong = Form::Aligned(bytes);
+        assert_eq!(normalise(&board, wrong, ALL), Err(Error::WrongArgument));
+        assert_eq!(
+            notes(&board, nothing, wrong, ALL),
+            Err(Error::WrongArgument)
+        );
+    }
+}
+
+#[test]
+fn names_of_codes() {
+    for field in CodeField::ALL {
+        let named: Vec<_> = (0..=255)
+            .filter_map(|code| Some((code, field.name(code)?)))
+            .collect();
+        assert!(named.len() > 6);
+        for (code, name) in named {
+            assert_eq!(field.code(&name), Some(code));
+        }
+    }
+    assert_eq!(CodeField::Os.name(5).as_deref(), Some("linux"));
+    assert_eq!(CodeField::Arch.code("powerpc"), Some(7));
+    assert_eq!(CodeField::ImageType.name(255), None);
+    assert_eq!(CodeField::Compression.code("linux"), None);
+    assert_eq!(CodeField::Os.code(""), None);
+    let fields = CodeField::ALL.map(|field| field.to_string());
+    assert_eq!(fields.join(" "), "os arch type compression");
 }
 
 #[test]

@@ -67,6 +67,8 @@ check "exchanged parameters are found" is_found "uint32_t key, uint32_t index" "
 check "another number of a status is found" is_found "BOOTIMG_NO_ROOM 3u" "BOOTIMG_NO_ROOM 4u"
 check "another number of a kind is found" is_found "BOOTIMG_FIT 2u" "BOOTIMG_FIT 1u"
 check "another number of a form is found" is_found "BOOTIMG_EXTERNAL 1u" "BOOTIMG_EXTERNAL 2u"
+check "another number of a field is found" is_found "CODE_ARCH 1u" "CODE_ARCH 2u"
+check "exchanged fields of the notes are found" is_found "size_t signatures;" "size_t other, signatures;"
 check "another number of a cause is found" is_found "CAUSE_BAD_PART = 6" "CAUSE_BAD_PART = 7"
 check "another number of a verdict is found" is_found "VERDICT_BAD 1u" "VERDICT_BAD 3u"
 check "exchanged verdicts of the module are found" is_found '"good", "bad"' '"bad", "good"'
@@ -158,9 +160,9 @@ for compiler in gcc clang; do
     # shellcheck disable=SC2046
     passes python3 "$root/tests/tools/c_library/structure.py" libbootimg.so structure $(cat images)
     for image in "$examples"/*.itb "$examples"/*.uimage "$examples"/boot.scr "$examples"/board.its; do
-        for command in normalise "normalise --external" list describe verify check convert "list --limit 100" \
+        for command in normalise "normalise --external" "normalise --external --align 64" list describe verify check convert "list --limit 100" \
             show "show --layout" "show --layout --limit 1000" "list --json" "describe --json" "verify --json" "check --json" "describe --json --limit 1000" \
-            "update --time 5" "update --time 0x65000000 --hashes" "update --hashes --external" "extract --part 0" "extract --part 1" \
+            "update --time 5" "update --time 0x65000000 --hashes" "update --hashes --external" "update --external --align 0x1000 --time 7" "extract --part 0" "extract --part 1" \
             "extract --image kernel-1" "extract --image none" "extract --config conf-1" "extract --config conf-1 --key fdt" \
             "extract --config none" "extract --default" "extract --default --key ramdisk" "extract --default --index 1"; do
             check "$compiler: $command $(basename "$image")" same $command "$image"

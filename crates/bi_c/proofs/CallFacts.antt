@@ -1,7 +1,8 @@
 use Rattle.std.proofs.Common.{◌≡◌, ◌∙◌, ℕ, Bool, true, false, List, [], ◌∷◌, ◌++◌, Some}
-use Rattle.std.proofs.Common.{codes, drop, length, inl, inr, ap, refl, sym, subst, arith}
+use Rattle.std.proofs.Common.{◌≤◌, codes, drop, length, inl, inr, ap, refl, sym, subst, lit<, lit≤, arith}
 use Rattle.std.specs.Prelude.{slice_get}
 use Rattle.bi_base.specs.Cells.{cell, u32_at}
+use Rattle.bi_base.specs.declared.align.Align.{Align}
 use Rattle.bi_base.specs.declared.fault.Cause.TheVariants.{Truncated}
 use Rattle.bi_base.specs.declared.fault.Fault.{Fault}
 use Rattle.bi_base.specs.Limits.{widest}
@@ -15,6 +16,9 @@ use Rattle.bi_fit.specs.Content.{FitModel, index_of, offset_of_place, place_or_a
 use Rattle.bi_fit.specs.Judgement.{ListedImage, ListedImages, NoConfig, default_of, listed_of}
 use Rattle.bi_fit.specs.KnownJudgements.{configured_tree}
 use Rattle.bi_fit.specs.Names.{default_name, key_name}
+use Rattle.bi_fit.specs.Text.{alignment_of}
+use Rattle.bi_fit.specs.declared.form.Form.{Form}
+use Rattle.bi_fit.specs.declared.form.Form.TheVariants.{Embedded, External, Aligned}
 use Rattle.bi_fit.specs.declared.key.Key.{Key}
 use Rattle.bi_fit.specs.declared.key.Key.TheVariants.{Kernel, Fdt}
 use Rattle.bi_fit.proofs.JudgementFacts.{find-properties, lists_are_read}
@@ -30,6 +34,7 @@ use Rattle.bi_norm.specs.declared.kind.Kind.TheVariants.{Legacy, Fit}
 use Rattle.bi_norm.proofs.ComparisonFacts.{compared_files_are_known, multi_means}
 use Rattle.bi_c.specs.Answers.{Answers, FillsBuffer, Sets, Returned, Failed, Filled, HadNoRoom, FilledNothing, WasSet, WasNotSet}
 use Rattle.bi_c.specs.Answers.{answer_of, answer_of_failure, status_of_failure}
+use Rattle.bi_c.specs.Arguments.{number_of_form}
 use Rattle.bi_c.specs.Calls.{IsFailureOfTwo, flag, kind_number}
 use Rattle.bi_c.specs.Extracting.{IsDefaultOffset, IsListedOffset, IsNamedOffset, IsOffset}
 use Rattle.bi_c.specs.KnownCalls.{CallNumbersAreKnown, ConcernElementsAreKnown, ConcernTextsAreKnown, OffsetsOfPayloadsAreKnown}
@@ -37,6 +42,7 @@ use Rattle.bi_c.specs.KnownCalls.{CallAnswersAreKnown, ArgumentBoundsAreKnown, I
 use Rattle.bi_c.specs.KnownCalls.{images_at_places}
 use Rattle.bi_c.specs.declared.answer.Answer.{Answer}
 use Rattle.bi_c.specs.declared.failure.Failure.TheVariants.{Refused, NotFound, OutOfMemory}
+use Rattle.bi_c.proofs.FormNumbers.{embedded_by_number, external_by_number, largest_form_number, no_form_below_four}
 
 -- What calls from C return for small files and concerns is known.
 
@@ -271,11 +277,26 @@ call_answers_are_known = record {
   wrong = λ is. is tt;
 }
 
+-- The alignment of 4096 bytes.
+page_align : Align
+page_align = record { bytes = 4096; is_alignment = record { exponent = 12; least = lit≤ tt; most = lit≤ tt; is_power = refl } }
+
+-- A form with the number 4096 has this alignment.
+page_alignment : (form : Form) → number_of_form form ≡ 4096 → alignment_of form ≡ Some 4096
+page_alignment Embedded same = absurd (omega (arith, same))
+page_alignment External same = absurd (omega (arith, same))
+page_alignment (Aligned align) same = ap Some same
+
 pub argument_bounds_are_known : ArgumentBoundsAreKnown
 argument_bounds_are_known = record {
-  form = λ form has. omega (arith, has.is_form);
+  form = λ number has. subst (λ n. n ≤ 0x100000) has.is_form (largest_form_number has.form);
+  embedded = λ has. embedded_by_number has.form has.is_form;
+  external = λ has. external_by_number has.form has.is_form;
+  page = λ has. page_alignment has.form has.is_form;
+  has_page = record { limits = (lit≤ tt, lit≤ tt, lit≤ tt, lit≤ tt); form = Aligned page_align; is_form = refl };
+  no_form = λ has. no_form_below_four 3 (lit< tt) (lit< tt) has.form has.is_form;
   layout = λ layout has. omega (arith, has.is_layout);
-  changes = λ form changes has. (omega (arith, has.is_form), omega (arith, has.are_changes));
+  changes = λ form changes has. omega (arith, has.are_changes);
   kinds = λ kinds has. omega (arith, has.are_kinds);
   checker = refl;
   signed = refl;

@@ -52,12 +52,13 @@ use Rattle.bi_show.specs.KnownPages.{PagesAreKnown}
 use Rattle.bi_show.specs.ShownFiles.{IsPage, OfLegacyImage, OfImageTree}
 use Rattle.bi_c.specs.Answers.{Answers, IsFailure, Returned, Failed, Sets, WasSet, WasNotSet}
 use Rattle.bi_c.specs.Answers.{answer_of, answer_of_failure}
-use Rattle.bi_c.specs.Arguments.{HasChanges, HasForm, HasLayout, allowed_by, changes_of}
+use Rattle.bi_c.specs.Arguments.{HasChanges, HasForm, HasLayout, IsErrorInForm, allowed_by, changes_of}
 use Rattle.bi_c.specs.Calls.{HasKinds, IsCheckText, IsFailureOfOne, IsKindFailure, IsKindNumber, IsNormaliseFailure, IsNormalised}
 use Rattle.bi_c.specs.Calls.{IsPageFailure, IsPageText, IsUpdateFailure, IsUpdatedText, flag}
 use Rattle.bi_c.specs.ConcernElements.{AreConcernElements, concern_element}
 use Rattle.bi_c.specs.Extracting.{IsChosenAt, IsExtractCallFailure, IsExtracted, IsOffset, IsReasonNumber}
 use Rattle.bi_c.specs.KnownCalls.{AlwaysAnswers, AlwaysFills, empty_answer, no_concern}
+use Rattle.bi_c.proofs.FormNumbers.{no_form_below_four}
 use Rattle.bi_c.specs.KnownElements.{region_at_offset}
 use Rattle.bi_c.specs.KnownLegacyCalls.{HeaderCallsAreKnown, LegacyBuildingIsKnown, LegacySelectionsAreKnown, TextCallsAreKnown}
 use Rattle.bi_c.specs.KnownLegacyCalls.{fields_of_multi, file_with_bad_data, parts_of_multi, pieces_of_multi}
@@ -173,23 +174,25 @@ not_normalised : (before : List ℕ) →
 not_normalised before =
     never_fills (IsNormalised 0x7fffffff 64 1 file_without_magic) (IsNormaliseFailure 0x7fffffff 64 1 file_without_magic) before
     (Refused 1 no_magic) (λ text value is. no_magic_is_error.1 is.is.normal.meaning is.is.normal.means)
-    (only_refused (HasForm 0x7fffffff 64 1) (IsNormaliseError widest External file_without_magic) no_magic
-    (record { limits = widest_is_in_range; is_form = lit< tt })
-    (no_magic_read (IsTooLong widest External file_without_magic) (λ long. no_magic_is_error.1 (OfFit long.tree) long.means)))
+    (only_refused (HasForm 0x7fffffff 64 1) (IsErrorInForm 1 (λ form. IsNormaliseError widest form file_without_magic)) no_magic
+    (record { limits = widest_is_in_range; form = External; is_form = refl })
+    (λ cause is. no_magic_read (IsTooLong widest is.form file_without_magic) (λ long. no_magic_is_error.1 (OfFit long.tree) long.means)
+    cause is.is_error))
 
 no_such_form : (before : List ℕ) →
     AlwaysFills (IsNormalised 0x7fffffff 64 2 kernel_file) (IsNormaliseFailure 0x7fffffff 64 2 kernel_file) before before empty_answer 4
 no_such_form before =
     never_fills (IsNormalised 0x7fffffff 64 2 kernel_file) (IsNormaliseFailure 0x7fffffff 64 2 kernel_file) before WrongArgument
-    (λ text value is. omega (arith, is.arguments.is_form))
-    (only_wrong (HasForm 0x7fffffff 64 2) (IsNormaliseError widest External kernel_file) (λ has. omega (arith, has.is_form)))
+    (λ text value is. no_form_below_four 2 (lit< tt) (lit< tt) is.arguments.form is.arguments.is_form)
+    (only_wrong (HasForm 0x7fffffff 64 2) (IsErrorInForm 2 (λ form. IsNormaliseError widest form kernel_file))
+    (λ has. no_form_below_four 2 (lit< tt) (lit< tt) has.form has.is_form))
 
 no_such_change : (before : List ℕ) →
     AlwaysFills (IsUpdatedText 0x7fffffff 64 0 4 5 multi_file) (IsUpdateFailure 0x7fffffff 64 0 4 5 multi_file) before before empty_answer 4
 no_such_change before =
     never_fills (IsUpdatedText 0x7fffffff 64 0 4 5 multi_file) (IsUpdateFailure 0x7fffffff 64 0 4 5 multi_file) before WrongArgument
     (λ text value is. omega (arith, is.arguments.are_changes))
-    (only_wrong (HasChanges 0x7fffffff 64 0 4) (IsUpdateError (changes_of 4 5) widest Embedded multi_file)
+    (only_wrong (HasChanges 0x7fffffff 64 0 4) (IsErrorInForm 0 (λ form. IsUpdateError (changes_of 4 5) widest form multi_file))
     (λ has. omega (arith, has.are_changes)))
 
 no_page : (before : List ℕ) →
@@ -213,12 +216,14 @@ module _ (one_legacy : OneLegacyMeaning) where
   normalised before room =
       always_fills (IsNormalised 0x7fffffff 64 0 kernel_file_with_rest) (IsNormaliseFailure 0x7fffffff 64 0 kernel_file_with_rest) before
       kernel_file 73 0
-      (λ text value is. let found = ((normal_forms_are_known one_legacy).legacy Embedded).only value text is.is in (found.1, found.0))
-      (only_memory (HasForm 0x7fffffff 64 0) (IsNormaliseError widest Embedded kernel_file_with_rest)
-      (record { limits = widest_is_in_range; is_form = lit< tt })
-      (no_read_error kernel_file_with_rest (OfLegacy kernel_image) kernel_with_rest_means (IsTooLong widest Embedded kernel_file_with_rest)
+      (λ text value is.
+      let found = ((normal_forms_are_known one_legacy).legacy is.arguments.form).only value text is.is in (found.1, found.0))
+      (only_memory (HasForm 0x7fffffff 64 0) (IsErrorInForm 0 (λ form. IsNormaliseError widest form kernel_file_with_rest))
+      (record { limits = widest_is_in_range; form = Embedded; is_form = refl })
+      (λ cause is. no_read_error kernel_file_with_rest (OfLegacy kernel_image) kernel_with_rest_means
+      (IsTooLong widest is.form kernel_file_with_rest)
       (λ long. means_tree widest kernel_file_with_rest long.tree long.means
-      (means_legacy widest kernel_file_with_rest kernel_image kernel_with_rest_means)))) refl room
+      (means_legacy widest kernel_file_with_rest kernel_image kernel_with_rest_means)) cause is.is_error)) refl room
 
   updated : (before : List ℕ) → 87 ≤ length before →
       AlwaysFills (IsUpdatedText 0x7fffffff 64 0 1 5 multi_file) (IsUpdateFailure 0x7fffffff 64 0 1 5 multi_file) before
@@ -228,12 +233,12 @@ module _ (one_legacy : OneLegacyMeaning) where
       always_fills (IsUpdatedText 0x7fffffff 64 0 1 5 multi_file) (IsUpdateFailure 0x7fffffff 64 0 1 5 multi_file) before
       (legacy_text (record multi_image { time = 5 })) 87 0
       (λ text value is. (
-        (updated_texts_are_known one_legacy).text Embedded text is.is.is,
-        (updated_texts_are_known one_legacy).count Embedded value text is.is,
+        (updated_texts_are_known one_legacy).text is.arguments.has_form.form text is.is.is,
+        (updated_texts_are_known one_legacy).count is.arguments.has_form.form value text is.is,
       ))
-      (only_memory (HasChanges 0x7fffffff 64 0 1) (IsUpdateError (only_time 5) widest Embedded multi_file)
-      (record { limits = widest_is_in_range; is_form = lit< tt; are_changes = lit< tt })
-      ((updated_texts_are_known one_legacy).error Embedded)) refl room
+      (only_memory (HasChanges 0x7fffffff 64 0 1) (IsErrorInForm 0 (λ form. IsUpdateError (only_time 5) widest form multi_file))
+      (record { has_form = record { limits = widest_is_in_range; form = Embedded; is_form = refl }; are_changes = lit< tt })
+      (λ cause is. (updated_texts_are_known one_legacy).error is.form cause is.is_error)) refl room
 
   -- ---- checking
 

@@ -1,6 +1,7 @@
 pub mod AnswerFacts
 pub mod ArrayFilling
 pub mod CallAnswers
+pub mod CodeNames
 pub mod CheckedFiles
 pub mod ComparedFiles
 pub mod ConcernFiles
@@ -9,6 +10,7 @@ pub mod CallFacts
 pub mod ExtractedFiles
 pub mod FitElements
 pub mod FitFiles
+pub mod FormNumbers
 pub mod ImageElements
 pub mod ImageFiles
 pub mod LegacyCallFacts
@@ -18,6 +20,7 @@ pub mod ListedIndices
 pub mod NodeFiles
 pub mod NodePaths
 pub mod NormalisedFiles
+pub mod NoteFacts
 pub mod PieceBuilding
 pub mod Places
 pub mod ShownPages
@@ -25,6 +28,7 @@ pub mod SliceWriting
 pub mod TreeBuilding
 pub mod TreeCallFacts
 pub mod TreeRegions
+pub mod UpdatedCalls
 pub mod ValueCallAnswers
 pub mod ValueCallFacts
 pub mod VerdictElements

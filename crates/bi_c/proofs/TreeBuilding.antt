@@ -4,14 +4,13 @@ use Rattle.bi_base.specs.declared.fault.Error.{Error}
 use Rattle.bi_base.specs.declared.fault.Error.TheVariants as error
 use Rattle.bi_base.specs.Limits.{Limits}
 use Rattle.bi_fit.specs.declared.building.Head.{Head}
-use Rattle.bi_fit.specs.declared.form.Form.{Form}
 use Rattle.bi_norm.specs.declared.fit_building.ImageSpec.{ImageSpec}
 use Rattle.bi_norm.specs.FitBuilding.{IsBuildError, IsBuilt}
 use Rattle.bi_c.specs.declared.failure.Failure.{Failure}
 use Rattle.bi_c.specs.declared.failure.Failure.TheVariants.{WrongArgument, Refused, OutOfMemory, NotFound}
 use Rattle.bi_c.specs.declared.fit_building.BuildElement.{BuildElement}
 use Rattle.bi_c.specs.Answers.{failure_of_error}
-use Rattle.bi_c.specs.Arguments.{bounds, form_of, HasForm}
+use Rattle.bi_c.specs.Arguments.{bounds, HasForm}
 use Rattle.bi_c.specs.TreeBuilding.{AreSpecsFailure, IsSpecOf, IsToBeBuilt, IsTreeBuildFailure, IsTreeOfPieces}
 
 -- A call from C builds the tree of its images, or fails as building that tree fails.
@@ -34,22 +33,21 @@ module _ (limit depth number time : ℕ) (input description : List ℕ) (images 
   no_specs (Refused file fault) none = absurd none
   no_specs (NotFound reason index) none = absurd none
 
-  module _ (limits : Limits) (form : Form) (head : Head) (specs : List ImageSpec) (same : limits ≡ bounds limit depth)
-      (same_form : form ≡ form_of number) (are : IsToBeBuilt time input description images head specs) where
-    pub tree_of_pieces : (text bytes : List ℕ) → bytes ≡ text → IsBuilt limits form head specs text →
+  module _ (limits : Limits) (head : Head) (specs : List ImageSpec) (same : limits ≡ bounds limit depth)
+      (are : IsToBeBuilt time input description images head specs) where
+    pub tree_of_pieces : (text bytes : List ℕ) → bytes ≡ text → IsBuilt limits valid.form head specs text →
         IsTreeOfPieces limit depth number time input description images bytes 0
     tree_of_pieces text bytes same_bytes is = record {
       arguments = valid;
       head = head;
       specs = specs;
       is_to_be_built = are;
-      is = subst (λ (l : Limits). IsBuilt l (form_of number) head specs bytes) same
-          (subst (λ (f : Form). IsBuilt limits f head specs bytes) same_form
-          (subst (IsBuilt limits form head specs) (sym same_bytes) is));
+      is = subst (λ (l : Limits). IsBuilt l valid.form head specs bytes) same
+          (subst (IsBuilt limits valid.form head specs) (sym same_bytes) is);
       no_value = refl;
     }
 
-    pub no_tree_of_pieces : (cause : Error) → IsBuildError limits form head specs cause →
+    pub no_tree_of_pieces : (cause : Error) → IsBuildError limits valid.form head specs cause →
         IsTreeBuildFailure limit depth number time input description images (failure_of_error cause)
     no_tree_of_pieces (error.Refused fault) is = (
       refl,
@@ -58,8 +56,7 @@ module _ (limit depth number time : ℕ) (input description : List ℕ) (images 
         head = head;
         specs = specs;
         is_to_be_built = are;
-        is = subst (λ (l : Limits). IsBuildError l (form_of number) head specs (error.Refused fault)) same
-            (subst (λ (f : Form). IsBuildError limits f head specs (error.Refused fault)) same_form is);
+        is = subst (λ (l : Limits). IsBuildError l valid.form head specs (error.Refused fault)) same is;
       },
     )
     no_tree_of_pieces error.OutOfMemory is = valid

@@ -15,6 +15,7 @@ use Rattle.bi_commands.specs.Extracting.{Chosen, NoSuchEntry, NoSuchImage}
 use Rattle.bi_commands.specs.KnownChoices.{entry_selection, image_selection}
 use Rattle.bi_fdt.specs.Content.{root_of}
 use Rattle.bi_fit.specs.declared.building.Head.{Head}
+use Rattle.bi_fit.specs.declared.form.Form.{Form}
 use Rattle.bi_fit.specs.declared.form.Form.TheVariants.{Embedded}
 use Rattle.bi_fit.specs.declared.key.Key.TheVariants.{Kernel, Fdt, Script}
 use Rattle.bi_fit.specs.Building.{built_tree, plan_by_types}
@@ -55,6 +56,7 @@ use Rattle.bi_c.specs.declared.failure.Failure.{Failure}
 use Rattle.bi_c.specs.declared.failure.Failure.TheVariants.{Refused, NotFound, OutOfMemory, WrongArgument}
 use Rattle.bi_c.specs.declared.fit_building.BuildElement.{BuildElement}
 use Rattle.bi_c.proofs.AnswerFacts.{never_answers, never_fills, widest_is_in_range}
+use Rattle.bi_c.proofs.FormNumbers.{embedded_by_number}
 use Rattle.bi_c.proofs.LegacyCallFacts.{extracted, extracts_nothing, not_extracted}
 
 -- Calls on a small flattened image tree have known answers.
@@ -263,7 +265,9 @@ tree_is_built : (text : List ℕ) (value : ℕ) →
 tree_is_built text value is =
     let given = is.is_to_be_built in
     let same_head : head_model is.head ≡ known_head = λ i. record { description = given.is_description i; time = given.is_time i } in
-    (is.is.is_text ∙ text_is is.head is.specs same_head (models_are is.specs given.are_specs), is.no_value)
+    let same_form = embedded_by_number is.arguments.form is.arguments.is_form in
+    let in_form = ap (λ (form : Form). fit_text form (tree_of_images is.head plain_plan is.specs)) same_form in
+    (is.is.is_text ∙ in_form ∙ text_is is.head is.specs same_head (models_are is.specs given.are_specs), is.no_value)
 
 -- An image that is not inside the input is a wrong argument.
 module _ (element : BuildElement) (wrong : ¬ (IsSpecInside pieces_of_tree element)) where
@@ -293,21 +297,21 @@ zero_fault = record { cause = BadField; offset = 0 }
 has_zero : (head : Head) → head.description.now ≡ description_with_zero → ¬ (HasNoZero head.description.now)
 has_zero head described fine = let bad : HasNoZero description_with_zero = subst HasNoZero described fine in bad.1.0 refl
 
-description_fault : (head : Head) (specs : List ImageSpec) (fault : Fault) → head.description.now ≡ description_with_zero →
-    AllZip (IsSpecOf []) [] specs → IsBuildFault widest Embedded head specs fault → fault ≡ zero_fault
-description_fault head (spec ∷ later) fault described are is = absurd are
-description_fault head [] fault described are (inl is) = absurd (is.0 (lit≤ tt))
-description_fault head [] fault described are (inr (few, inl is)) = absurd (is.0 (lit≤ tt))
-description_fault head [] fault described are (inr (few, inr (some, inl is))) = is.1
-description_fault head [] fault described are (inr (few, inr (some, inr is))) = absurd (has_zero head described is.0)
+description_fault : (form : Form) (head : Head) (specs : List ImageSpec) (fault : Fault) → head.description.now ≡ description_with_zero →
+    AllZip (IsSpecOf []) [] specs → IsBuildFault widest form head specs fault → fault ≡ zero_fault
+description_fault form head (spec ∷ later) fault described are is = absurd are
+description_fault form head [] fault described are (inl is) = absurd (is.0 (lit≤ tt))
+description_fault form head [] fault described are (inr (few, inl is)) = absurd (is.0 (lit≤ tt))
+description_fault form head [] fault described are (inr (few, inr (some, inl is))) = is.1
+description_fault form head [] fault described are (inr (few, inr (some, inr is))) = absurd (has_zero head described is.0)
 
 description_fails : (failure : Failure) → IsTreeBuildFailure 0x7fffffff 64 0 1 [] description_with_zero [] failure →
     (failure ≡ Refused 1 zero_fault) ⊎ (failure ≡ OutOfMemory)
 description_fails WrongArgument is =
-    absurd (is (record { arguments = record { limits = widest_is_in_range; is_form = lit< tt }; specs_inside = tt }))
+    absurd (is (record { arguments = record { limits = widest_is_in_range; form = Embedded; is_form = refl }; specs_inside = tt }))
 description_fails (Refused file fault) is =
-    let cause =
-    description_fault is.1.head is.1.specs fault is.1.is_to_be_built.is_description is.1.is_to_be_built.are_specs is.1.is in
+    let given = is.1.is_to_be_built in
+    let cause = description_fault is.1.arguments.form is.1.head is.1.specs fault given.is_description given.are_specs is.1.is in
     inl (λ i. Refused (is.0 i) (cause i))
 description_fails OutOfMemory is = inr refl
 description_fails (NotFound reason index) is = absurd is

@@ -1,4 +1,6 @@
-use Rattle.std.specs.Prelude.{ℕ, ◌/◌, ◌%◌, ◌==◌, ◌<◌, Bool, Some, None, if◌then◌else◌}
+use Rattle.std.specs.Prelude.{ℕ, ◌/◌, ◌%◌, ◌≡◌, ◌==◌, ◌<◌, Bool, Some, None, if◌then◌else◌}
+use Rattle.bi_base.specs.Aligns.{align_bytes}
+use Rattle.bi_base.specs.declared.fault.Error.{Error}
 use Rattle.bi_base.specs.Limits.{Limits, IsInRange}
 use Rattle.bi_common.specs.declared.format.Format.{Format}
 use Rattle.bi_report.specs.declared.check.Allowed.{Allowed}
@@ -7,7 +9,7 @@ use Rattle.bi_report.specs.declared.check.Policy.{Policy}
 use Rattle.bi_report.specs.Checking.{allowed_under}
 use Rattle.bi_fit.specs.declared.changes.Changes.{Changes}
 use Rattle.bi_fit.specs.declared.form.Form.{Form}
-use Rattle.bi_fit.specs.declared.form.Form.TheVariants.{Embedded, External}
+use Rattle.bi_fit.specs.declared.form.Form.TheVariants.{Embedded, External, Aligned}
 use Rattle.bi_fit.specs.declared.key.Key.{Key}
 use Rattle.bi_fit.specs.declared.key.Key.TheVariants.{Kernel, Fdt, Ramdisk, Firmware, Loadables}
 use Rattle.bi_fit.specs.declared.key.Key.TheVariants.{Script}
@@ -18,14 +20,25 @@ use Rattle.bi_fit.specs.declared.key.Key.TheVariants.{Script}
 abbrev pub bounds : ℕ → ℕ → Limits
 bounds limit depth = record { file = limit; depth = depth }
 
--- The form: 0 for embedded payloads, 1 for external ones.
-abbrev pub form_of : ℕ → Form
-form_of number = if number == 0 then Embedded else External
+-- The number of a form: 0 for embedded payloads, 1 for external ones, and for external ones with an
+-- alignment the number of its bytes.
+abbrev pub number_of_form : Form → ℕ
+number_of_form Embedded = 0
+number_of_form External = 1
+number_of_form (Aligned align) = align_bytes align
 
 -- The limits are in their ranges, and the number is that of a form.
-pub record HasForm (limit depth form : ℕ) : Type 0 where
+pub record HasForm (limit depth number : ℕ) : Type 0 where
   pub limits : IsInRange limit depth
-  pub is_form : form < 2
+  pub form : Form
+  pub is_form : number_of_form form ≡ number
+
+-- The error is one of these, for the form with this number.
+pub record IsErrorInForm (number : ℕ) (HasError : Form → Error → Type 0) (error : Error) : Type 0
+  where
+    pub form : Form
+    pub is_form : number_of_form form ≡ number
+    pub is_error : HasError form error
 
 -- Whether a number means yes: 0 means no, and 1 means yes.
 abbrev pub is_yes : ℕ → Bool
@@ -80,9 +93,8 @@ changes_of changes time = record {
 }
 
 -- The limits are in their ranges, and the numbers are those of a form and of changes.
-pub record HasChanges (limit depth form changes : ℕ) : Type 0 where
-  pub limits : IsInRange limit depth
-  pub is_form : form < 2
+pub record HasChanges (limit depth number changes : ℕ) : Type 0 where
+  pub has_form : HasForm limit depth number
   pub are_changes : changes < 4
 
 -- The key of a configuration: a number for each, counted from 0.

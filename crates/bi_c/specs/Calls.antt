@@ -20,8 +20,8 @@ use Rattle.bi_show.specs.ShownFiles.{IsPage}
 use Rattle.bi_commands.specs.CauseSentences.{sentence_of}
 use Rattle.bi_commands.specs.UpdatedFiles.{IsUpdateOutput, IsUpdateError}
 use Rattle.bi_c.specs.Answers.{IsFailure}
-use Rattle.bi_c.specs.Arguments.{bounds, form_of, changes_of, checker_of, HasForm, HasChanges}
-use Rattle.bi_c.specs.Arguments.{HasLayout, is_yes}
+use Rattle.bi_c.specs.Arguments.{bounds, changes_of, checker_of, HasForm, HasChanges}
+use Rattle.bi_c.specs.Arguments.{HasLayout, IsErrorInForm, is_yes}
 use Rattle.bi_c.specs.declared.failure.Failure.{Failure}
 use Rattle.bi_c.specs.declared.failure.Failure.TheVariants.{WrongArgument, Refused, OutOfMemory}
 use Rattle.bi_c.specs.declared.failure.Failure.TheVariants.{NotFound}
@@ -71,27 +71,28 @@ IsNoCause number other = ⊥
 -- The normal form of the file, and the number of its signature nodes.
 pub record IsNormalised (limit depth form : ℕ) (file text : List ℕ) (value : ℕ) : Type 0 where
   pub arguments : HasForm limit depth form
-  pub is : IsNormaliseOutput (bounds limit depth) (form_of form) value file text
+  pub is : IsNormaliseOutput (bounds limit depth) arguments.form value file text
 
 -- Why a file was not normalised.
 abbrev pub IsNormaliseFailure : (limit depth form : ℕ) → List ℕ → Failure → Type 0
 IsNormaliseFailure limit depth form file =
     IsFailure (HasForm limit depth form)
-    (IsNormaliseError (bounds limit depth) (form_of form) file)
+    (IsErrorInForm form (λ kind. IsNormaliseError (bounds limit depth) kind file))
 
 -- The normal form of the file with these changes, and the number of its signature nodes.
 pub record IsUpdatedText (limit depth form changes time : ℕ) (file text : List ℕ) (value : ℕ)
     : Type 0
   where
     pub arguments : HasChanges limit depth form changes
-    pub is : IsUpdateOutput (changes_of changes time) (bounds limit depth) (form_of form) value file
-        text
+    pub is : IsUpdateOutput (changes_of changes time) (bounds limit depth) arguments.has_form.form
+        value file text
 
 -- Why a file was not updated.
 abbrev pub IsUpdateFailure : (limit depth form changes time : ℕ) → List ℕ → Failure → Type 0
 IsUpdateFailure limit depth form changes time file =
     IsFailure (HasChanges limit depth form changes)
-    (IsUpdateError (changes_of changes time) (bounds limit depth) (form_of form) file)
+    (IsErrorInForm form
+    (λ kind. IsUpdateError (changes_of changes time) (bounds limit depth) kind file))
 
 -- Whether two files mean the same, as a number. There is no output.
 pub record IsSame (limit depth : ℕ) (one other : List ℕ) (size value : ℕ) : Type 0 where

@@ -15,7 +15,9 @@ use Rattle.bi_describe.specs.declared.compare.CompareError.TheVariants as compar
 use Rattle.bi_fit.specs.Content.{FitModel, ImageModel, tree_of}
 use Rattle.bi_fit.specs.Judgement.{CheckedHash}
 use Rattle.bi_fit.specs.KnownJudgements.{configured_tree}
+use Rattle.bi_fit.specs.Text.{alignment_of}
 use Rattle.bi_blob.specs.Lookups.{Sibling}
+use Rattle.bi_fit.specs.declared.form.Form.TheVariants.{Embedded, External}
 use Rattle.bi_fit.specs.declared.image.Place.{Place}
 use Rattle.bi_fit.specs.declared.image.Place.TheVariants.{Data, DataOffset}
 use Rattle.bi_fit.specs.declared.key.Key.TheVariants.{Kernel, Fdt, Script}
@@ -252,11 +254,16 @@ pub record CallAnswersAreKnown : Type 0 where
       → IsFailure ⊤ (λ cause. cause ≡ error.Refused fault) (Refused file fault) → file ≡ 1
   pub wrong : ¬ (IsFailure ⊤ (λ error. ⊤) WrongArgument)
 
--- The greatest numbers of forms, layouts, changes and kinds of concerns.
+-- The numbers of forms, and the greatest numbers of layouts, changes and kinds of concerns.
 pub record ArgumentBoundsAreKnown : Type 0 where
-  pub form : (form : ℕ) → HasForm 64 1 form → form ≤ 1
+  pub form : (number : ℕ) → HasForm 64 1 number → number ≤ 0x100000
+  pub embedded : (has : HasForm 64 1 0) → has.form ≡ Embedded
+  pub external : (has : HasForm 64 1 1) → has.form ≡ External
+  pub page : (has : HasForm 64 1 4096) → alignment_of has.form ≡ Some 4096
+  pub has_page : HasForm 64 1 4096
+  pub no_form : ¬ (HasForm 64 1 3)
   pub layout : (layout : ℕ) → HasLayout 64 1 layout → layout ≤ 1
-  pub changes : (form changes : ℕ) → HasChanges 64 1 form changes → (form ≤ 1) × (changes ≤ 3)
+  pub changes : (form changes : ℕ) → HasChanges 64 1 form changes → changes ≤ 3
   pub kinds : (kinds : ℕ) → HasKinds 64 1 kinds → kinds ≤ 65535
   pub checker : (checker_of Json 66).policy
       ≡ record {

@@ -2,6 +2,8 @@ use Rattle.std.specs.Prelude.{◌≡◌, ℕ, true, false, List, [], ◌∷◌, 
 use Rattle.bi_base.specs.declared.fault.Cause.TheVariants.{BadCell}
 use Rattle.bi_base.specs.declared.fault.Error.TheVariants as error
 use Rattle.bi_base.specs.declared.fault.Fault.{Fault}
+use Rattle.bi_base.specs.Aligns.{align_bytes}
+use Rattle.bi_base.specs.declared.align.Align.{Align}
 use Rattle.bi_base.specs.Limits.{Limits}
 use Rattle.bi_report.specs.KnownConcerns.{allowed_words}
 use Rattle.bi_report.specs.declared.check.ConcernKind.TheVariants as kind
@@ -12,7 +14,7 @@ use Rattle.bi_commands.specs.Extracting.{NoSuchConfiguration, NoSuchKey, HasBadL
 use Rattle.bi_commands.specs.Extracting.{HasMissingImage, NoSuchEntry, HasNoPayload}
 use Rattle.bi_fit.specs.Names.{key_name}
 use Rattle.bi_fit.specs.declared.configurations.ConfigError.TheVariants as list
-use Rattle.bi_fit.specs.declared.form.Form.TheVariants.{Embedded, External}
+use Rattle.bi_fit.specs.declared.form.Form.TheVariants.{Embedded, External, Aligned}
 use Rattle.bi_fit.specs.declared.key.Key.TheVariants as key
 use Rattle.bi_hash.specs.declared.verdicts.Verdict.TheVariants.{Good, Bad, UnknownAlgo, NoPayload}
 use Rattle.bi_hash.specs.declared.verdicts.Verdict.TheVariants.{Malformed}
@@ -21,8 +23,8 @@ use Rattle.bi_values.specs.declared.get_error.GetError.TheVariants as get
 use Rattle.bi_values.specs.declared.value_form.ValueForm.TheVariants.{Shown, Text, Number, Raw}
 use Rattle.bi_c.specs.Answers.{answer_of, answer_of_failure, done, failure_of_error, no_room}
 use Rattle.bi_c.specs.Answers.{status_of_failure}
-use Rattle.bi_c.specs.Arguments.{allowed_of, bounds, changes_of, form_of, has_bit, is_yes, key_of}
-use Rattle.bi_c.specs.Arguments.{policy_of}
+use Rattle.bi_c.specs.Arguments.{allowed_of, bounds, changes_of, has_bit, is_yes, key_of}
+use Rattle.bi_c.specs.Arguments.{number_of_form, policy_of}
 use Rattle.bi_c.specs.Calls.{failure_of_compare_error, flag, kind_number}
 use Rattle.bi_c.specs.ConcernElements.{concern_number, key_number}
 use Rattle.bi_c.specs.Extracting.{IsReasonNumber, failure_of_extract_error}
@@ -147,8 +149,9 @@ pub record ValuesAreKnown : Type 0 where
 
 -- The forms, the keys by their names, the changes and the limits.
 pub record ArgumentsAreKnown : Type 0 where
-  pub embedded : form_of 0 ≡ Embedded
-  pub external : form_of 1 ≡ External
+  pub embedded : number_of_form Embedded ≡ 0
+  pub external : number_of_form External ≡ 1
+  pub aligned : (align : Align) → number_of_form (Aligned align) ≡ align_bytes align
   pub keys : map (λ number. key_name (key_of number)) (0 ∷ 1 ∷ 2 ∷ 3 ∷ 4 ∷ 5 ∷ [])
       ≡ codes "kernel" ∷ codes "fdt" ∷ codes "ramdisk" ∷ codes "firmware" ∷ codes "loadables"
       ∷ codes "script" ∷ []

@@ -5,7 +5,7 @@ use Rattle.bi_base.specs.declared.fault.Error.TheVariants as error
 use Rattle.bi_fit.specs.declared.building.Head.{Head}
 use Rattle.bi_norm.specs.declared.fit_building.ImageSpec.{ImageSpec}
 use Rattle.bi_norm.specs.FitBuilding.{IsBuildError, IsBuilt}
-use Rattle.bi_c.specs.Arguments.{bounds, form_of, has_bit, HasForm}
+use Rattle.bi_c.specs.Arguments.{bounds, has_bit, HasForm}
 use Rattle.bi_c.specs.PieceBuilding.{IsPieceInside, bytes_of_piece}
 use Rattle.bi_c.specs.declared.failure.Failure.{Failure}
 use Rattle.bi_c.specs.declared.failure.Failure.TheVariants.{WrongArgument, Refused, OutOfMemory}
@@ -53,7 +53,7 @@ pub record IsTreeOfPieces (limit depth form time : ℕ) (input description : Lis
     pub head : Head
     pub specs : List ImageSpec
     pub is_to_be_built : IsToBeBuilt time input description images head specs
-    pub is : IsBuilt (bounds limit depth) (form_of form) head specs text
+    pub is : IsBuilt (bounds limit depth) arguments.form head specs text
     pub no_value : value ≡ 0
 
 -- The fault that building a FIT from these values has.
@@ -64,7 +64,7 @@ pub record IsTreeRefusal (limit depth form time : ℕ) (input description : List
     pub head : Head
     pub specs : List ImageSpec
     pub is_to_be_built : IsToBeBuilt time input description images head specs
-    pub is : IsBuildError (bounds limit depth) (form_of form) head specs (error.Refused fault)
+    pub is : IsBuildError (bounds limit depth) arguments.form head specs (error.Refused fault)
 
 -- The numbers are in their ranges, and the images are inside the input.
 pub record HasSpecs (limit depth form : ℕ) (input : List ℕ) (images : List BuildElement) : Type 0

@@ -1,13 +1,14 @@
 //! The options and limits that C passes as numbers.
 
-ghost use Rattle.std.specs.Prelude.{◌≡◌, ◌↔◌, ◌<◌, IsSome, IfSome};
+ghost use Rattle.std.specs.Prelude.{◌≡◌, ◌↔◌, ◌<◌, IfNone, IsSome, IfSome};
 ghost use Rattle.bi_base.specs.Limits.{IsInRange};
+ghost use Rattle.bi_fit.specs.declared.form.Form.{Form};
 ghost use Rattle.bi_c.specs.Arguments.{allowed_of as allowed_of_number, bounds};
-ghost use Rattle.bi_c.specs.Arguments.{form_of as form_of_number};
+ghost use Rattle.bi_c.specs.Arguments.{number_of_form};
 ghost use Rattle.bi_c.specs.Arguments.{has_bit as is_set, is_yes, key_of as key_of_number};
 ghost use Rattle.bi_c.specs.Arguments.{policy_of as policy_of_number};
 
-use bi_base::Limits;
+use bi_base::{Align, Limits};
 use bi_commands::check::{Allowed, Policy};
 use bi_fit::Key;
 use bi_norm::Form;
@@ -25,13 +26,13 @@ pub(crate) fn limits_of(limit: u32, depth: u32) -> Option<Limits>
 
 /// Returns the form with this number, if there is one.
 pub(crate) fn form_of(number: u32) -> Option<Form>
-    ensures in_range { IsSome result ↔ number < 2 }
-    ensures value { IfSome result (λ form. form ≡ form_of_number number) }
+    ensures some { IfSome result (λ form. number_of_form form ≡ number) }
+    ensures none { IfNone result ((form : Form) → ¬ (number_of_form form ≡ number)) }
 {
     match number {
         0 => Some(Form::Embedded),
         1 => Some(Form::External),
-        _ => None,
+        _ => Some(Form::Aligned(Align::new(number)?)),
     }
 }
 

@@ -6,8 +6,10 @@ ghost use Rattle.bi_c.specs.KnownCalls.{ConcernElementsAreKnown, ConcernTextsAre
 ghost use Rattle.bi_c.specs.KnownCalls.{OffsetsOfPayloadsAreKnown, CallNumbersAreKnown};
 ghost use Rattle.bi_c.specs.KnownCalls.{CallAnswersAreKnown, ArgumentBoundsAreKnown};
 ghost use Rattle.bi_c.specs.KnownCalls.{PiecesAreKnown};
+ghost use Rattle.bi_c.specs.KnownCodeCalls.{NamesOfCodesAreKnown};
 ghost use Rattle.bi_c.specs.KnownLegacyCalls.{HeaderCallsAreKnown, LegacyBuildingIsKnown};
 ghost use Rattle.bi_c.specs.KnownLegacyCalls.{LegacySelectionsAreKnown, TextCallsAreKnown};
+ghost use Rattle.bi_c.specs.KnownNotes.{NoteNumbersAreKnown};
 ghost use Rattle.bi_c.specs.KnownTreeCalls.{TreeBuildingIsKnown, TreeReasonsAreKnown};
 ghost use Rattle.bi_c.specs.KnownTreeCalls.{TreeSelectionsAreKnown};
 ghost use Rattle.bi_c.specs.KnownValueCalls.{ValueCallsAreKnown};
@@ -97,6 +99,19 @@ pub fn tree_building_is_known()
 /// What the call that gets a value returns for a small file is known.
 pub fn value_calls_are_known()
     ensures { ValueCallsAreKnown }
+{
+    bi_legacy::laws::one_meaning();
+}
+
+/// The names of some codes are known, the codes of some names, and which numbers are wrong. The name
+/// of a code is the name of no other code.
+pub fn names_of_codes_are_known()
+    ensures { NamesOfCodesAreKnown }
+{}
+
+/// The numbers in the notes on the normal forms of small files are known.
+pub fn note_numbers_are_known()
+    ensures { NoteNumbersAreKnown }
 {
     bi_legacy::laws::one_meaning();
 }

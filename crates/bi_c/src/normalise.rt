@@ -19,8 +19,8 @@ use bi_norm::BootImage;
 use std::alloc::Global;
 
 /// Writes the normal form of a file to a buffer, and sets `answer.value` to the number of its
-/// signature nodes. `form` is 0 for payloads inside the blob and 1 for payloads after it. Returns
-/// the status.
+/// signature nodes. `form` is 0 for payloads inside the blob and 1 for payloads after it, or the
+/// alignment in bytes of payloads after it. Returns the status.
 #[unsafe(no_mangle)]
 pub extern "C" fn bootimg_normalise(
     alloc: Global,

@@ -49,7 +49,7 @@ pub extern "C" fn bootimg_update(
 }
 
 /// Returns the changes that these bits select, with this time, if there are no other bits.
-fn changes_of(changes: u32, time: u32) -> Option<Changes>
+pub(crate) fn changes_of(changes: u32, time: u32) -> Option<Changes>
     ensures in_range { IsSome result ↔ changes < 4 }
     ensures value { IfSome result (λ wanted. wanted ≡ changes_of_numbers changes time) }
 {

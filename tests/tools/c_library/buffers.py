@@ -53,6 +53,7 @@ def is_same(kind, buffer, data):
     for call in calls:
         check(f"{kind}: {call.__name__}", outcome(call, buffer) == outcome(call, data))
     check(f"{kind}: update", outcome(bootimg.update, buffer, 5, True) == outcome(bootimg.update, data, 5, True))
+    check(f"{kind}: notes", outcome(bootimg.notes, buffer, 5, True) == outcome(bootimg.notes, data, 5, True))
     check(f"{kind}: extract_part", outcome(bootimg.extract_part, buffer) == outcome(bootimg.extract_part, data))
     check(f"{kind}: extract_image", outcome(bootimg.extract_image, buffer, "kernel-1") == outcome(bootimg.extract_image, data, b"kernel-1"))
     check(f"{kind}: extract_config", outcome(bootimg.extract_config, buffer) == outcome(bootimg.extract_config, data))

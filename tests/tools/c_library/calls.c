@@ -19,6 +19,7 @@ struct call {
     uint32_t kinds;
     uint32_t limit;
     uint32_t number;
+    uint32_t field;
     uint32_t changes;
     uint32_t time;
     int is_quiet;
@@ -63,6 +64,8 @@ static uint32_t make(const struct call *call, uint8_t *buffer, size_t size, boot
     if (strcmp(call->command, "get") == 0)
         return bootimg_get(one, one_size, call->place.bytes, call->place.size, call->property.bytes, call->property.size,
                            call->value_form, limit, depth, buffer, size, answer);
+    if (strcmp(call->command, "code-name") == 0)
+        return bootimg_code_name(call->field, call->number, buffer, size, answer);
     if (strcmp(call->command, "cause") == 0)
         return bootimg_cause_name(call->number, buffer, size, answer);
     if (strcmp(call->command, "sentence") == 0)
@@ -99,10 +102,48 @@ static void tell(const struct call *call, const bootimg_result *answer)
         fprintf(stderr, "bootimg: %s: %.*s at %u\n", call->paths[answer->file - 1], (int)named.size, name, (unsigned)answer->offset);
 }
 
+/* Writes the notes of the program. A struct of the notes is overwritten, and nothing after it. */
+static void note(const struct call *call, const bootimg_result *made)
+{
+    struct {
+        bootimg_note_numbers notes;
+        uint64_t after;
+    } room;
+    bootimg_result answer;
+    uint32_t changes = strcmp(call->command, "update") == 0 ? call->changes : 0;
+    memset(&room, 0xc3, sizeof room);
+    CHECK(bootimg_notes(call->files[0].bytes, call->files[0].size, changes, call->time, call->form, call->limit, BOOTIMG_DEPTH,
+                        &room.notes, &answer) == BOOTIMG_OK);
+    CHECK(room.after == 0xc3c3c3c3c3c3c3c3u && room.notes.signatures == made->value);
+    CHECK(answer.size == 0 && answer.value == 0 && answer.cause == 0 && answer.offset == 0 && answer.file == 0 && answer.reason == 0);
+    if (call->is_quiet)
+        return;
+    if (room.notes.signatures != 0)
+        fprintf(stderr, "bootimg: note: %zu signature nodes carried, not checked\n", room.notes.signatures);
+    if (room.notes.lost_alignment != 0)
+        fprintf(stderr, "bootimg: note: payloads are no longer aligned to %u bytes, see --align\n", (unsigned)room.notes.lost_alignment);
+    if (room.notes.lost_positions != 0)
+        fprintf(stderr, "bootimg: note: %zu fixed positions of payloads were not kept\n", room.notes.lost_positions);
+}
+
+/* The notes on what cannot be made: the struct is as it was, and the status and the answer are the same. */
+static void note_nothing(const struct call *call, uint32_t status, const bootimg_result *failed)
+{
+    bootimg_note_numbers notes, before;
+    bootimg_result answer;
+    uint32_t changes = strcmp(call->command, "update") == 0 ? call->changes : 0;
+    memset(&notes, 0xc3, sizeof notes);
+    before = notes;
+    CHECK(bootimg_notes(call->files[0].bytes, call->files[0].size, changes, call->time, call->form, call->limit, BOOTIMG_DEPTH, &notes,
+                        &answer) == status);
+    CHECK(memcmp(&answer, failed, sizeof answer) == 0 && memcmp(&notes, &before, sizeof notes) == 0);
+}
+
 /* Why there is no value, or no extracted payload. */
 static const char *const reasons[] = {
     "", "the selection does not fit this kind of image", "no such part", "no such image", "no such configuration",
     "no such key", "bad list", "missing image", "no such entry", "no payload", "no such node", "no such property", "no text", "no number",
+    "no name", "no code",
 };
 
 /* Calls with buffers of several sizes, and writes the output. Returns the exit status of the program. */
@@ -110,6 +151,7 @@ static int run(const struct call *call, FILE *output)
 {
     struct memory buffer, exact;
     bootimg_result answer, again;
+    int has_notes = strcmp(call->command, "normalise") == 0 || strcmp(call->command, "update") == 0;
     uint32_t status = make_with(call, &buffer, 0, &answer);
     give_back(buffer);
     CHECK((answer.reason != 0) == (status == BOOTIMG_NOT_FOUND));
@@ -120,12 +162,14 @@ static int run(const struct call *call, FILE *output)
         CHECK(memcmp(&answer, &again, sizeof answer) == 0);
         CHECK(is_unchanged(buffer.bytes, 100));
         give_back(buffer);
+        if (has_notes)
+            note_nothing(call, status, &answer);
         if (status == BOOTIMG_REFUSED)
             tell(call, &answer);
         else
             CHECK(answer.cause == 0 && answer.offset == 0 && answer.file == 0);
         if (status == BOOTIMG_NOT_FOUND && !call->is_quiet) {
-            CHECK(strcmp(call->command, "get") == 0 && answer.reason <= BOOTIMG_NO_NUMBER);
+            CHECK(strcmp(call->command, "get") == 0 ? answer.reason <= BOOTIMG_NO_NUMBER : answer.reason == BOOTIMG_NO_NAME);
             fprintf(stderr, "bootimg: %s: %s\n", call->paths[0], reasons[answer.reason]);
         }
         return status == BOOTIMG_REFUSED || status == BOOTIMG_NOT_FOUND ? 2 : 10 + (int)status;
@@ -146,8 +190,8 @@ static int run(const struct call *call, FILE *output)
     }
     CHECK(fwrite(exact.bytes, 1, answer.size, output) == answer.size);
     give_back(exact);
-    if ((strcmp(call->command, "normalise") == 0 || strcmp(call->command, "update") == 0) && answer.value != 0 && !call->is_quiet)
-        fprintf(stderr, "bootimg: note: %zu signature nodes carried, not checked\n", answer.value);
+    if (has_notes)
+        note(call, &answer);
     if (strcmp(call->command, "compare") == 0) {
         CHECK(bootimg_same_meaning(call->files[0].bytes, call->files[0].size, call->files[1].bytes, call->files[1].size,
                                    call->limit, BOOTIMG_DEPTH, &again) == BOOTIMG_OK);
@@ -244,15 +288,23 @@ static int try_arguments(struct call *call)
         CHECK(bootimg_same_meaning(call->files[0].bytes, call->files[0].size, call->files[0].bytes, call->files[0].size,
                                    call->limit, depths[i], &answer) == BOOTIMG_WRONG_ARGUMENT);
     }
-    CHECK(bootimg_normalise(call->files[0].bytes, call->files[0].size, 2, call->limit, 64, &byte, 1, &answer) ==
-          BOOTIMG_WRONG_ARGUMENT);
+    for (int i = 0; i < 8; i++) {
+        static const uint32_t forms[] = {2, 3, 5, 12, 4095, 0x180000, 0x200000, 0x80000000u};
+        CHECK(bootimg_normalise(call->files[0].bytes, call->files[0].size, forms[i], call->limit, 64, &byte, 1, &answer) ==
+              BOOTIMG_WRONG_ARGUMENT);
+        CHECK(bootimg_update(call->files[0].bytes, call->files[0].size, 0, 0, forms[i], call->limit, 64, &byte, 1, &answer) ==
+              BOOTIMG_WRONG_ARGUMENT);
+    }
+    for (int shift = 2; shift <= 20; shift++) {
+        uint32_t status = bootimg_normalise(call->files[0].bytes, call->files[0].size, (uint32_t)1 << shift, call->limit, 64, NULL, 0,
+                                            &answer);
+        CHECK(status == BOOTIMG_NO_ROOM || status == BOOTIMG_REFUSED);
+    }
     CHECK(bootimg_check(call->files[0].bytes, call->files[0].size, 2 * BOOTIMG_SIGNED, call->limit, 64, &byte, 1, &answer) ==
           BOOTIMG_WRONG_ARGUMENT);
     CHECK(bootimg_check_json(call->files[0].bytes, call->files[0].size, 2 * BOOTIMG_SIGNED, call->limit, 64, &byte, 1, &answer) ==
           BOOTIMG_WRONG_ARGUMENT);
     CHECK(bootimg_update(call->files[0].bytes, call->files[0].size, 4, 0, 0, call->limit, 64, &byte, 1, &answer) ==
-          BOOTIMG_WRONG_ARGUMENT);
-    CHECK(bootimg_update(call->files[0].bytes, call->files[0].size, 0, 0, 2, call->limit, 64, &byte, 1, &answer) ==
           BOOTIMG_WRONG_ARGUMENT);
     CHECK(bootimg_show(call->files[0].bytes, call->files[0].size, 2, call->limit, 64, &byte, 1, &answer) ==
           BOOTIMG_WRONG_ARGUMENT);
@@ -272,6 +324,9 @@ static int try_arguments(struct call *call)
         wrong.key = BOOTIMG_SCRIPT + 1;
         CHECK((make_extract(&wrong, &answer) == BOOTIMG_WRONG_ARGUMENT) == (selection >= CONFIG));
     }
+    CHECK(bootimg_code_name(4, 5, &byte, 1, &answer) == BOOTIMG_WRONG_ARGUMENT && answer.reason == 0);
+    CHECK(bootimg_code_name(BOOTIMG_CODE_OS, 256, &byte, 1, &answer) == BOOTIMG_WRONG_ARGUMENT && answer.reason == 0);
+    CHECK(bootimg_code_number(4, (const uint8_t *)"linux", 5, &answer) == BOOTIMG_WRONG_ARGUMENT && answer.reason == 0);
     CHECK(bootimg_cause_name(0, &byte, 1, &answer) == BOOTIMG_WRONG_ARGUMENT);
     CHECK(bootimg_cause_name(27, &byte, 1, &answer) == BOOTIMG_WRONG_ARGUMENT);
     CHECK(bootimg_explain(0, &byte, 1, &answer) == BOOTIMG_WRONG_ARGUMENT);
@@ -314,6 +369,8 @@ static void try_null(const struct call *call)
     }
     CHECK(bootimg_kind(NULL, 0, &answer) == BOOTIMG_REFUSED && answer.cause == BOOTIMG_CAUSE_TRUNCATED);
     CHECK(bootimg_version(NULL, 0, &answer) == BOOTIMG_NO_ROOM && answer.size != 0);
+    CHECK(bootimg_code_number(BOOTIMG_CODE_OS, NULL, 0, &answer) == BOOTIMG_NOT_FOUND && answer.reason == BOOTIMG_NO_CODE);
+    CHECK(bootimg_code_name(BOOTIMG_CODE_OS, 5, NULL, 0, &answer) == BOOTIMG_NO_ROOM && answer.size == 5);
     CHECK(bootimg_cause_name(BOOTIMG_CAUSE_UNSUPPORTED, NULL, 0, &answer) == BOOTIMG_NO_ROOM && answer.size == 11);
     give_back(none);
 }
@@ -377,6 +434,29 @@ static int try_threads(const struct call *call)
     return 0;
 }
 
+/* Prints each code with a name: the number of the field, the name and the code, which is found by the name and by no other bytes. */
+static int print_codes(void)
+{
+    for (uint32_t field = BOOTIMG_CODE_OS; field <= BOOTIMG_CODE_COMPRESSION; field++)
+        for (uint32_t code = 0; code <= 255; code++) {
+            uint8_t name[33];
+            bootimg_result named, found;
+            uint32_t status = bootimg_code_name(field, code, name, 32, &named);
+            if (status == BOOTIMG_NOT_FOUND) {
+                CHECK(named.reason == BOOTIMG_NO_NAME && named.size == 0 && named.value == 0);
+                continue;
+            }
+            CHECK(status == BOOTIMG_OK && named.value == 0 && named.size != 0);
+            CHECK(bootimg_code_number(field, name, named.size, &found) == BOOTIMG_OK && found.value == code && found.size == 0);
+            printf("%u %.*s %u\n", (unsigned)field, (int)named.size, name, (unsigned)code);
+            name[named.size] = 0xff;
+            CHECK(bootimg_code_number(field, name, named.size + 1, &found) == BOOTIMG_NOT_FOUND && found.reason == BOOTIMG_NO_CODE);
+            name[0] ^= 1;
+            CHECK(bootimg_code_number(field, name, named.size, &found) == BOOTIMG_NOT_FOUND && found.value == 0);
+        }
+    return 0;
+}
+
 /* The bytes of a word. */
 static struct memory bytes_of(const char *word)
 {
@@ -416,7 +496,9 @@ int main(int count, char **words)
     call.command = words[1];
     for (int i = 2; i < count; i++) {
         if (strcmp(words[i], "--external") == 0) {
-            call.form = BOOTIMG_EXTERNAL;
+            call.form = call.form == BOOTIMG_EMBEDDED ? BOOTIMG_EXTERNAL : call.form;
+        } else if (strcmp(words[i], "--align") == 0) {
+            call.form = (uint32_t)strtoul(words[++i], NULL, 0);
         } else if (strcmp(words[i], "--json") == 0) {
             call.is_json = 1;
         } else if (strcmp(words[i], "--layout") == 0) {
@@ -429,6 +511,8 @@ int main(int count, char **words)
             call.kinds |= BOOTIMG_SIGNED;
         } else if (strcmp(words[i], "--number") == 0) {
             call.number = (uint32_t)strtoul(words[++i], NULL, 10);
+        } else if (strcmp(words[i], "--field") == 0) {
+            call.field = (uint32_t)strtoul(words[++i], NULL, 10);
         } else if (strcmp(words[i], "--time") == 0) {
             call.changes |= BOOTIMG_CHANGE_TIME;
             call.time = (uint32_t)strtoul(words[++i], NULL, 0);
@@ -470,6 +554,8 @@ int main(int count, char **words)
     } else if (strcmp(call.command, "arguments") == 0) {
         try_null(&call);
         status = try_arguments(&call);
+    } else if (strcmp(call.command, "codes") == 0) {
+        status = print_codes();
     } else if (strcmp(call.command, "threads") == 0) {
         status = try_threads(&call);
     } else if (strcmp(call.command, "sizes") == 0) {

@@ -68,8 +68,11 @@ static void repair(uint8_t *file, size_t size)
 /* The calls with a buffer, after those with an array. */
 enum {
     NORMALISE = ARRAYS, UPDATE, CONVERT, LIST, LIST_JSON, DESCRIBE, DESCRIBE_JSON, SHOW, VERIFY, VERIFY_JSON, CHECK_LINES, CHECK_JSON,
-    COMPARE, COMPARE_JSON, GET, CAUSE_NAME, EXPLAIN, VERSION, CALLS
+    COMPARE, COMPARE_JSON, GET, CODE_NAME, CAUSE_NAME, EXPLAIN, VERSION, CALLS
 };
+
+/* Numbers of forms, and two that are those of none. */
+static const uint32_t forms[] = {BOOTIMG_EMBEDDED, BOOTIMG_EXTERNAL, 2, 4, 8, 64, 4096, 4097};
 
 static size_t element_size(int call)
 {
@@ -80,9 +83,9 @@ static uint32_t make_text(const struct choice *c, int call, uint8_t *to, size_t 
 {
     switch (call) {
     case NORMALISE:
-        return bootimg_normalise(c->file, c->size, c->number % 3, c->limit, c->depth, to, room, answer);
+        return bootimg_normalise(c->file, c->size, forms[c->number % 8], c->limit, c->depth, to, room, answer);
     case UPDATE:
-        return bootimg_update(c->file, c->size, c->number % 5, c->time, c->number & 1, c->limit, c->depth, to, room, answer);
+        return bootimg_update(c->file, c->size, c->number % 5, c->time, forms[c->number / 8 % 8], c->limit, c->depth, to, room, answer);
     case CONVERT:
         return bootimg_convert(c->file, c->size, c->limit, c->depth, to, room, answer);
     case LIST:
@@ -110,6 +113,8 @@ static uint32_t make_text(const struct choice *c, int call, uint8_t *to, size_t 
     case GET:
         return bootimg_get(c->file, c->size, (const uint8_t *)"/", 1, c->name, c->name_size, c->number % 5, c->limit, c->depth, to, room,
                            answer);
+    case CODE_NAME:
+        return bootimg_code_name(c->number % 5, c->time % 300, to, room, answer);
     case CAUSE_NAME:
         return bootimg_cause_name(c->number % 29, to, room, answer);
     case EXPLAIN:
@@ -133,7 +138,7 @@ static void check_answer(uint32_t status, const bootimg_result *answer)
     CHECK((answer->cause != 0) == (status == BOOTIMG_REFUSED) && answer->cause <= BOOTIMG_CAUSE_UNSUPPORTED);
     CHECK((answer->file != 0) == (status == BOOTIMG_REFUSED) && answer->file <= 2);
     CHECK(answer->offset == 0 || status == BOOTIMG_REFUSED);
-    CHECK((answer->reason != 0) == (status == BOOTIMG_NOT_FOUND) && answer->reason <= BOOTIMG_NO_PROPERTY);
+    CHECK((answer->reason != 0) == (status == BOOTIMG_NOT_FOUND) && answer->reason <= BOOTIMG_NO_CODE);
     CHECK(answer->size == 0 || status == BOOTIMG_OK || status == BOOTIMG_NO_ROOM);
 }
 
@@ -234,8 +239,8 @@ static void try_build(const struct choice *c)
     images[0].image_type = images[1].image_type = (uint8_t)(c->number % 9);
     images[0].os = images[0].arch = images[1].os = images[1].arch = (uint8_t)(c->time % 23);
     images[0].addresses = c->time % 5;
-    check_answer(bootimg_build_fit(c->file, c->size, c->name, c->name_size, c->time, images, c->number % 3, c->number % 3, c->limit, c->depth,
-                                   NULL, 0, &answer), &answer);
+    check_answer(bootimg_build_fit(c->file, c->size, c->name, c->name_size, c->time, images, c->number % 3, forms[c->number % 8], c->limit,
+                                   c->depth, NULL, 0, &answer), &answer);
     check_answer(bootimg_build_legacy(c->file, c->size, &fields, any, c->number % 3, c->limit, c->depth, NULL, 0, &answer), &answer);
     if (bootimg_legacy(c->file, c->size, c->limit, c->depth, &fields, &answer) != BOOTIMG_OK || try_call(c, PARTS, &answer) != BOOTIMG_OK)
         return;
@@ -257,6 +262,19 @@ static void check_extracted(const struct choice *c, uint32_t status, const booti
         check_region(c, region);
 }
 
+/* The notes are on what an update writes. The number of signature nodes is the one that it returns. */
+static void try_notes(const struct choice *c)
+{
+    bootimg_note_numbers notes = {0, 0, 0};
+    bootimg_result updated, answer;
+    const uint32_t form = forms[c->number / 8 % 8], status = try_call(c, UPDATE, &updated);
+    const uint32_t noted = bootimg_notes(c->file, c->size, c->number % 5, c->time, form, c->limit, c->depth, &notes, &answer);
+    check_answer(noted, &answer);
+    CHECK(noted == (status == BOOTIMG_NO_ROOM ? BOOTIMG_OK : status));
+    CHECK(notes.signatures == updated.value && (notes.lost_alignment & (notes.lost_alignment - 1)) == 0);
+    CHECK(form == BOOTIMG_EXTERNAL || (notes.lost_alignment == 0 && notes.lost_positions == 0));
+}
+
 /* Makes the calls without a buffer. */
 static void try_others(const struct choice *c)
 {
@@ -265,6 +283,7 @@ static void try_others(const struct choice *c)
     bootimg_fit_fields fit;
     const uint32_t key = c->number % 7;
     check_answer(bootimg_kind(c->file, c->size, &answer), &answer);
+    check_answer(bootimg_code_number(c->number % 5, c->name, c->name_size, &answer), &answer);
     check_answer(bootimg_same_meaning(c->file, c->size, c->name, c->name_size, c->limit, c->depth, &answer), &answer);
     check_extracted(c, bootimg_extract_part(c->file, c->size, c->number % 4, c->limit, c->depth, &answer), &answer);
     check_extracted(c, bootimg_extract_image(c->file, c->size, c->name, c->name_size, c->limit, c->depth, &answer), &answer);
@@ -340,6 +359,7 @@ int LLVMFuzzerTestOneInput(const uint8_t *data, size_t size)
     }
     try_verdicts(&c);
     try_concerns(&c);
+    try_notes(&c);
     try_build(&c);
     try_others(&c);
     return 0;

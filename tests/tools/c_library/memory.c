@@ -74,6 +74,7 @@ static uint32_t make(int call, uint8_t *buffer, bootimg_result *answer)
     case 32:
         return bootimg_get(file, size, (const uint8_t *)"/", 1, (const uint8_t *)"timestamp", 9, BOOTIMG_VALUE_NUMBER, BOOTIMG_LIMIT,
                            64, buffer, sizeof text, answer);
+    case 33: return bootimg_notes(file, size, 3, 7, BOOTIMG_EXTERNAL, BOOTIMG_LIMIT, 64, (void *)buffer, answer);
     default: return bootimg_listed(file, size, name, 6, BOOTIMG_KERNEL, BOOTIMG_LIMIT, 64, (void *)buffer, 100, answer);
     }
 }
@@ -109,7 +110,7 @@ int main(int count, char **words)
     size = input == NULL ? 0 : fread(file, 1, sizeof file, input);
     if (size == 0)
         return 2;
-    for (int call = 0; call <= 33; call++) {
+    for (int call = 0; call <= 34; call++) {
         bootimg_result expected;
         uint32_t status;
         memset(wanted, 0xa5, sizeof wanted);

@@ -308,12 +308,31 @@ try:
 except bootimg.Refused as refused:
     check("the limit is on the file", str(refused) == "TooLarge at 3973")
 check("its normal form", small.normalise() == bootimg.normalise(small.file) and small.update(time=5) == bootimg.update(small.file, 5))
+check("its notes are about nothing", small.notes(time=5, hashes=True, external=True) == (0, None, 0))
+
+# Alignments, and what is noted about a form that loses one.
+plain = {"os": "linux", "arch": "arm64", "type": "kernel"}
+pair = [bootimg.BuildImage(name, b"payload", **plain) for name in ("a", "b")]
+aligned = bootimg.build_fit(pair, external=True, align=4096)
+with bootimg.open(aligned) as one:
+    check("each payload is at a multiple", all(image.offset % 4096 == 0 for image in one.images))
+    check("the alignment is lost", one.notes(external=True) == (0, 4096, 0))
+    check("it is kept in other forms", one.notes() == one.notes(external=True, align=8) == (0, None, 0))
+    check("the form of the same alignment", one.normalise(external=True, align=4096) == aligned)
+    check("four is the alignment of the external form", one.normalise(True, align=4) == one.normalise(True))
+    check("an update has it too", one.update(0, False, True, align=4096) == aligned)
+for external, align in (True, 0), (True, 1), (True, 2), (True, 12), (True, 1 << 21), (True, -4), (True, 1 << 32), (False, 4):
+    for call in bootimg.normalise, bootimg.notes:
+        found = raises(bootimg.WrongArgument, call, aligned, external=external, align=align)
+        check(f"{call.__name__}: {align} is no alignment, {external}", found is not None)
 check("its FIT", bootimg.open(bootimg.convert(small.file)).image("kernel-1").payload == small.parts[0].payload)
 
 # The codes are those that the arguments of the program name.
 for field, names in bootimg.CODES.items():
     check(f"the names of {field}", names == reference.given_names(field))
-    check(f"they are found by their codes: {field}", all(names[bootimg.code_name(field, code)] == code for code in names.values()))
+    firsts = [next((name for name, code in names.items() if code == number), None) for number in range(256)]
+    check(f"each code has its first name, if it has one: {field}", [bootimg.code_name(field, number) for number in range(256)] == firsts)
+    check(f"the library finds each code by its names: {field}", all(bootimg.code_number(field, name) == names[name] for name in names))
 
 # What is no header and no code.
 linux = {"os": "linux", "arch": "arm64", "type": "kernel"}
@@ -325,6 +344,7 @@ for field, code in {"os": "linus", "arch": 256, "type": -1, "compression": ""}.i
     made = bootimg.BuildImage("x", b"", **linux)._replace(**{field: code})
     check(f"nor is it of an image of a FIT: {code!r}", raises(bootimg.WrongArgument, bootimg.build_fit, [made]) == found)
 check("there is no such field", raises(bootimg.WrongArgument, bootimg.code_number, "load", 0) == "wrong argument: load")
+check("there is no such code", raises(bootimg.WrongArgument, bootimg.code_name, "os", 256) is not None)
 check("a name of a code", [bootimg.code_name("arch", code) for code in (7, 22, 200)] == ["ppc", "arm64", None])
 named, numbered = bootimg.BuildImage("x", b"x", **linux), bootimg.BuildImage("x", b"x", 5, 22, 2, 0)
 check("names and numbers of codes", bootimg.build_fit([named]) == bootimg.build_fit([numbered]))

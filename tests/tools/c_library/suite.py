@@ -1,9 +1,8 @@
 """Compares the library with the program, on the runs that `tests/conformance/run --export` wrote.
 
 suite.py RUNS PROGRAM CALLS LIBRARY: for each run of a call of the library, whose image comes from standard input, CALLS (the program of
-calls.c) and `python3 -m bootimg` over the shared LIBRARY have to do what PROGRAM does. But they note nothing about where payloads are,
-since no call of the library returns that. The runs have to have each cause that a call of the library can have, and each reason why
-nothing is extracted. The last line is `N passed, M failed`.
+calls.c) and `python3 -m bootimg` over the shared LIBRARY have to do what PROGRAM does. The runs have to have each cause that a call of
+the library can have, each note, and each reason why nothing is extracted. The last line is `N passed, M failed`.
 """
 
 import contextlib
@@ -25,8 +24,8 @@ import bootimg
 
 # The options of each command, beside --limit.
 COMMANDS = {
-    "normalise": {"--external"},
-    "update": {"--external", "--time", "--hashes"},
+    "normalise": {"--external", "--align"},
+    "update": {"--external", "--align", "--time", "--hashes"},
     "extract": {"--part", "--image", "--config", "--default", "--key", "--index"},
     "list": {"--json"},
     "describe": {"--json"},
@@ -49,6 +48,9 @@ def number_of(word, least=0, most=0xFFFFFFFF):
 
 def value_for_calls(option, word):
     """The option and the value for calls.c, or None if the value is not one of the option."""
+    if option == "--align":
+        number = number_of(word, 4, 0x100000)
+        return [option, number] if number and int(number).bit_count() == 1 else None
     if option in ("--limit", "--part", "--index", "--time"):
         number = number_of(word, 64, bootimg.LIMIT) if option == "--limit" else number_of(word)
         return [option, number] if number else None
@@ -81,7 +83,7 @@ def words_for_calls(words):
         result += value
     if command == "update" and not seen & {"--time", "--hashes"} or command == "extract" and len(seen & SELECTIONS) != 1:
         return None
-    if "--part" in seen and "--index" in seen:
+    if "--part" in seen and "--index" in seen or "--align" in seen and "--external" not in seen:
         return None
     return result
 
@@ -106,7 +108,7 @@ def differences(entry):
     if not words or not path or not os.path.exists(path):
         return None
     status, output, errors = outcome([program.resolve(), *entry["arguments"], path])
-    wanted = status, output, re.sub(rb"(?m)^bootimg: note: .*payloads.*\n", b"", errors)
+    wanted = status, output, errors
     found = []
     if outcome([calls.resolve(), *words, path]) != wanted:
         found.append("calls.c")
@@ -174,9 +176,28 @@ for found in values:
 if len(values) < 30:
     print("FAILED: too few runs get one value")
 
+# Each code has its first name.
+named = [
+    f"{field} {bootimg.code_name(word, code)} {code}\n"
+    for field, word in enumerate(bootimg.CODES)
+    for code in range(256)
+    if bootimg.code_name(word, code) is not None
+]
+same = outcome([calls.resolve(), "codes"]) == (0, "".join(named).encode(), b"")
+passed += same
+failed += not same
+if not same:
+    print("FAILED: the names of codes")
+
 # Images that are built have the other two causes.
 refusals = {bootimg.cause_name(number) for number in range(1, 27)} - {"BadField", "Unsupported"} | set(bootimg.REASONS[:9])
 seen = {re.sub(r"( at)? \d+$", "", wanted[2].decode(errors="replace").strip().rpartition(": ")[2]) for _, _, wanted in results}
+noted = b"".join(wanted[2] for _, _, wanted in results)
+for note in b"signature nodes carried", b"payloads are no longer aligned", b"fixed positions of payloads":
+    passed += note in noted
+    failed += note not in noted
+    if note not in noted:
+        print(f"FAILED: no run has the note on {note.decode()}")
 for refusal in sorted(refusals):
     passed += refusal in seen
     failed += refusal not in seen

@@ -1,6 +1,6 @@
 //! The names of codes in U-Boot's own tables, and the codes of names.
 
-ghost use Rattle.std.specs.Prelude.{◌≡◌, IfOk, map, string_bytes};
+ghost use Rattle.std.specs.Prelude.{◌≡◌, IfOk, map, option_map, string_bytes};
 ghost use Rattle.bi_legacy.specs.Codes.{compression_names};
 ghost use Rattle.bi_legacy.specs.Codes.{name_of_code};
 ghost use Rattle.bi_common.specs.CommonLines.{code_word, named_code};
@@ -170,16 +170,14 @@ pub(super) fn compression_cell(alloc: Global, code: u8) -> Result<String, AllocE
 }
 
 /// Returns the cell of a code: its first name in a table, or its number if it has none.
-fn code_cell(alloc: Global, table: &[CodeName], code: u8) -> Result<String, AllocError>
+fn code_cell(alloc: Global, table: &'static [CodeName], code: u8) -> Result<String, AllocError>
     ensures { IfOk result (λ text. string_bytes text
-        ≡ code_word (map code_of_entry table.now) code) }
+        ≡ code_word (map code_of_entry table.entry.now) code) }
 {
-    for (other, name) in table {
-        if *other == code {
-            return String::from_str(alloc, name);
-        }
+    match name_in(table, code) {
+        Some(name) => String::from_str(alloc, name),
+        None => format!(in alloc; "{code}"),
     }
-    format!(in alloc; "{code}")
 }
 
 /// Returns the value for an operating system's code in JSON: its name that can be given,
@@ -219,12 +217,45 @@ fn code_json(table: &'static [CodeName], code: u8) -> JsonValue<'static, 'static
     ensures { value_json result
         ≡ named_code (name_of_code (map code_of_entry table.entry.now) code) code }
 {
+    match name_in(table, code) {
+        Some(name) => JsonValue::String(Field::Text(name.as_bytes())),
+        None => JsonValue::Number(u64::from(code)),
+    }
+}
+
+/// Returns the name that can be given of an operating system's code. Returns None if it has none.
+pub fn given_os_name(code: u8) -> Option<&'static str>
+    ensures { option_map (λ name. name.now) result ≡ name_of_code given_os_names code }
+{
+    name_in(&OS_NAMES[..GIVEN_OS_NAMES], code)
+}
+
+/// Returns the name that can be given of a processor architecture's code. Returns None if it has
+/// none.
+pub fn given_arch_name(code: u8) -> Option<&'static str>
+    ensures { option_map (λ name. name.now) result ≡ name_of_code given_arch_names code }
+{
+    name_in(&ARCH_NAMES[..GIVEN_ARCH_NAMES], code)
+}
+
+/// Returns the name that can be given of an image type's code. Returns None if it has none.
+pub fn given_type_name(code: u8) -> Option<&'static str>
+    ensures { option_map (λ name. name.now) result ≡ name_of_code given_type_names code }
+{
+    name_in(&TYPE_NAMES[..GIVEN_TYPE_NAMES], code)
+}
+
+/// Returns the first name of a code in a table.
+fn name_in(table: &'static [CodeName], code: u8) -> Option<&'static str>
+    ensures { option_map (λ name. name.now) result
+        ≡ name_of_code (map code_of_entry table.entry.now) code }
+{
     for (other, name) in table {
         if *other == code {
-            return JsonValue::String(Field::Text(name.as_bytes()));
+            return Some(*name);
         }
     }
-    JsonValue::Number(u64::from(code))
+    None
 }
 
 /// Returns the code of an operating system's name. Returns None if U-Boot has no such name, and for

@@ -15,14 +15,15 @@ returns-in_default c = FilledNothing WrongArgument
 
 pub returns-in_default-form_of : goal.returns-in_default-form_of
 returns-in_default-form_of c =
-    FilledNothing WrongArgument (λ has. not_so _ c.in_default-form_of.ensures.in_range has.arguments.is_form) refl
+    FilledNothing WrongArgument (λ has. c.in_default-form_of.ensures.none has.arguments.form has.arguments.is_form) refl
     c.fail-in_default-form_of.ensures.answer c.fail-in_default-form_of.ensures.status
 
 pub returns-in-Err : goal.returns-in-Err
 returns-in-Err c =
     let valid : HasForm c.args.limit c.args.depth c.args.form = record {
       limits = is_so _ c.in-Some.ensures.in_range;
-      is_form = is_so _ c.in-Some-form_of.ensures.in_range;
+      form = c.in-Some-form_of.kind;
+      is_form = c.in-Some-form_of.ensures.some;
     } in
     FilledNothing c.in-Err.failure
     (no_specs c.args.limit c.args.depth c.args.form c.args.time c.args.input.now c.args.description.now c.args.images.now valid
@@ -35,11 +36,12 @@ returns-in-Ok-build_fit c =
     let head : Head = record { description = c.args.description; time = c.args.time } in
     let valid : HasForm c.args.limit c.args.depth c.args.form = record {
       limits = is_so _ c.in-Some.ensures.in_range;
-      is_form = is_so _ c.in-Some-form_of.ensures.in_range;
+      form = c.in-Some-form_of.kind;
+      is_form = c.in-Some-form_of.ensures.some;
     } in
     buffer_is_filled _ _ c.deref-in-Ok-build_fit.result.now _ _ 0 _ _
     (tree_of_pieces c.args.limit c.args.depth c.args.form c.args.time input c.args.description.now images valid c.in-Some.limits
-    c.in-Some-form_of.kind head c.deref.result.now c.in-Some.ensures.value c.in-Some-form_of.ensures.value (record {
+    head c.deref.result.now c.in-Some.ensures.value (record {
       is_description = refl;
       is_time = refl;
       are_specs = subst (AllZip (IsSpecOf input) images) (sym c.deref.ensures.value) c.in-Ok.ensures.specs;
@@ -55,12 +57,13 @@ returns c =
     let head : Head = record { description = c.args.description; time = c.args.time } in
     let valid : HasForm c.args.limit c.args.depth c.args.form = record {
       limits = is_so _ c.in-Some.ensures.in_range;
-      is_form = is_so _ c.in-Some-form_of.ensures.in_range;
+      form = c.in-Some-form_of.kind;
+      is_form = c.in-Some-form_of.ensures.some;
     } in
     FilledNothing c.failure_of.result
     (subst (IsTreeBuildFailure c.args.limit c.args.depth c.args.form c.args.time input description images) (sym c.failure_of.ensures)
     (no_tree_of_pieces c.args.limit c.args.depth c.args.form c.args.time input description images valid c.in-Some.limits
-    c.in-Some-form_of.kind head c.deref.result.now c.in-Some.ensures.value c.in-Some-form_of.ensures.value (record {
+    head c.deref.result.now c.in-Some.ensures.value (record {
       is_description = refl;
       is_time = refl;
       are_specs = subst (AllZip (IsSpecOf input) images) (sym c.deref.ensures.value) c.in-Ok.ensures.specs;

@@ -14,7 +14,7 @@ returns-in_default c = FilledNothing WrongArgument
 
 pub returns-in_default-form_of : goal.returns-in_default-form_of
 returns-in_default-form_of c =
-    FilledNothing WrongArgument (λ valid. not_so _ c.in_default-form_of.ensures.in_range valid.is_form) refl
+    FilledNothing WrongArgument (λ valid. c.in_default-form_of.ensures.none valid.form valid.is_form) refl
     c.fail-in_default-form_of.ensures.answer c.fail-in_default-form_of.ensures.status
 
 pub normalise_legacy-requires : goal.normalise_legacy-requires
@@ -25,13 +25,12 @@ returns-in-Ok-Legacy c =
     let file = c.args.file.now in
     let valid : HasForm c.args.limit c.args.depth c.args.form = record {
       limits = is_so _ c.in-Some.ensures.in_range;
-      is_form = is_so _ c.in-Some-form_of.ensures.in_range;
+      form = c.in-Some-form_of.kind;
+      is_form = c.in-Some-form_of.ensures.some;
     } in
     fills_as _ _ _ _ _ _ _ _
-    (normalised_as c.args.limit c.args.depth c.args.form c.in-Some.limits c.in-Some-form_of.kind file valid c.in-Some.ensures.value
-    c.in-Some-form_of.ensures.value)
-    (not_normalised c.args.limit c.args.depth c.args.form c.in-Some.limits c.in-Some-form_of.kind file valid c.in-Some.ensures.value
-    c.in-Some-form_of.ensures.value)
+    (normalised_as c.args.limit c.args.depth c.args.form c.in-Some.limits file valid c.in-Some.ensures.value)
+    (not_normalised c.args.limit c.args.depth c.args.form c.in-Some.limits file valid c.in-Some.ensures.value)
     (c.normalise_legacy.ensures c.in-Some-form_of.kind)
 
 pub returns-in-Ok-Fit : goal.returns-in-Ok-Fit
@@ -40,13 +39,12 @@ returns-in-Ok-Fit c =
     let opened = subst (IsReadBootImage c.in-Some.limits file) c.in-Ok-Fit.field-0-is c.in-Ok-Fit.ensures.read in
     let valid : HasForm c.args.limit c.args.depth c.args.form = record {
       limits = is_so _ c.in-Some.ensures.in_range;
-      is_form = is_so _ c.in-Some-form_of.ensures.in_range;
+      form = c.in-Some-form_of.kind;
+      is_form = c.in-Some-form_of.ensures.some;
     } in
     fills_as _ _ _ _ _ _ _ _
-    (normalised_as c.args.limit c.args.depth c.args.form c.in-Some.limits c.in-Some-form_of.kind file valid c.in-Some.ensures.value
-    c.in-Some-form_of.ensures.value)
-    (not_normalised c.args.limit c.args.depth c.args.form c.in-Some.limits c.in-Some-form_of.kind file valid c.in-Some.ensures.value
-    c.in-Some-form_of.ensures.value)
+    (normalised_as c.args.limit c.args.depth c.args.form c.in-Some.limits file valid c.in-Some.ensures.value)
+    (not_normalised c.args.limit c.args.depth c.args.form c.in-Some.limits file valid c.in-Some.ensures.value)
     (c.normalise_fit.ensures file opened)
 
 pub returns-in-Err : goal.returns-in-Err
@@ -56,11 +54,11 @@ returns-in-Err c =
     let form = c.in-Some-form_of.kind in
     let valid : HasForm c.args.limit c.args.depth c.args.form = record {
       limits = is_so _ c.in-Some.ensures.in_range;
-      is_form = is_so _ c.in-Some-form_of.ensures.in_range;
+      form = c.in-Some-form_of.kind;
+      is_form = c.in-Some-form_of.ensures.some;
     } in
     FilledNothing c.failure_of.result
-    (not_normalised c.args.limit c.args.depth c.args.form limits form file valid c.in-Some.ensures.value
-    c.in-Some-form_of.ensures.value c.failure_of.result (record {
+    (not_normalised c.args.limit c.args.depth c.args.form limits file valid c.in-Some.ensures.value c.failure_of.result (record {
       cause = c.in-Err.error;
       is_failure = c.failure_of.ensures;
       is_error = normalise_error_of_reading limits form file c.in-Err.error c.in-Err.ensures.failed;

@@ -1,23 +1,23 @@
 use Rattle.std.proofs.Common.{◌≡◌, ◌++◌, List, ℕ, refl, subst, sym, ap, ◌∙◌}
 use Rattle.bi_base.specs.Limits.{Limits}
 use Rattle.bi_fit.specs.declared.changes.Changes.{Changes}
-use Rattle.bi_fit.specs.declared.form.Form.{Form}
 use Rattle.bi_fit.proofs.AppendedTexts.{error_in_memory}
 use Rattle.bi_commands.specs.UpdatedFiles.{IsUpdated, IsUpdateOutput, IsUpdateError}
 use Rattle.bi_commands.proofs.UpdatedFiles.{updated_needs_memory}
 use Rattle.bi_c.specs.declared.failure.Failure.TheVariants.{WrongArgument}
 use Rattle.bi_c.specs.Answers.{FilledNothing}
-use Rattle.bi_c.specs.Arguments.{bounds, form_of, changes_of, HasChanges}
-use Rattle.bi_c.proofs.CallAnswers.{not_so, is_so, buffer_is_filled, failed_by}
+use Rattle.bi_c.specs.Arguments.{bounds, changes_of, HasChanges}
+use Rattle.bi_c.proofs.CallAnswers.{not_so, is_so, buffer_is_filled}
+use Rattle.bi_c.proofs.UpdatedCalls.{not_updated}
 use Rattle.bi_c.proofs.update.bootimg_update.Goals as goal
 
 pub returns-in_default : goal.returns-in_default
 returns-in_default c = FilledNothing WrongArgument
-    (λ valid. not_so _ c.in_default.ensures.in_range valid.limits) refl c.fail.ensures.answer c.fail.ensures.status
+    (λ valid. not_so _ c.in_default.ensures.in_range valid.has_form.limits) refl c.fail.ensures.answer c.fail.ensures.status
 
 pub returns-in_default-form_of : goal.returns-in_default-form_of
 returns-in_default-form_of c =
-    FilledNothing WrongArgument (λ valid. not_so _ c.in_default-form_of.ensures.in_range valid.is_form) refl
+    FilledNothing WrongArgument (λ valid. c.in_default-form_of.ensures.none valid.has_form.form valid.has_form.is_form) refl
     c.fail-in_default-form_of.ensures.answer c.fail-in_default-form_of.ensures.status
 
 pub returns-in_default-changes_of : goal.returns-in_default-changes_of
@@ -27,24 +27,28 @@ returns-in_default-changes_of c =
 
 pub returns-in-Ok : goal.returns-in-Ok
 returns-in-Ok c =
-    let limits = bounds c.args.limit c.args.depth in
-    let form = form_of c.args.form in
+    let form = c.in-Some-form_of.kind in
     let file = c.args.file.now in
     let count = c.in-Ok.count in
     let appended = c.in-Ok.ensures.appended in
     let same : c.deref.result.now ≡ appended.text = c.deref.ensures.value ∙ c.into_vec.ensures ∙ appended.appended
     ∙ ap (λ (l : List ℕ). l ++ appended.text) c.new-sink.ensures in
-    let updated : IsUpdateOutput (changes_of c.args.changes c.args.time) limits form count file c.deref.result.now =
-    subst (λ (text : List ℕ). IsUpdateOutput (changes_of c.args.changes c.args.time) limits form count file text) (sym same)
-    (subst (λ (changes : Changes). IsUpdateOutput changes limits form count file appended.text) c.in-Some-changes_of.ensures.value
-    (subst (λ (f : Form). IsUpdateOutput c.in-Some-changes_of.wanted limits f count file appended.text) c.in-Some-form_of.ensures.value
-    (subst (λ (l : Limits). IsUpdateOutput c.in-Some-changes_of.wanted l c.in-Some-form_of.kind count file appended.text)
-    c.in-Some.ensures.value appended.is_text))) in
+    let updated : IsUpdateOutput (changes_of c.args.changes c.args.time) (bounds c.args.limit c.args.depth) form count file
+    c.deref.result.now =
+    subst (λ (text : List ℕ).
+    IsUpdateOutput (changes_of c.args.changes c.args.time) (bounds c.args.limit c.args.depth) form count file text) (sym same)
+    (subst (λ (changes : Changes). IsUpdateOutput changes (bounds c.args.limit c.args.depth) form count file appended.text)
+    c.in-Some-changes_of.ensures.value
+    (subst (λ (l : Limits). IsUpdateOutput c.in-Some-changes_of.wanted l form count file appended.text)
+    c.in-Some.ensures.value appended.is_text)) in
     buffer_is_filled _ _ c.deref.result.now _ _ count _ _
     (record {
       arguments = record {
-        limits = is_so _ c.in-Some.ensures.in_range;
-        is_form = is_so _ c.in-Some-form_of.ensures.in_range;
+        has_form = record {
+          limits = is_so _ c.in-Some.ensures.in_range;
+          form = form;
+          is_form = c.in-Some-form_of.ensures.some;
+        };
         are_changes = is_so _ c.in-Some-changes_of.ensures.in_range;
       };
       is = updated;
@@ -58,19 +62,17 @@ returns-in-Err c =
     let file = c.args.file.now in
     let error = c.in-Err.error in
     let valid : HasChanges c.args.limit c.args.depth c.args.form c.args.changes = record {
-      limits = is_so _ c.in-Some.ensures.in_range;
-      is_form = is_so _ c.in-Some-form_of.ensures.in_range;
+      has_form = record {
+        limits = is_so _ c.in-Some.ensures.in_range;
+        form = form;
+        is_form = c.in-Some-form_of.ensures.some;
+      };
       are_changes = is_so _ c.in-Some-changes_of.ensures.in_range;
     } in
     let is_error : IsUpdateError changes limits form file error =
     error_in_memory _ (IsUpdated changes limits form file) (IsUpdateError changes limits form file) _ _ error (λ text failed. failed.1)
     (updated_needs_memory changes limits form file) c.in-Err.ensures.failed in
     FilledNothing c.failure_of.result
-    (failed_by (HasChanges c.args.limit c.args.depth c.args.form c.args.changes)
-    (IsUpdateError (changes_of c.args.changes c.args.time) (bounds c.args.limit c.args.depth) (form_of c.args.form) file)
-    error c.failure_of.result valid c.failure_of.ensures (λ is. is) (λ is. is)
-    (subst (λ (other : Changes). IsUpdateError other (bounds c.args.limit c.args.depth) (form_of c.args.form) file error)
-    c.in-Some-changes_of.ensures.value
-    (subst (λ (f : Form). IsUpdateError changes (bounds c.args.limit c.args.depth) f file error) c.in-Some-form_of.ensures.value
-    (subst (λ (l : Limits). IsUpdateError changes l form file error) c.in-Some.ensures.value is_error))))
+    (not_updated c.args.limit c.args.depth c.args.form c.args.changes c.args.time limits changes file valid c.in-Some.ensures.value
+    c.in-Some-changes_of.ensures.value error c.failure_of.result c.failure_of.ensures is_error)
     refl c.fail-in-Err.ensures.answer c.fail-in-Err.ensures.status

@@ -1,7 +1,7 @@
 use Rattle.std.proofs.Common.{◌≡◌, drop, map}
 use Rattle.bi_legacy.specs.Codes.{name_of_code}
 use Rattle.bi_show.specs.CodeNames.{code_of_entry}
-use Rattle.bi_show.proofs.show.codes.code_json.Given as goal
+use Rattle.bi_show.proofs.show.codes.name_in.Given as goal
 
 -- No entry before this one has the code.
 abbrev pub invariant-loop-other : goal.invariant-loop-other
