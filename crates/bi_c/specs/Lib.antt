@@ -4,6 +4,7 @@ pub mod Calls
 pub mod ConcernElements
 pub mod Extracting
 pub mod FitElements
+pub mod IgnoringCalls
 pub mod ImageElements
 pub mod KnownElements
 pub mod KnownCalls
@@ -16,6 +17,7 @@ pub mod LegacyElements
 pub mod NodeElements
 pub mod PieceBuilding
 pub mod TreeBuilding
+pub mod TreeElements
 pub mod TreeRegions
 pub mod ValueCalls
 pub mod VerdictElements

@@ -2,6 +2,7 @@
 //! `include/bootimg.h` declares the exports and documents them.
 #![tactic(auto)]
 
+mod all_nodes;
 mod answer;
 mod arguments;
 mod building;
@@ -14,6 +15,7 @@ mod extract;
 mod failure;
 mod fit;
 mod fit_building;
+mod ignoring;
 mod images;
 mod kind;
 mod known_calls;
@@ -27,6 +29,7 @@ mod paths;
 mod properties;
 mod region;
 mod regions;
+mod scan;
 mod show;
 mod texts;
 mod update;
@@ -34,6 +37,7 @@ mod values;
 mod verdicts;
 mod writing;
 
+pub use all_nodes::TreeElement;
 pub use answer::Answer;
 pub use concerns::ConcernElement;
 pub use fit::{FitFields, ReservationElement};
