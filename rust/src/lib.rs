@@ -40,8 +40,8 @@ pub use nodes::{Node, Property};
 pub use texts::{
     check, check_json, compare, compare_ignoring, compare_ignoring_json, compare_json, convert,
     describe, describe_json, listing, listing_json, normalise, same_meaning, scan, scan_json, show,
-    show_json, update, verify, verify_json, Changes, Comparison, Concerns, Form, NormalForm, Policy,
-    Report,
+    show_json, update, verify, verify_json, Changes, Comparison, Concerns, Form, NormalForm,
+    Policy, Report,
 };
 pub use values::{get, Value, ValueForm};
 

@@ -448,7 +448,13 @@ pub fn compare_ignoring_json(
     words: &[&str],
     limits: Limits,
 ) -> Result<Comparison, Error> {
-    compared_ignoring(sys::bootimg_compare_ignoring_json, one, other, words, limits)
+    compared_ignoring(
+        sys::bootimg_compare_ignoring_json,
+        one,
+        other,
+        words,
+        limits,
+    )
 }
 
 /// Returns whether two files mean the same thing.
