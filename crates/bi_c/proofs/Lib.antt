@@ -9,6 +9,8 @@ pub mod CallFacts
 pub mod ExtractedFiles
 pub mod FitElements
 pub mod FitFiles
+pub mod IgnoringCallFacts
+pub mod IgnoringFiles
 pub mod ImageElements
 pub mod ImageFiles
 pub mod LegacyCallFacts
@@ -24,6 +26,8 @@ pub mod ShownPages
 pub mod SliceWriting
 pub mod TreeBuilding
 pub mod TreeCallFacts
+pub mod TreeElementFacts
+pub mod TreeElements
 pub mod TreeRegions
 pub mod ValueCallAnswers
 pub mod ValueCallFacts

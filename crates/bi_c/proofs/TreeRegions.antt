@@ -150,13 +150,19 @@ nodes_bytes file (node name own children later) each =
 abbrev pub HasBytesBelow : List ℕ → Sibling FileNode → Type 0
 HasBytesBelow file found = AllByRecursion (HasPropertyBytes file) found.own.properties × HaveNodeBytes file found.children
 
--- The root of a blob has its bytes.
+-- All nodes of a blob have their bytes,
+pub all_node_bytes : (file : List ℕ) (cpu : ℕ) (reservations : List Reservation) (root : Root FileNode) →
+    IsBlob file cpu reservations root → HaveNodeBytes file (as_nodes root)
+all_node_bytes file cpu reservations root blob =
+    nodes_bytes file (as_nodes root)
+    (tokens_bytes file (tree_blocks file).begin blob.holds.tokens (file_events_of root)
+    (HoldsTree-stand (tree_blocks file) root blob.holds) blob.holds.encodes)
+
+-- and so has its root.
 pub root_bytes : (file : List ℕ) (cpu : ℕ) (reservations : List Reservation) (root : Root FileNode) →
     IsBlob file cpu reservations root → HasBytesBelow file (root_node root)
 root_bytes file cpu reservations root blob =
-    let all = nodes_bytes file (as_nodes root)
-    (tokens_bytes file (tree_blocks file).begin blob.holds.tokens (file_events_of root)
-    (HoldsTree-stand (tree_blocks file) root blob.holds) blob.holds.encodes) in
+    let all = all_node_bytes file cpu reservations root blob in
     (all.1, all.2)
 
 -- A node that is found by its name has its bytes.

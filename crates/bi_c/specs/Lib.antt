@@ -8,10 +8,12 @@ pub mod IgnoringCalls
 pub mod ImageElements
 pub mod KnownElements
 pub mod KnownCalls
+pub mod KnownIgnoringCalls
 pub mod KnownLegacyCalls
 pub mod KnownNumbers
 pub mod KnownPaths
 pub mod KnownTreeCalls
+pub mod KnownTreeElements
 pub mod KnownValueCalls
 pub mod LegacyElements
 pub mod NodeElements
