@@ -32,8 +32,9 @@
  *                           BOOTIMG_OK.
  *   BOOTIMG_WRONG_ARGUMENT  A number is out of the range of its argument.
  *   BOOTIMG_NOT_FOUND       What the call looks for is not there. `reason` is one of
- *                           BOOTIMG_WRONG_KIND to BOOTIMG_NO_CODE. `value` is the index of the
- *                           first name that no image has for BOOTIMG_MISSING, and otherwise 0.
+ *                           BOOTIMG_WRONG_KIND to BOOTIMG_BAD_WORD. `value` is the index of the
+ *                           first name that no image has for BOOTIMG_MISSING, that of the first
+ *                           word that names nothing for BOOTIMG_BAD_WORD, and otherwise 0.
  *
  * Numbers without meaning for the status or the call are 0. If the status is BOOTIMG_OK, the
  * output is at the beginning of the buffer, and the bytes after it are unchanged. After any other
@@ -135,6 +136,7 @@ enum bootimg_cause {
 #define BOOTIMG_NO_NUMBER 13u
 #define BOOTIMG_NO_NAME 14u
 #define BOOTIMG_NO_CODE 15u
+#define BOOTIMG_BAD_WORD 16u
 
 /* `field`: a field of the header of a legacy image that contains a code. */
 #define BOOTIMG_CODE_OS 0u
@@ -157,6 +159,10 @@ enum bootimg_cause {
 #define BOOTIMG_PLACE_DATA 1u
 #define BOOTIMG_PLACE_DATA_OFFSET 2u
 #define BOOTIMG_PLACE_DATA_POSITION 3u
+
+/* `kind` of an element of a tree: a node, or a property of the last node before it. */
+#define BOOTIMG_ELEMENT_NODE 1u
+#define BOOTIMG_ELEMENT_PROPERTY 2u
 
 /* `verdict` of a hash node: its value is the digest of the payload, or it is not; its algorithm is
  * not a known one; its image has no payload; or the node has no algorithm or no value. */
@@ -288,6 +294,16 @@ typedef struct bootimg_property {
     bootimg_region name;
     bootimg_region value;
 } bootimg_property;
+
+/* A node of a FIT, or a property of the last node before it. `kind` is BOOTIMG_ELEMENT_NODE or
+ * BOOTIMG_ELEMENT_PROPERTY. `depth` is the number of nodes that contain it: 0 for the root. The
+ * numbers of `value` are 0 for a node. */
+typedef struct bootimg_tree_element {
+    bootimg_region name;
+    bootimg_region value;
+    uint32_t depth;
+    uint32_t kind;
+} bootimg_tree_element;
 
 /* A hash node of an image of a FIT: the names of the image, the node and the algorithm, and the
  * value. The numbers of a region are 0 if it is not there. `verdict` is one of BOOTIMG_VERDICT_GOOD
@@ -496,6 +512,12 @@ uint32_t bootimg_property_value(const uint8_t *file, size_t file_size, const uin
                                 size_t path_size, const uint8_t *name, size_t name_size,
                                 uint32_t limit, uint32_t depth, bootimg_result *answer);
 
+/* Writes all nodes of a FIT, from the root on: every node, its properties, and then the nodes below
+ * it, in their order. The whole tree is read once. */
+uint32_t bootimg_nodes(const uint8_t *file, size_t file_size, uint32_t limit, uint32_t depth,
+                       bootimg_tree_element *elements, size_t elements_count,
+                       bootimg_result *answer);
+
 /* Writes a single value, as `bootimg get` prints it. `place` and `name` are the path of a node of a
  * FIT and the name of one of its properties, both as bootimg_describe prints them. For a field of a
  * legacy image `place` is its word, one of name, time, load, entry, os, arch, type and compression,
@@ -528,6 +550,14 @@ uint32_t bootimg_same_meaning(const uint8_t *one, size_t one_size, const uint8_t
 
 /* Writes the listing of a file, as `bootimg list` prints it. */
 uint32_t bootimg_list(const uint8_t *file, size_t file_size, uint32_t limit, uint32_t depth,
+                      uint8_t *buffer, size_t buffer_size, bootimg_result *answer);
+
+/* Writes a line for every boot image inside a file, as `bootimg scan` prints it: the offset, the
+ * kind, the size in bytes, and the name of a legacy image or the number of images of a FIT. An
+ * image may begin at any offset. Nothing is written if there is no image. The call fails with
+ * TooLarge if the file, or what the headers of its images claim together, is longer than `limit`,
+ * and for no other cause. */
+uint32_t bootimg_scan(const uint8_t *file, size_t file_size, uint32_t limit, uint32_t depth,
                       uint8_t *buffer, size_t buffer_size, bootimg_result *answer);
 
 /* Writes the description of what a file means. It does not depend on the layout of the file. The
@@ -565,10 +595,31 @@ uint32_t bootimg_compare(const uint8_t *one, size_t one_size, const uint8_t *oth
                          size_t other_size, uint32_t limit, uint32_t depth, uint8_t *buffer,
                          size_t buffer_size, bootimg_result *answer);
 
+/* Writes the differences between what two files mean, as bootimg_compare does, once something is
+ * left out of both. The words for it are regions of `input`, which may be anywhere in it: every
+ * region is one value of the option `--ignore` of `bootimg compare`. `value` is 1 if the files then
+ * mean the same thing, and otherwise 0. Nothing is left out of files of different kinds. If a
+ * region is not inside the input, the status is BOOTIMG_WRONG_ARGUMENT. If a word names nothing, it
+ * is BOOTIMG_NOT_FOUND, `reason` is BOOTIMG_BAD_WORD, and `value` is the index of the first such
+ * word. The call fails with TooLarge for the first file whose description, or payloads together,
+ * are longer than `limit`, even if the files mean the same thing. */
+uint32_t bootimg_compare_ignoring(const uint8_t *one, size_t one_size, const uint8_t *other,
+                                  size_t other_size, const uint8_t *input, size_t input_size,
+                                  const bootimg_region *words, size_t words_count, uint32_t limit,
+                                  uint32_t depth, uint8_t *buffer, size_t buffer_size,
+                                  bootimg_result *answer);
+
 /* The calls `.._json` write what the call without `_json` writes, as one JSON text (RFC 8259) in
  * ASCII and a newline. Arguments, `value` and errors are the same as for that call. There is always
- * an output, even if there are no concerns. */
+ * an output, even if there are no concerns. bootimg_show_json does not take `layout`, and writes
+ * nothing about the regions of the file. */
 uint32_t bootimg_list_json(const uint8_t *file, size_t file_size, uint32_t limit, uint32_t depth,
+                           uint8_t *buffer, size_t buffer_size, bootimg_result *answer);
+
+uint32_t bootimg_scan_json(const uint8_t *file, size_t file_size, uint32_t limit, uint32_t depth,
+                           uint8_t *buffer, size_t buffer_size, bootimg_result *answer);
+
+uint32_t bootimg_show_json(const uint8_t *file, size_t file_size, uint32_t limit, uint32_t depth,
                            uint8_t *buffer, size_t buffer_size, bootimg_result *answer);
 
 uint32_t bootimg_describe_json(const uint8_t *file, size_t file_size, uint32_t limit,
@@ -585,6 +636,12 @@ uint32_t bootimg_check_json(const uint8_t *file, size_t file_size, uint32_t kind
 uint32_t bootimg_compare_json(const uint8_t *one, size_t one_size, const uint8_t *other,
                               size_t other_size, uint32_t limit, uint32_t depth, uint8_t *buffer,
                               size_t buffer_size, bootimg_result *answer);
+
+uint32_t bootimg_compare_ignoring_json(const uint8_t *one, size_t one_size, const uint8_t *other,
+                                       size_t other_size, const uint8_t *input, size_t input_size,
+                                       const bootimg_region *words, size_t words_count,
+                                       uint32_t limit, uint32_t depth, uint8_t *buffer,
+                                       size_t buffer_size, bootimg_result *answer);
 
 /* Writes the FIT that a legacy image is converted to. The call fails with BadMagic at 0 for a file
  * that is not a legacy image, for example a FIT; with NoCodeName at the offset of the first code

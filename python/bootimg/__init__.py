@@ -35,6 +35,7 @@ import io
 import mmap
 import os
 import re
+import struct
 import sys
 from typing import Any, Iterable, Iterator, NamedTuple, TypeVar, overload
 
@@ -96,7 +97,10 @@ __all__ = [
     "notes",
     "open",
     "same_meaning",
+    "scan",
+    "scan_json",
     "show",
+    "show_json",
     "update",
     "update_and_count",
     "verify",
@@ -149,6 +153,7 @@ VALUE_FORMS = ("shown", "text", "number", "raw")
 
 _OK, _REFUSED, _OUT_OF_MEMORY, _NO_ROOM, _WRONG_ARGUMENT, _NOT_FOUND = range(6)
 _MISSING = 7
+_BAD_WORD = 16
 _SIGNED = 32768
 
 
@@ -158,6 +163,14 @@ class BootimgError(Exception):
 
 class _Unread(BootimgError):
     """A file cannot be read."""
+
+
+class _BadWord(BootimgError):
+    """A word for what is left out names nothing. `index` is its index, counted from 0."""
+
+    def __init__(self, index: int) -> None:
+        super().__init__(f"bad word {index}")
+        self.index = index
 
 
 class Refused(BootimgError):
@@ -291,8 +304,13 @@ class _ConcernElement(ctypes.Structure):
     ]
 
 
-class _PropertyElement(ctypes.Structure):
-    _fields_ = [("name", _Region), ("value", _Region)]
+class _TreeElement(ctypes.Structure):
+    _fields_ = [
+        ("name", _Region),
+        ("value", _Region),
+        ("depth", ctypes.c_uint32),
+        ("kind", ctypes.c_uint32),
+    ]
 
 
 _Element = TypeVar("_Element", bound=ctypes.Structure)
@@ -313,12 +331,13 @@ _CALLS = {
     "list_json": _FILE + _NUMBER * 2 + _BUFFER,
     "describe": _FILE + _NUMBER * 2 + _BUFFER,
     "describe_json": _FILE + _NUMBER * 2 + _BUFFER,
+    "scan": _FILE + _NUMBER * 2 + _BUFFER,
+    "scan_json": _FILE + _NUMBER * 2 + _BUFFER,
     "show": _FILE + _NUMBER * 3 + _BUFFER,
+    "show_json": _FILE + _NUMBER * 2 + _BUFFER,
     "verdicts": _FILE + _NUMBER * 2 + _BUFFER,
     "concerns": _FILE + _NUMBER * 3 + _BUFFER,
-    "children": _FILE * 2 + _NUMBER * 2 + _BUFFER,
-    "properties": _FILE * 2 + _NUMBER * 2 + _BUFFER,
-    "property_value": _FILE * 3 + _NUMBER * 2,
+    "nodes": _FILE + _NUMBER * 2 + _BUFFER,
     "get": _FILE * 3 + _NUMBER * 3 + _BUFFER,
     "verify": _FILE + _NUMBER * 2 + _BUFFER,
     "verify_json": _FILE + _NUMBER * 2 + _BUFFER,
@@ -328,6 +347,8 @@ _CALLS = {
     "same_meaning": _FILE * 2 + _NUMBER * 2,
     "compare": _FILE * 2 + _NUMBER * 2 + _BUFFER,
     "compare_json": _FILE * 2 + _NUMBER * 2 + _BUFFER,
+    "compare_ignoring": _FILE * 4 + _NUMBER * 2 + _BUFFER,
+    "compare_ignoring_json": _FILE * 4 + _NUMBER * 2 + _BUFFER,
     "build_fit": _FILE * 2 + _NUMBER + _FILE + _NUMBER * 3 + _BUFFER,
     "build_legacy": _FILE + [ctypes.c_void_p] + _FILE + _NUMBER * 2 + _BUFFER,
     "code_name": _NUMBER * 2 + _BUFFER,
@@ -373,6 +394,8 @@ def _raise(status: int, answer: _Answer) -> None:
         raise OutOfMemory("out of memory")
     if status == _WRONG_ARGUMENT:
         raise WrongArgument("wrong argument")
+    if status == _NOT_FOUND and answer.reason == _BAD_WORD:
+        raise _BadWord(answer.value)
     if status == _NOT_FOUND:
         index = answer.value if answer.reason == _MISSING else None
         raise NotFound(REASONS[answer.reason - 1], index)
@@ -457,11 +480,12 @@ def _fill(name: str, room: int, files: tuple[Buffer, ...], *numbers: Any) -> tup
     return ctypes.string_at(buffer, answer.size), answer.value
 
 
-def _elements(
-    name: str, element: type[_Element], files: tuple[Buffer, ...], *numbers: int
-) -> list[_Element]:
-    """Calls a function with an array of elements. Returns the elements."""
-    answer, room = _Answer(), 64
+def _array(
+    name: str, room: int, element: type[_Element], files: tuple[Buffer, ...], *numbers: int
+) -> tuple[ctypes.Array[_Element], int]:
+    """Calls a function with an array of `room` elements, or of as many as there are if that is
+    more. Returns the array, and the number of the elements."""
+    answer = _Answer()
     function = getattr(_library, "bootimg_" + name)
     with _arguments_for(files) as arguments:
         while True:
@@ -471,7 +495,23 @@ def _elements(
                 break
             room = answer.size
     _raise(status, answer)
-    return list(array[: answer.size])
+    return array, answer.size
+
+
+def _elements(
+    name: str, element: type[_Element], files: tuple[Buffer, ...], *numbers: int
+) -> list[_Element]:
+    """Calls a function with an array of elements. Returns the elements."""
+    array, size = _array(name, 64, element, files, *numbers)
+    return list(array[:size])
+
+
+def _tree_elements(file: Buffer, limit: int, depth: int) -> Iterator[tuple[int, ...]]:
+    """Returns the elements of the tree of a FIT. Each is the offset and the size of its name, those
+    of its value, its depth and its kind."""
+    array, size = _array("nodes", 1024, _TreeElement, (file,), limit, depth)
+    taken = ctypes.string_at(array, size * ctypes.sizeof(_TreeElement))
+    return struct.iter_unpack("NNNNII", taken)
 
 
 def version() -> str:
@@ -709,6 +749,32 @@ def show(
     return _text("show", (file,), int(layout), _number(limit), _number(depth))[0]
 
 
+def show_json(file: Buffer, limit: int = LIMIT, depth: int = DEPTH) -> str:
+    """Returns what `show` says, without regions of the file, as one JSON text in ASCII and a
+    newline. Its form stays. Raises Refused as `show` does."""
+    return _text("show_json", (file,), _number(limit), _number(depth))[0]
+
+
+def scan(file: Buffer, limit: int = LIMIT, depth: int = DEPTH) -> str:
+    """Returns a line for every boot image inside a file, in the order of their offsets: the offset,
+    the kind, the size in bytes, and the name of a legacy image or the number of images of a FIT.
+    The text is empty if there is no image. Raises Refused with TooLarge if the file, or what its
+    images claim together, is longer than `limit`.
+
+    >>> import bootimg
+    >>> small = bootimg.build_legacy([b"x"], "Linux", os="linux", arch="arm", type="kernel")
+    >>> print(bootimg.scan(bytes(100) + small), end="")
+    100 legacy 65 Linux
+    """
+    return _text("scan", (file,), _number(limit), _number(depth))[0]
+
+
+def scan_json(file: Buffer, limit: int = LIMIT, depth: int = DEPTH) -> str:
+    """Returns what `scan` says as one JSON text in ASCII and a newline, even if there is no
+    image."""
+    return _text("scan_json", (file,), _number(limit), _number(depth))[0]
+
+
 def verify(file: Buffer, limit: int = LIMIT, depth: int = DEPTH) -> Report:
     """Returns the report on the checksums and digests of a file."""
     text, value = _text("verify", (file,), _number(limit), _number(depth))
@@ -925,22 +991,68 @@ def same_meaning(one: Buffer, other: Buffer, limit: int = LIMIT, depth: int = DE
 
 
 def compare(
-    one: Buffer, other: Buffer, limit: int = LIMIT, depth: int = DEPTH
+    one: Buffer,
+    other: Buffer,
+    limit: int = LIMIT,
+    depth: int = DEPTH,
+    *,
+    ignore: Iterable[bytes | str] = (),
 ) -> Comparison:
     """Returns whether two files mean the same thing, and the differences between what they mean.
     There are none if they mean the same thing. If they do not, raises Refused with TooLarge for the
-    first file whose description, or payloads together, are longer than `limit`."""
-    text, value = _text("compare", (one, other), _number(limit), _number(depth))
-    return Comparison(value == 1, text)
+    first file whose description, or payloads together, are longer than `limit`.
+
+    Without what `ignore` names, if it is given: words as the option `--ignore` of the program takes
+    them, such as "time", "signatures", the path of a node, or a path, a space and the name of a
+    property. Nothing is left out of files of different kinds. Then a file that is too long to
+    describe is always refused. Raises WrongArgument for a word that names nothing.
+
+    >>> import bootimg
+    >>> linux = {"os": "linux", "arch": "arm", "type": "kernel"}
+    >>> one, other = (bootimg.build_legacy([b"x"], time=time, **linux) for time in (1, 2))
+    >>> bootimg.compare(one, other).same, bootimg.compare(one, other, ignore=["time"]).same
+    (False, True)
+    """
+    return _compared("", one, other, limit, depth, ignore)
 
 
 def compare_json(
-    one: Buffer, other: Buffer, limit: int = LIMIT, depth: int = DEPTH
+    one: Buffer,
+    other: Buffer,
+    limit: int = LIMIT,
+    depth: int = DEPTH,
+    *,
+    ignore: Iterable[bytes | str] = (),
 ) -> Comparison:
     """Returns what `compare` says, with the differences as one JSON text in ASCII and a newline,
     even if there are none."""
-    text, value = _text("compare_json", (one, other), _number(limit), _number(depth))
-    return Comparison(value == 1, text)
+    return _compared("_json", one, other, limit, depth, ignore)
+
+
+def _compared(
+    ending: str,
+    one: Buffer,
+    other: Buffer,
+    limit: int,
+    depth: int,
+    ignore: Iterable[bytes | str],
+) -> Comparison:
+    words = tuple(ignore)
+    numbers = (_number(limit), _number(depth))
+    if not words:
+        text, value = _text("compare" + ending, (one, other), *numbers)
+        return Comparison(value == 1, text)
+    pieces, regions, offset = [*map(_name_of, words)], [], 0
+    for piece in pieces:
+        regions.append(_Region(offset, len(piece)))
+        offset += len(piece)
+    array = (_Region * len(regions))(*regions)
+    files = (one, other, b"".join(pieces))
+    try:
+        filled = _fill("compare_ignoring" + ending, 16384, files, array, len(array), *numbers)
+    except _BadWord as bad:
+        raise WrongArgument(f"wrong argument: {words[bad.index]!r}") from None
+    return Comparison(filled[1] == 1, filled[0].decode("ascii"))
 
 
 # These use what is above.
@@ -993,6 +1105,7 @@ def _parser() -> argparse.ArgumentParser:
         ("update", "write the normal form with a time or with digests"),
         ("extract", "write a part or a payload"),
         ("list", "write the listing"),
+        ("scan", "write a line for each boot image inside a file"),
         ("describe", "write what the image means"),
         ("show", "write the page of the image, for a person"),
         ("compare", "write what differs between two images"),
@@ -1017,14 +1130,17 @@ def _parser() -> argparse.ArgumentParser:
             command.add_argument("--key", choices=KEYS, default=KEYS[0])
             command.add_argument("--index", type=_whole_number, default=0, metavar="N")
         if name == "show":
-            command.add_argument("--layout", action="store_true")
-        if name in ("list", "describe", "verify", "check", "compare"):
+            form = command.add_mutually_exclusive_group()
+            form.add_argument("--layout", action="store_true")
+            form.add_argument("--json", action="store_true")
+        if name in ("list", "scan", "describe", "verify", "check", "compare"):
             command.add_argument("--json", action="store_true")
         if name == "check":
             command.add_argument("--allow", type=_kinds, default=[], metavar="KINDS")
             command.add_argument("--signed", action="store_true")
         if name == "compare":
             command.add_argument("--quiet", action="store_true")
+            command.add_argument("--ignore", action="append", default=[], metavar="WORD")
             command.add_argument("files", nargs=2, metavar="IMAGE")
         else:
             command.add_argument("files", nargs="?", default="-", metavar="IMAGE")
@@ -1092,10 +1208,12 @@ def _run(options: argparse.Namespace, files: list[bytes]) -> tuple[bytes, int]:
     if options.command == "extract":
         return bytes(_extracted(options, files[0])), 0
     if options.command == "compare":
-        if options.quiet:
+        if options.quiet and not options.ignore:
             return b"", int(not same_meaning(files[0], files[1], limit))
-        compared = (compare_json if options.json else compare)(files[0], files[1], limit)
-        return compared.differences.encode("ascii"), int(not compared.same)
+        call = compare_json if options.json else compare
+        compared = call(files[0], files[1], limit, ignore=map(os.fsencode, options.ignore))
+        text = "" if options.quiet else compared.differences
+        return text.encode("ascii"), int(not compared.same)
     if options.command == "convert":
         return convert(files[0], limit), 0
     text, status = _printed(options, files[0])
@@ -1112,8 +1230,11 @@ def _printed(options: argparse.Namespace, file: bytes) -> tuple[str, int]:
         call, none = (check_json, '{"concerns":[]}\n') if options.json else (check, "")
         concerns = call(file, options.allow, limit, signed=options.signed)
         return concerns, int(concerns != none)
+    if options.command == "scan":
+        text = (scan_json if options.json else scan)(file, limit)
+        return text, int(text in ("", '{"images":[]}\n'))
     if options.command == "show":
-        return show(file, options.layout, limit), 0
+        return show_json(file, limit) if options.json else show(file, options.layout, limit), 0
     if options.command == "list":
         return (listing_json if options.json else listing)(file, limit), 0
     return (describe_json if options.json else describe)(file, limit), 0

@@ -16,12 +16,15 @@ import os
 import urllib.parse
 import weakref
 from dataclasses import dataclass, field, fields
-from typing import Any, Iterable
+from typing import Any, Container, Iterable
 
 import bootimg
 
 # The properties that place the payload of an image.
 _PLACING = ("data", "data-size", "data-offset", "data-position")
+
+# The kind of an element of a tree that is a property.
+_PROPERTY = 2
 
 
 class Value(bytes):
@@ -137,8 +140,7 @@ class Hash:
 class Node:
     """A node of the tree of a FIT: its name, which is empty for the root, and its path.
 
-    `properties` and `children` are read at their first use, by a call that reads the whole file
-    again. `bootimg.describe_json` returns a whole tree by one call.
+    The first use of `properties` or `children` of any node reads the whole tree, once.
 
     >>> import bootimg
     >>> root = bootimg.open("examples/board.itb").root
@@ -175,6 +177,16 @@ class Node:
         raise KeyError(name)
 
 
+@dataclass(slots=True)
+class _TreeNode:
+    """What a tree has at a path: where the values of the properties are in the file, by their
+    names, and the names of the children."""
+
+    name: str
+    values: dict[str, slice] = field(default_factory=dict)
+    children: list[str] = field(default_factory=list)
+
+
 @dataclass(frozen=True, slots=True, eq=False)
 class FitImage:
     """An image of a FIT.
@@ -194,9 +206,8 @@ class FitImage:
     @property
     def properties(self) -> dict[str, Value]:
         """The values of the properties of the image by their names, but for those that place the
-        payload. They are read at each use."""
-        found = self._file.properties("/images/" + self.name)
-        return {name: value for name, value in found.items() if name not in _PLACING}
+        payload."""
+        return self._file._values_at("/images/" + self.name, without=_PLACING)
 
     @property
     def hashes(self) -> tuple[Hash, ...]:
@@ -375,36 +386,69 @@ class Image:
         self._require_fit()
         return Node("", "/", self)
 
+    def nodes(self) -> tuple[Node, ...]:
+        """Returns all nodes of a FIT, the root first and each node before those below it. Raises
+        NotFound for a legacy image."""
+        found = self._tree.items()
+        return tuple(Node(node.name, _decoded(path), self) for path, node in found)
+
     def properties(self, path: bytes | str) -> dict[str, Value]:
         """Returns the values of all properties of the node of a FIT at a path, such as
         "/images/kernel-1", by their names. The path of the root is "/". Raises NotFound with "no
         such node" if there is none, and with the first of REASONS for a legacy image."""
-        elements = self._elements_at("properties", bootimg._PropertyElement, path)
-        return {_decoded(self._bytes(one.name)): Value(self._view(one.value)) for one in elements}
+        return self._values_at(path)
 
     def property_value(self, path: bytes | str, name: bytes | str) -> memoryview:
         """Returns the value of one property of the node of a FIT at a path, as a view of the file,
         which is not copied; `Value` makes a value of it. Raises NotFound as `properties` does, or
         with "no such property"."""
-        self._require_fit()
-        names = (bootimg._name_of(path), bootimg._name_of(name))
-        value = bootimg._region("property_value", (self.file, *names), *self._bounds)
+        place = self._node_at(path).values.get(_decoded(bootimg._name_of(name)))
+        if place is None:
+            raise bootimg.NotFound("no such property", None)
+        value = self.file[place]
         self._values[id(value)] = value
         return value
 
     def children(self, path: bytes | str) -> tuple[str, ...]:
         """Returns the names of the children of the node of a FIT at a path, in their order. Raises
         NotFound as `properties` does."""
-        names = self._elements_at("children", bootimg._Region, path)
-        return tuple(_decoded(self._bytes(name)) for name in names)
+        return tuple(self._node_at(path).children)
 
-    def _elements_at(
-        self, call: str, element: type[bootimg._Element], path: bytes | str
-    ) -> list[bootimg._Element]:
-        """Makes a call on the node of a FIT at a path, and returns its elements."""
+    def _values_at(self, path: bytes | str, without: Container[str] = ()) -> dict[str, Value]:
+        """The values of the node at a path by their names, but for these names."""
+        places = self._node_at(path).values
+        file = self.file
+        return {name: Value(file[place]) for name, place in places.items() if name not in without}
+
+    def _node_at(self, path: bytes | str) -> _TreeNode:
+        found = self._tree.get(bootimg._name_of(path))
+        if found is None:
+            raise bootimg.NotFound("no such node", None)
+        return found
+
+    @functools.cached_property
+    def _tree(self) -> dict[bytes, _TreeNode]:
+        """All nodes of a FIT by their paths, the root first and each node before those below it.
+        One call reads them all."""
         self._require_fit()
-        files = (self.file, bootimg._name_of(path))
-        return bootimg._elements(call, element, files, *self._bounds)
+        tree: dict[bytes, _TreeNode] = {}
+        # The nodes on the way to an element, and their paths, that of the root without its slash.
+        way: list[tuple[_TreeNode, bytes]] = []
+        elements = bootimg._tree_elements(self.file, *self._bounds)
+        for offset, size, begin, length, depth, kind in elements:
+            name = self.file[offset : offset + size].tobytes()
+            if kind == _PROPERTY:
+                way[-1][0].values[_decoded(name)] = slice(begin, begin + length)
+                continue
+            del way[depth:]
+            node, path = _TreeNode(_decoded(name)), b""
+            if way:
+                above, path_above = way[-1]
+                above.children.append(node.name)
+                path = path_above + b"/" + name
+            way.append((node, path))
+            tree[path or b"/"] = node
+        return tree
 
     def _require_fit(self) -> None:
         if self.kind != "fit":
@@ -537,11 +581,17 @@ class Image:
         """Returns the page of the file, for a person, as `bootimg.show` does."""
         return bootimg.show(self.file, layout, *self._bounds)
 
-    def compare(self, other: Image | bootimg.Buffer) -> bootimg.Comparison:
-        """Returns what differs between what two files mean, as `bootimg.compare` does. The limits
-        of this image apply."""
+    def show_json(self) -> str:
+        """Returns what the page of the file says in JSON, as `bootimg.show_json` does."""
+        return bootimg.show_json(self.file, *self._bounds)
+
+    def compare(
+        self, other: Image | bootimg.Buffer, *, ignore: Iterable[bytes | str] = ()
+    ) -> bootimg.Comparison:
+        """Returns what differs between what two files mean, without what `ignore` names, as
+        `bootimg.compare` does. The limits of this image apply."""
         file = other.file if isinstance(other, Image) else other
-        return bootimg.compare(self.file, file, *self._bounds)
+        return bootimg.compare(self.file, file, *self._bounds, ignore=ignore)
 
     def __repr__(self) -> str:
         return f"<{self.kind} image of {self._size} bytes>"

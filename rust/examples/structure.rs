@@ -7,7 +7,7 @@ use bootimg::{
 };
 
 /// The calls that refuse a file that is not a FIT.
-const FIT_CALLS: [&str; 7] = [
+const FIT_CALLS: [&str; 8] = [
     "fit",
     "reservations",
     "images",
@@ -15,6 +15,7 @@ const FIT_CALLS: [&str; 7] = [
     "verdicts",
     "properties",
     "children",
+    "nodes",
 ];
 
 fn main() -> Result<(), Box<dyn std::error::Error>> {
@@ -30,6 +31,7 @@ fn main() -> Result<(), Box<dyn std::error::Error>> {
                 print_fit(&fit);
                 print_verdicts(&fit)?;
                 print_node(&fit, b"/")?;
+                print_nodes(&fit)?;
             }
             Err(error) => print_error(&FIT_CALLS, error),
         }
@@ -226,6 +228,18 @@ fn print_node(fit: &Fit, path: &[u8]) -> Result<(), Error> {
         print_node(fit, &[above, b"/", name].concat())?;
     }
     assert_eq!(fit.children([path, b"/"].concat()), Err(Error::NoNode));
+    Ok(())
+}
+
+/// Prints all nodes with their properties.
+fn print_nodes(fit: &Fit) -> Result<(), Error> {
+    for node in fit.nodes()? {
+        println!("element 1 {} {} none", node.depth, digits(node.name));
+        for one in node.properties {
+            let (name, value) = (digits(one.name), digits(one.value));
+            println!("element 2 {} {name} {value}", node.depth + 1);
+        }
+    }
     Ok(())
 }
 

@@ -164,7 +164,7 @@ fn element_of(image: &BuildImage<'_>, input: &mut Vec<u8>) -> sys::BuildImage {
 }
 
 /// Adds a piece to the input, and returns where it is.
-fn add_piece(input: &mut Vec<u8>, piece: &[u8]) -> sys::Region {
+pub(crate) fn add_piece(input: &mut Vec<u8>, piece: &[u8]) -> sys::Region {
     let region = sys::Region {
         offset: input.len(),
         size: piece.len(),

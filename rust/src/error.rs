@@ -144,6 +144,9 @@ pub enum Error {
     NoText,
     /// The value is not a number.
     NoNumber,
+    /// The word at this index, counted from 0, names nothing that can be left out. It is the first
+    /// such word.
+    BadWord(usize),
     /// A status of a later version of the library.
     Unknown,
 }
@@ -163,6 +166,7 @@ impl fmt::Display for Error {
             Error::WrongKind => formatter.write_str("another kind of image"),
             Error::NoText => formatter.write_str("no text"),
             Error::NoNumber => formatter.write_str("no number"),
+            Error::BadWord(index) => write!(formatter, "bad word {index}"),
             Error::Unknown => formatter.write_str("unknown status"),
         }
     }
@@ -195,6 +199,7 @@ pub(crate) fn failure(status: u32, answer: &sys::Answer) -> Error {
         (_, 11) => Error::NoProperty,
         (_, 12) => Error::NoText,
         (_, 13) => Error::NoNumber,
+        (_, 16) => Error::BadWord(answer.value),
         _ => Error::Unknown,
     }
 }

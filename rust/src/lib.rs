@@ -39,12 +39,13 @@ pub use error::{Cause, Error, Refusal};
 pub use fit::{Configuration, Fit, FitImage, Place, Reservation};
 pub use hashes::{Hash, Verdict};
 pub use legacy::{Header, Legacy};
-pub use nodes::Property;
+pub use nodes::{Node, Property};
 pub use notes::{notes, Notes};
 pub use texts::{
-    check, check_json, compare, compare_json, convert, describe, describe_json, listing,
-    listing_json, normalise, same_meaning, show, update, verify, verify_json, Changes, Comparison,
-    Concerns, Form, NormalForm, Policy, Report,
+    check, check_json, compare, compare_ignoring, compare_ignoring_json, compare_json, convert,
+    describe, describe_json, listing, listing_json, normalise, same_meaning, scan, scan_json, show,
+    show_json, update, verify, verify_json, Changes, Comparison, Concerns, Form, NormalForm,
+    Policy, Report,
 };
 pub use values::{get, Value, ValueForm};
 

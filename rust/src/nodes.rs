@@ -1,6 +1,6 @@
 //! The nodes of a FIT.
 
-use crate::calls::{answer_of, bytes_of, fill_of_two};
+use crate::calls::{answer_of, bytes_of, fill_of, fill_of_two};
 use crate::{sys, Error, Fit};
 
 /// A property of a node of a FIT.
@@ -13,9 +13,21 @@ pub struct Property<'a> {
     pub value: &'a [u8],
 }
 
+/// A node of a FIT.
+#[derive(Clone, Debug, PartialEq, Eq)]
+#[non_exhaustive]
+pub struct Node<'a> {
+    /// The name, which is empty for the root.
+    pub name: &'a [u8],
+    /// The number of nodes that contain the node: 0 for the root.
+    pub depth: usize,
+    /// The properties, in their order.
+    pub properties: Vec<Property<'a>>,
+}
+
 /// The path of a node is `/` for the root, and else a `/` before the name of each node from a child
 /// of the root down to it, for example `/images/kernel-1`. Paths and names are bytes or text. Each
-/// call reads the file again.
+/// call reads the file again; `nodes` reads all nodes by one.
 ///
 /// ```
 /// # let file = std::fs::read(concat!(env!("CARGO_MANIFEST_DIR"), "/../examples/board.itb"))?;
@@ -24,6 +36,31 @@ pub struct Property<'a> {
 /// # Ok::<(), Box<dyn std::error::Error>>(())
 /// ```
 impl<'a> Fit<'a> {
+    /// Returns all nodes, the root first and each node before those below it, in their order. The
+    /// whole tree is read once.
+    ///
+    /// # Errors
+    ///
+    /// `OutOfMemory`.
+    pub fn nodes(&self) -> Result<Vec<Node<'a>>, Error> {
+        let (elements, _) = fill_of(sys::bootimg_nodes, 1024, self.file, self.limits)?;
+        let mut nodes: Vec<Node<'a>> = Vec::new();
+        for element in &elements {
+            let name = bytes_of(self.file, element.name);
+            if element.kind != sys::ELEMENT_PROPERTY {
+                nodes.push(Node {
+                    name,
+                    depth: element.depth as usize,
+                    properties: Vec::new(),
+                });
+            } else if let Some(node) = nodes.last_mut() {
+                let value = bytes_of(self.file, element.value);
+                node.properties.push(Property { name, value });
+            }
+        }
+        Ok(nodes)
+    }
+
     /// Returns the names of the children of the node at a path, in their order.
     ///
     /// # Errors

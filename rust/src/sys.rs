@@ -103,6 +103,16 @@ pub struct Property {
     pub value: Region,
 }
 
+/// A node of a FIT, or a property of the last node before it.
+#[repr(C)]
+#[derive(Clone, Copy, Debug, Default)]
+pub struct TreeElement {
+    pub name: Region,
+    pub value: Region,
+    pub depth: u32,
+    pub kind: u32,
+}
+
 /// An image of a FIT to be built.
 #[repr(C)]
 #[derive(Clone, Copy, Debug, Default)]
@@ -123,6 +133,8 @@ pub const REFUSED: u32 = 1;
 pub const OUT_OF_MEMORY: u32 = 2;
 pub const NO_ROOM: u32 = 3;
 pub const WRONG_ARGUMENT: u32 = 4;
+
+pub const ELEMENT_PROPERTY: u32 = 2;
 
 pub const CONCERN_BAD_HASH: u32 = 1;
 pub const CONCERN_UNHASHED: u32 = 2;
@@ -150,6 +162,23 @@ pub type OnFileWithNumber<T> =
 /// A call on two files, or on a file and a path, that has an array.
 pub type OnTwo<T> =
     unsafe extern "C" fn(Bytes, usize, Bytes, usize, u32, u32, *mut T, usize, *mut Answer) -> u32;
+
+/// A call on two files, with regions of an input, that has an array.
+pub type OnTwoWithRegions<T> = unsafe extern "C" fn(
+    Bytes,
+    usize,
+    Bytes,
+    usize,
+    Bytes,
+    usize,
+    *const Region,
+    usize,
+    u32,
+    u32,
+    *mut T,
+    usize,
+    *mut Answer,
+) -> u32;
 
 /// A call on one file that sets a struct.
 pub type Setting<T> = unsafe extern "C" fn(Bytes, usize, u32, u32, *mut T, *mut Answer) -> u32;
@@ -180,19 +209,29 @@ declare! {
     bootimg_children(Bytes, usize, Bytes, usize, u32, u32, *mut Region, usize);
     bootimg_properties(Bytes, usize, Bytes, usize, u32, u32, *mut Property, usize);
     bootimg_property_value(Bytes, usize, Bytes, usize, Bytes, usize, u32, u32);
+    bootimg_nodes(Bytes, usize, u32, u32, *mut TreeElement, usize);
     bootimg_get(Bytes, usize, Bytes, usize, Bytes, usize, u32, u32, u32, *mut u8, usize);
     bootimg_same_meaning(Bytes, usize, Bytes, usize, u32, u32);
     bootimg_list(Bytes, usize, u32, u32, *mut u8, usize);
+    bootimg_scan(Bytes, usize, u32, u32, *mut u8, usize);
     bootimg_describe(Bytes, usize, u32, u32, *mut u8, usize);
     bootimg_show(Bytes, usize, u32, u32, u32, *mut u8, usize);
     bootimg_verify(Bytes, usize, u32, u32, *mut u8, usize);
     bootimg_check(Bytes, usize, u32, u32, u32, *mut u8, usize);
     bootimg_compare(Bytes, usize, Bytes, usize, u32, u32, *mut u8, usize);
+    bootimg_compare_ignoring(
+        Bytes, usize, Bytes, usize, Bytes, usize, *const Region, usize, u32, u32, *mut u8, usize
+    );
     bootimg_list_json(Bytes, usize, u32, u32, *mut u8, usize);
+    bootimg_scan_json(Bytes, usize, u32, u32, *mut u8, usize);
+    bootimg_show_json(Bytes, usize, u32, u32, *mut u8, usize);
     bootimg_describe_json(Bytes, usize, u32, u32, *mut u8, usize);
     bootimg_verify_json(Bytes, usize, u32, u32, *mut u8, usize);
     bootimg_check_json(Bytes, usize, u32, u32, u32, *mut u8, usize);
     bootimg_compare_json(Bytes, usize, Bytes, usize, u32, u32, *mut u8, usize);
+    bootimg_compare_ignoring_json(
+        Bytes, usize, Bytes, usize, Bytes, usize, *const Region, usize, u32, u32, *mut u8, usize
+    );
     bootimg_convert(Bytes, usize, u32, u32, *mut u8, usize);
     bootimg_build_legacy(
         Bytes, usize, *const LegacyFields, *const Region, usize, u32, u32, *mut u8, usize

@@ -1,5 +1,6 @@
 //! Texts about files, and files that are made of files.
 
+use crate::building::add_piece;
 use crate::calls::{answer_of, fill, fill_of, fill_of_two, fill_with_number, text_of};
 use crate::{sys, Error, Limits};
 
@@ -236,6 +237,35 @@ pub fn listing_json(file: &[u8], limits: Limits) -> Result<String, Error> {
     Ok(text_about(sys::bootimg_list_json, file, limits)?.0)
 }
 
+/// Returns a line for each boot image inside a file, in the order of their offsets: the offset, the
+/// kind, the size in bytes, and the name of a legacy image or the number of images of a FIT. The
+/// text is empty if there is no image.
+///
+/// # Errors
+///
+/// TooLarge if the file, or what the headers of its images claim together, is longer than the
+/// limit. `OutOfMemory`.
+///
+/// ```
+/// # use bootimg::{scan, Limits};
+/// # let image = std::fs::read(concat!(env!("CARGO_MANIFEST_DIR"), "/../examples/board.itb"))?;
+/// let dump = [&[0xff; 100], &image[..]].concat();
+/// assert_eq!(scan(&dump, Limits::default())?, "100 fit 2628 3\n");
+/// # Ok::<(), Box<dyn std::error::Error>>(())
+/// ```
+pub fn scan(file: &[u8], limits: Limits) -> Result<String, Error> {
+    Ok(text_about(sys::bootimg_scan, file, limits)?.0)
+}
+
+/// Returns what `scan` says as one JSON text and a newline, even if there is no image.
+///
+/// # Errors
+///
+/// Those of `scan`.
+pub fn scan_json(file: &[u8], limits: Limits) -> Result<String, Error> {
+    Ok(text_about(sys::bootimg_scan_json, file, limits)?.0)
+}
+
 /// Returns the description of what a file means. It does not depend on the layout of the file.
 ///
 /// # Errors
@@ -318,6 +348,15 @@ pub fn show(file: &[u8], layout: bool, limits: Limits) -> Result<String, Error> 
     text_with_number(sys::bootimg_show, file, u32::from(layout), limits)
 }
 
+/// Returns what `show` says, without regions of the file, as one JSON text and a newline.
+///
+/// # Errors
+///
+/// Those of `check`.
+pub fn show_json(file: &[u8], limits: Limits) -> Result<String, Error> {
+    Ok(text_about(sys::bootimg_show_json, file, limits)?.0)
+}
+
 /// Makes a call that compares two files.
 fn compared(
     call: sys::OnTwo<u8>,
@@ -350,6 +389,93 @@ pub fn compare(one: &[u8], other: &[u8], limits: Limits) -> Result<Comparison, E
 /// Those of `compare`.
 pub fn compare_json(one: &[u8], other: &[u8], limits: Limits) -> Result<Comparison, Error> {
     compared(sys::bootimg_compare_json, one, other, limits)
+}
+
+/// Makes a call that compares two files without what words name.
+fn compared_ignoring(
+    call: sys::OnTwoWithRegions<u8>,
+    one: &[u8],
+    other: &[u8],
+    words: &[&str],
+    limits: Limits,
+) -> Result<Comparison, Error> {
+    let mut input = Vec::new();
+    let regions: Vec<_> = words
+        .iter()
+        .map(|word| add_piece(&mut input, word.as_bytes()))
+        .collect();
+    let (text, value) = fill(16384, |buffer: *mut u8, room, answer| {
+        // Safety: the files, the input and the regions are as long as their lengths, and `fill`
+        // passes a buffer and its length.
+        unsafe {
+            call(
+                one.as_ptr(),
+                one.len(),
+                other.as_ptr(),
+                other.len(),
+                input.as_ptr(),
+                input.len(),
+                regions.as_ptr(),
+                regions.len(),
+                limits.limit,
+                limits.depth,
+                buffer,
+                room,
+                answer,
+            )
+        }
+    })?;
+    Ok(Comparison {
+        differences: text_of(text),
+        same: value == 1,
+    })
+}
+
+/// Returns the differences between what two files mean without what words name, as `compare` does.
+/// The words are those that the option `--ignore` of the program takes: `time`, `signatures`, the
+/// path of a node, or a path, a space and the name of a property. Nothing is left out of files of
+/// different kinds.
+///
+/// # Errors
+///
+/// `BadWord` for a word that names nothing. Those of reading the files; and TooLarge for the first
+/// file whose description, or payloads together, are longer than the limit, even if the files mean
+/// the same thing.
+///
+/// ```
+/// # use bootimg::{compare_ignoring, Limits};
+/// # let image = std::fs::read(concat!(env!("CARGO_MANIFEST_DIR"), "/../examples/board.itb"))?;
+/// let compared = compare_ignoring(&image, &image, &["time", "/images/fdt-1"], Limits::default())?;
+/// assert!(compared.same);
+/// # Ok::<(), Box<dyn std::error::Error>>(())
+/// ```
+pub fn compare_ignoring(
+    one: &[u8],
+    other: &[u8],
+    words: &[&str],
+    limits: Limits,
+) -> Result<Comparison, Error> {
+    compared_ignoring(sys::bootimg_compare_ignoring, one, other, words, limits)
+}
+
+/// Returns what `compare_ignoring` says, with the differences as one JSON text and a newline.
+///
+/// # Errors
+///
+/// Those of `compare_ignoring`.
+pub fn compare_ignoring_json(
+    one: &[u8],
+    other: &[u8],
+    words: &[&str],
+    limits: Limits,
+) -> Result<Comparison, Error> {
+    compared_ignoring(
+        sys::bootimg_compare_ignoring_json,
+        one,
+        other,
+        words,
+        limits,
+    )
 }
 
 /// Returns whether two files mean the same thing.

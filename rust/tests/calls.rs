@@ -1,11 +1,11 @@
 //! Calls on the images in `examples/`.
 
 use bootimg::{
-    build_fit, build_legacy, check, check_json, compare, compare_json, concerns, convert, describe,
-    describe_json, get, kind, listing, listing_json, normalise, notes, same_meaning, show, update,
-    verify, verify_json, version, BuildImage, Cause, Changes, CodeField, Concern, Concerns, Error,
-    Fit, Form, Header, Key, Kind, Legacy, Limits, Notes, Place, Policy, Refusal, Value, ValueForm,
-    Verdict,
+    build_fit, build_legacy, check, check_json, compare, compare_ignoring, compare_ignoring_json,
+    compare_json, concerns, convert, describe, describe_json, get, kind, listing, listing_json,
+    normalise, notes, same_meaning, scan, scan_json, show, show_json, update, verify, verify_json,
+    version, BuildImage, Cause, Changes, CodeField, Concern, Concerns, Error, Fit, Form, Header,
+    Key, Kind, Legacy, Limits, Notes, Place, Policy, Refusal, Value, ValueForm, Verdict,
 };
 
 const ALL: Limits = Limits {
@@ -268,6 +268,70 @@ fn texts() {
     assert_eq!(
         check_json(&board, allowed, ALL).unwrap(),
         "{\"concerns\":[]}\n"
+    );
+}
+
+#[test]
+fn scans_and_pages_in_json() {
+    let (board, kernel) = (example("board.itb"), example("kernel.uimage"));
+    let dump = [&kernel[..], &board[..], b"x"].concat();
+    let found = scan(&dump, ALL).unwrap();
+    assert!(found.starts_with("0 legacy 3974 ") && found.ends_with("\n3974 fit 2628 3\n"));
+    assert!(scan_json(&dump, ALL)
+        .unwrap()
+        .ends_with(",{\"offset\":3974,\"kind\":\"fit\",\"size\":2628,\"images\":3}]}\n"));
+    assert_eq!(scan(b"", ALL).unwrap(), "");
+    let limits = Limits { limit: 64, ..ALL };
+    assert_eq!(scan(&board, limits), Err(refusal(Cause::TooLarge, 64, 1)));
+    assert!(show_json(&board, ALL)
+        .unwrap()
+        .starts_with("{\"kind\":\"fit\",\"description\":\"example board\","));
+}
+
+#[test]
+fn all_nodes() {
+    let file = example("board.itb");
+    let fit = Fit::read(&file, ALL).unwrap();
+    let nodes = fit.nodes().unwrap();
+    let names: Vec<_> = nodes.iter().map(|node| (node.depth, node.name)).collect();
+    assert_eq!(
+        names[..4],
+        [
+            (0, &b""[..]),
+            (1, b"images"),
+            (2, b"kernel-1"),
+            (3, b"hash-1")
+        ]
+    );
+    assert_eq!(
+        nodes[2].properties,
+        fit.properties("/images/kernel-1").unwrap()
+    );
+}
+
+#[test]
+fn ignored_differences() {
+    let board = example("board.itb");
+    let changes = Changes {
+        time: Some(7),
+        hashes: false,
+    };
+    let later = update(&board, changes, Form::Embedded, ALL).unwrap().image;
+    let time = compare_ignoring(&board, &later, &["time"], ALL).unwrap();
+    assert!(time.same && time.differences.is_empty());
+    let other = compare_ignoring(&board, &later, &["/images", "signatures"], ALL).unwrap();
+    assert_eq!(other, compare(&board, &later, ALL).unwrap());
+    let json = compare_ignoring_json(&board, &later, &["/ timestamp"], ALL).unwrap();
+    assert_eq!(json.differences, "{\"same\":true,\"differences\":[]}\n");
+    for wrong in ["", "nothing", "/images//"] {
+        assert_eq!(
+            compare_ignoring(&board, &later, &["time", wrong], ALL),
+            Err(Error::BadWord(1))
+        );
+    }
+    assert_eq!(
+        compare_ignoring(&board, b"", &["time"], ALL),
+        Err(refusal(Cause::Truncated, 0, 2))
     );
 }
 

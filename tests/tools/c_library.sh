@@ -161,7 +161,8 @@ for compiler in gcc clang; do
     passes python3 "$root/tests/tools/c_library/structure.py" libbootimg.so structure $(cat images)
     for image in "$examples"/*.itb "$examples"/*.uimage "$examples"/boot.scr "$examples"/board.its; do
         for command in normalise "normalise --external" "normalise --external --align 64" list describe verify check convert "list --limit 100" \
-            show "show --layout" "show --layout --limit 1000" "list --json" "describe --json" "verify --json" "check --json" "describe --json --limit 1000" \
+            show "show --layout" "show --layout --limit 1000" "show --json" scan "scan --json" "scan --limit 100" "list --json" \
+            "describe --json" "verify --json" "check --json" "describe --json --limit 1000" \
             "update --time 5" "update --time 0x65000000 --hashes" "update --hashes --external" "update --external --align 0x1000 --time 7" "extract --part 0" "extract --part 1" \
             "extract --image kernel-1" "extract --image none" "extract --config conf-1" "extract --config conf-1 --key fdt" \
             "extract --config none" "extract --default" "extract --default --key ramdisk" "extract --default --index 1"; do
@@ -172,7 +173,12 @@ for compiler in gcc clang; do
         for other in "$examples"/*.itb "$examples"/kernel*.uimage "$examples"/board.its; do
             check "$compiler: compare $(basename "$image") $(basename "$other")" same compare "$image" "$other"
             check "$compiler: the same in JSON" same compare --json "$image" "$other"
+            for words in "--ignore time" "--ignore time,signatures --json" "--ignore /images --ignore part-0" \
+                "--ignore /configurations/conf-1"; do
+                check "$compiler: compare $words $(basename "$image") $(basename "$other")" same compare $words "$image" "$other"
+            done
         done
+        check "$compiler: a word that names nothing, $(basename "$image")" same compare --ignore time --ignore nothing "$image" "$image"
         check "$compiler: numbers out of their ranges, $(basename "$image")" ./calls arguments "$image"
         check "$compiler: four threads, $(basename "$image")" ./calls threads "$image"
     done

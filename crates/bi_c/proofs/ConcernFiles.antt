@@ -38,10 +38,10 @@ use Rattle.bi_c.specs.Arguments.{allowed_by, bounds}
 use Rattle.bi_c.specs.Calls.{HasKinds}
 use Rattle.bi_c.specs.ConcernElements.{AreConcernElements, IsConcernElement, concern_element}
 use Rattle.bi_c.specs.ImageElements.{HasPayloadBytes}
-use Rattle.bi_c.specs.TreeRegions.{HasNameBytes, HasPropertyBytes}
+use Rattle.bi_c.specs.TreeRegions.{HasNameBytes, HasPropertyBytes, HaveNodeBytes}
 use Rattle.bi_c.specs.VerdictElements.{found_text_region}
 use Rattle.bi_c.specs.declared.concerns.ConcernElement.{ConcernElement}
-use Rattle.bi_c.proofs.TreeRegions.{HaveBytes, each_name, named_bytes, root_bytes}
+use Rattle.bi_c.proofs.TreeRegions.{each_name, named_bytes, root_bytes}
 use Rattle.bi_c.proofs.VerdictFiles.{is_element, named_text}
 
 -- The elements of the concerns about a file have their texts in the file.
@@ -102,7 +102,7 @@ hash_there file image payload hash image_there hash_name have = by (is_good (fil
 
 -- Those about the hash nodes among the children of an image.
 hashes_there : (file : List ℕ) (image : Sibling FileNode) (payload : Option (List ℕ)) (children : Nodes FileNode) →
-    HasNameBytes file image → HaveBytes file children →
+    HasNameBytes file image → HaveNodeBytes file children →
     AllByRecursion (HasItsTexts file) (flat_map (found_in_hash image) (found_hashes image.name payload (siblings children)))
 hashes_there file image payload none there have = tt
 hashes_there file image payload (node name own inner later) there have =
@@ -143,7 +143,7 @@ payload_there file image (Some payload) hashes there = by (list_any is_good hash
     by true true = tt
 
 -- The concerns about all images.
-images_there : (file : List ℕ) (nodes : Nodes FileNode) (images : List ImageModel) → HaveBytes file nodes →
+images_there : (file : List ℕ) (nodes : Nodes FileNode) (images : List ImageModel) → HaveNodeBytes file nodes →
     AllByRecursion (HasItsTexts file) (flat_map found_in_image (hashed_images (siblings nodes) images))
 images_there file none images have = tt
 images_there file (node name own inner later) [] have = tt
@@ -296,17 +296,17 @@ rest_there file bytes = by (list_all (λ byte. byte == 0) bytes)
 -- ---- whole files
 
 -- The children of a node with the given name have their bytes. There may be no such node.
-inner_bytes : (file wanted : List ℕ) (nodes : Nodes FileNode) → HaveBytes file nodes →
-    HaveBytes file (nodes_or_none (children_of wanted nodes))
+inner_bytes : (file wanted : List ℕ) (nodes : Nodes FileNode) → HaveNodeBytes file nodes →
+    HaveNodeBytes file (nodes_or_none (children_of wanted nodes))
 inner_bytes file wanted nodes have = by (node_named nodes wanted) refl
   where
     by : (found : Option (Sibling FileNode)) → node_named nodes wanted ≡ found →
-        HaveBytes file (nodes_or_none (option_map (λ (one : Sibling FileNode). one.children) found))
+        HaveNodeBytes file (nodes_or_none (option_map (λ (one : Sibling FileNode). one.children) found))
     by None is = tt
     by (Some found) is = (named_bytes file wanted nodes found is have).1
 
 -- The default is in the region of its property.
-default_text : (file : List ℕ) (content : FitModel) → HaveBytes file (root_of content.blob).children →
+default_text : (file : List ℕ) (content : FitModel) → HaveNodeBytes file (root_of content.blob).children →
     HasPayloadBytes file (found_text_region (default_property content.blob)) (default_of (tree_of content))
 default_text file content have =
     subst (HasPayloadBytes file (found_text_region (default_property content.blob))) (sym (default_is content))
@@ -330,8 +330,8 @@ each_there limits file found (InLegacyImage image read same) =
     (named_there file (Unsigned None) tt, rest_there file (drop (length file - image.unused) file))
 each_there limits file found (InImageTree content read same) =
     let is = read.means.is_file in
-    let have : HaveBytes file (root_of content.blob).children =
-    subst (λ (root : Root FileNode). HaveBytes file root.children) read.same_root
+    let have : HaveNodeBytes file (root_of content.blob).children =
+    subst (λ (root : Root FileNode). HaveNodeBytes file root.children) read.same_root
     (root_bytes file content.blob.cpu content.blob.reservations is.root is.blob).1 in
     let images = flat_map found_in_image (images_of_blob content) in
     let lists = flat_map (found_in_configuration content.images) (siblings (file_configurations content.blob)) in

@@ -14,8 +14,9 @@ use Rattle.bi_c.specs.declared.images.ImageElement.{ImageElement}
 use Rattle.bi_c.specs.Answers.{IsThisOutput}
 use Rattle.bi_c.specs.Arguments.{bounds}
 use Rattle.bi_c.specs.ImageElements.{AreImageElements, HaveImageBytes, HasPayloadBytes, image_elements, image_payload_region}
+use Rattle.bi_c.specs.TreeRegions.{HaveNodeBytes}
 use Rattle.bi_c.proofs.FitFiles.{means_within}
-use Rattle.bi_c.proofs.TreeRegions.{HaveBytes, root_bytes, found_bytes}
+use Rattle.bi_c.proofs.TreeRegions.{root_bytes, found_bytes}
 
 -- The elements of the images that were read of a file are those of the images that the file means.
 
@@ -28,7 +29,7 @@ payload_bytes file None (Some payload) is = absurd is
 payload_bytes file (Some place) (Some payload) is = record { is_size = refl; is_there = is }
 
 -- So are the names and the payloads of image nodes.
-image_bytes : (file : List ℕ) (nodes : Nodes FileNode) (payloads : List (Option (List ℕ))) → HaveBytes file nodes →
+image_bytes : (file : List ℕ) (nodes : Nodes FileNode) (payloads : List (Option (List ℕ))) → HaveNodeBytes file nodes →
     AllZip (λ own payload. IsAtPlace file (payload_place file (source_of own)) payload) (each_own nodes) payloads →
     HaveImageBytes file (siblings nodes) payloads
 image_bytes file none payloads have at = tt

@@ -11,6 +11,8 @@ pub mod ExtractedFiles
 pub mod FitElements
 pub mod FitFiles
 pub mod FormNumbers
+pub mod IgnoringCallFacts
+pub mod IgnoringFiles
 pub mod ImageElements
 pub mod ImageFiles
 pub mod LegacyCallFacts
@@ -27,6 +29,8 @@ pub mod ShownPages
 pub mod SliceWriting
 pub mod TreeBuilding
 pub mod TreeCallFacts
+pub mod TreeElementFacts
+pub mod TreeElements
 pub mod TreeRegions
 pub mod UpdatedCalls
 pub mod ValueCallAnswers

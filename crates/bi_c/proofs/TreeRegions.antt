@@ -20,7 +20,7 @@ use Rattle.bi_fit.proofs.Meanings.{same_in_some}
 use Rattle.bi_fit.specs.ImageTree.{children_of}
 use Rattle.bi_fit.specs.Payloads.{IsAt}
 use Rattle.bi_c.specs.NodeElements.{node_below}
-use Rattle.bi_c.specs.TreeRegions.{AreBytesAt, HasNameBytes, HasPropertyBytes, children_of_found, node_name_region}
+use Rattle.bi_c.specs.TreeRegions.{AreBytesAt, HasNameBytes, HasPropertyBytes, HaveNodeBytes, children_of_found, node_name_region}
 
 -- The file has the names and the values of its tree at their places.
 
@@ -128,13 +128,6 @@ tokens_bytes file at (EndNode ∷ tokens) (FileNodeEnd ∷ events) are encodes =
     (tt, tokens_bytes file (at + width EndNode) tokens events are.1 encodes)
 tokens_bytes file at tokens events are encodes = absurd encodes
 
--- Nodes have their names and properties in the file.
-abbrev pub HaveBytes : List ℕ → Nodes FileNode → Type 0
-HaveBytes file none = ⊤
-HaveBytes file (node name own children later) =
-    AreBytesAt file (node_name_region own name) name × AllByRecursion (HasPropertyBytes file) own.properties
-    × HaveBytes file children × HaveBytes file later
-
 -- A node has the properties of its events.
 properties_bytes : (file : List ℕ) (properties : List FileProperty) →
     AllByRecursion (HasEventBytes file) (map FileNodeProperty properties) → AllByRecursion (HasPropertyBytes file) properties
@@ -142,7 +135,7 @@ properties_bytes file [] each = tt
 properties_bytes file (property ∷ properties) each = (each.0, properties_bytes file properties each.1)
 
 -- Nodes have the names and the properties of their events.
-nodes_bytes : (file : List ℕ) (nodes : Nodes FileNode) → AllByRecursion (HasEventBytes file) (file_events nodes) → HaveBytes file nodes
+nodes_bytes : (file : List ℕ) (nodes : Nodes FileNode) → AllByRecursion (HasEventBytes file) (file_events nodes) → HaveNodeBytes file nodes
 nodes_bytes file none each = tt
 nodes_bytes file (node name own children later) each =
     let rest = file_events children ++ (FileNodeEnd ∷ file_events later) in
@@ -155,20 +148,26 @@ nodes_bytes file (node name own children later) each =
 
 -- A node has its own bytes and those of the nodes below it.
 abbrev pub HasBytesBelow : List ℕ → Sibling FileNode → Type 0
-HasBytesBelow file found = AllByRecursion (HasPropertyBytes file) found.own.properties × HaveBytes file found.children
+HasBytesBelow file found = AllByRecursion (HasPropertyBytes file) found.own.properties × HaveNodeBytes file found.children
 
--- The root of a blob has its bytes.
+-- All nodes of a blob have their bytes,
+pub all_node_bytes : (file : List ℕ) (cpu : ℕ) (reservations : List Reservation) (root : Root FileNode) →
+    IsBlob file cpu reservations root → HaveNodeBytes file (as_nodes root)
+all_node_bytes file cpu reservations root blob =
+    nodes_bytes file (as_nodes root)
+    (tokens_bytes file (tree_blocks file).begin blob.holds.tokens (file_events_of root)
+    (HoldsTree-stand (tree_blocks file) root blob.holds) blob.holds.encodes)
+
+-- and so has its root.
 pub root_bytes : (file : List ℕ) (cpu : ℕ) (reservations : List Reservation) (root : Root FileNode) →
     IsBlob file cpu reservations root → HasBytesBelow file (root_node root)
 root_bytes file cpu reservations root blob =
-    let all = nodes_bytes file (as_nodes root)
-    (tokens_bytes file (tree_blocks file).begin blob.holds.tokens (file_events_of root)
-    (HoldsTree-stand (tree_blocks file) root blob.holds) blob.holds.encodes) in
+    let all = all_node_bytes file cpu reservations root blob in
     (all.1, all.2)
 
 -- A node that is found by its name has its bytes.
 pub named_bytes : (file wanted : List ℕ) (nodes : Nodes FileNode) (found : Sibling FileNode) → node_named nodes wanted ≡ Some found →
-    HaveBytes file nodes → HasBytesBelow file found
+    HaveNodeBytes file nodes → HasBytesBelow file found
 named_bytes file wanted none found has have = absurd cc
 named_bytes file wanted (node name own children later) found has have =
     where_first (bytes_eq name wanted) refl has (λ has. named_bytes file wanted later found has have.3)
@@ -181,15 +180,15 @@ named_bytes file wanted (node name own children later) found has have =
     where_first false is has rest = rest (rw is at has)
 
 -- The children of such a node have their bytes.
-pub found_bytes : (file wanted : List ℕ) (nodes inner : Nodes FileNode) → children_of wanted nodes ≡ Some inner → HaveBytes file nodes →
-    HaveBytes file inner
+pub found_bytes : (file wanted : List ℕ) (nodes inner : Nodes FileNode) → children_of wanted nodes ≡ Some inner → HaveNodeBytes file nodes →
+    HaveNodeBytes file inner
 found_bytes file wanted nodes inner has have = by (node_named nodes wanted) refl has
   where
     by : (found : Option (Sibling FileNode)) → node_named nodes wanted ≡ found →
-        option_map (λ (one : Sibling FileNode). one.children) found ≡ Some inner → HaveBytes file inner
+        option_map (λ (one : Sibling FileNode). one.children) found ≡ Some inner → HaveNodeBytes file inner
     by None is has = absurd cc
     by (Some found) is has =
-        subst (HaveBytes file) (same_in_some found.children inner has) (named_bytes file wanted nodes found is have).1
+        subst (HaveNodeBytes file) (same_in_some found.children inner has) (named_bytes file wanted nodes found is have).1
 
 -- The node at a path has its bytes.
 pub below_bytes : (file : List ℕ) (start : Option (Sibling FileNode)) (names : List (List ℕ)) (found : Sibling FileNode) →
@@ -202,13 +201,13 @@ below_bytes file (Some first) (name ∷ names) found have is =
     (λ child is. named_bytes file name first.children child is (have first refl).1) is
 
 -- Each of some siblings has its name in the file.
-pub each_name : (file : List ℕ) (nodes : Nodes FileNode) → HaveBytes file nodes → AllByRecursion (HasNameBytes file) (siblings nodes)
+pub each_name : (file : List ℕ) (nodes : Nodes FileNode) → HaveNodeBytes file nodes → AllByRecursion (HasNameBytes file) (siblings nodes)
 each_name file none have = tt
 each_name file (node name own children later) have = (have.0, each_name file later have.3)
 
 -- The children of a node that is found have their names in the file.
 pub children_names : (file wanted : List ℕ) (nodes : Nodes FileNode) (found : Option (Sibling FileNode)) → node_named nodes wanted ≡ found →
-    HaveBytes file nodes → AllByRecursion (HasNameBytes file) (children_of_found found)
+    HaveNodeBytes file nodes → AllByRecursion (HasNameBytes file) (children_of_found found)
 children_names file wanted nodes None is have = tt
 children_names file wanted nodes (Some found) is have =
     each_name file found.children (named_bytes file wanted nodes found is have).1

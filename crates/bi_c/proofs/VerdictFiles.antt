@@ -17,11 +17,11 @@ use Rattle.bi_fit.proofs.FileVerdicts.{verdicts_are}
 use Rattle.bi_c.specs.declared.verdicts.HashElement.{HashElement}
 use Rattle.bi_c.specs.Arguments.{bounds}
 use Rattle.bi_c.specs.ImageElements.{HasPayloadBytes}
-use Rattle.bi_c.specs.TreeRegions.{HasNameBytes, HasPropertyBytes}
+use Rattle.bi_c.specs.TreeRegions.{HasNameBytes, HasPropertyBytes, HaveNodeBytes}
 use Rattle.bi_c.specs.VerdictElements.{AreHashElements, IsHashElement, element_with_verdict, found_text_region, found_value_region}
 use Rattle.bi_c.specs.VerdictElements.{hash_elements, hash_elements_among, text_region, verdict_on}
 use Rattle.bi_c.proofs.FitFiles.{means_within}
-use Rattle.bi_c.proofs.TreeRegions.{HaveBytes, found_bytes, root_bytes}
+use Rattle.bi_c.proofs.TreeRegions.{found_bytes, root_bytes}
 
 -- The elements of the hash nodes that were read are those of what the file means.
 
@@ -81,7 +81,7 @@ is_element file image payload hash image_there hash_there have = record {
 
 -- The same holds of the hash nodes among the children of an image,
 among_children : (file : List ℕ) (image : Sibling FileNode) (payload : Option (List ℕ)) (children : Nodes FileNode) →
-    HasNameBytes file image → HaveBytes file children →
+    HasNameBytes file image → HaveNodeBytes file children →
     AllZip (IsHashElement file) (hash_elements_among image payload (siblings children))
     (file_hashes image.name payload (siblings children))
 among_children file image payload none there have = tt
@@ -108,7 +108,7 @@ both file [] others (hash ∷ hashes) more first second = absurd first
 both file (element ∷ elements) others [] more first second = absurd first
 both file (element ∷ elements) others (hash ∷ hashes) more first second = (first.0, both file elements others hashes more first.1 second)
 
-of_images : (file : List ℕ) (nodes : Nodes FileNode) (images : List ImageModel) → HaveBytes file nodes →
+of_images : (file : List ℕ) (nodes : Nodes FileNode) (images : List ImageModel) → HaveNodeBytes file nodes →
     AllZip (IsHashElement file) (hash_elements (siblings nodes) (payloads_of_models images)) (file_verdicts (siblings nodes) images)
 of_images file none [] have = tt
 of_images file none (image ∷ images) have = tt
@@ -128,8 +128,8 @@ are_hash_elements limit depth file limits content elements in_range same read ar
     let is = read.means.is_file in
     let nodes : file_images content.blob ≡ is.images =
     ap (λ (root : Root FileNode). nodes_or_none (image_nodes root)) (sym read.same_root) ∙ ap nodes_or_none is.has_images in
-    let have : HaveBytes file (file_images content.blob) =
-    subst (HaveBytes file) (sym nodes)
+    let have : HaveNodeBytes file (file_images content.blob) =
+    subst (HaveNodeBytes file) (sym nodes)
     (found_bytes file images_name is.root.children is.images is.has_images
     (root_bytes file tree.cpu tree.reservations is.root is.blob).1) in
     record {

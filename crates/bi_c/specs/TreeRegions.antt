@@ -1,8 +1,9 @@
-use Rattle.std.specs.Prelude.{ℕ, ◌+◌, ◌≡◌, List, [], length, Option, None, Some}
+use Rattle.std.specs.Prelude.{ℕ, ◌+◌, ◌≡◌, List, [], length, Option, None, Some, ⊤}
+use Rattle.std.specs.List.{AllByRecursion}
 use Rattle.bi_base.specs.Cells.{u32_at}
 use Rattle.bi_blob.specs.Blob.{off_dt_strings}
 use Rattle.bi_blob.specs.Lookups.{Sibling, siblings}
-use Rattle.bi_blob.specs.Tree.{FileNode, FileProperty}
+use Rattle.bi_blob.specs.Tree.{FileNode, FileProperty, Nodes, none, node}
 use Rattle.bi_fit.specs.Payloads.{IsAt}
 use Rattle.bi_c.specs.declared.region.Region.{Region}
 
@@ -32,6 +33,15 @@ pub record AreBytesAt (file : List ℕ) (region : Region) (bytes : List ℕ) : T
 pub record HasPropertyBytes (file : List ℕ) (property : FileProperty) : Type 0 where
   pub name : AreBytesAt file (property_name_region file property) property.name
   pub value : AreBytesAt file (value_region property) property.value
+
+-- The names of these nodes and of all nodes below them, and the names and the values of their
+-- properties, are at these places in their file.
+abbrev pub HaveNodeBytes : (file : List ℕ) → Nodes FileNode → Type 0
+HaveNodeBytes file none = ⊤
+HaveNodeBytes file (node name own children later) =
+    AreBytesAt file (node_name_region own name) name
+    × AllByRecursion (HasPropertyBytes file) own.properties
+    × HaveNodeBytes file children × HaveNodeBytes file later
 
 -- Where the name of a node is.
 abbrev pub name_region_of : Sibling FileNode → Region

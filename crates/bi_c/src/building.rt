@@ -70,7 +70,11 @@ fn header_of<'a>(fields: &LegacyFields, name: &'a [u8]) -> Fields<'a>
 /// Returns the bytes of regions of an input.
 ///
 /// Errors: OutOfMemory; WrongArgument, if a region is not inside the input.
-fn pieces<'a>(alloc: Global, input: &'a [u8], regions: &[Region]) -> Result<Vec<&'a [u8]>, Failure>
+pub(crate) fn pieces<'a>(
+    alloc: Global,
+    input: &'a [u8],
+    regions: &[Region],
+) -> Result<Vec<&'a [u8]>, Failure>
     ensures inside { IfOk result (λ pieces.
         AllByRecursion (IsPieceInside input.entry.now) regions.now) }
     ensures pieces { IfOk result (λ pieces.

@@ -84,7 +84,7 @@ pub extern "C" fn bootimg_compare_json(
 }
 
 /// Writes what a comparison of two files found to a buffer, and the answer. Returns the status.
-fn fill_comparison(
+pub(crate) fn fill_comparison(
     made: Result<Comparison, CompareError>,
     buffer: &mut [u8],
     answer: &mut Answer,

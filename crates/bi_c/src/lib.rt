@@ -2,6 +2,7 @@
 //! `include/bootimg.h` declares the exports and documents them.
 #![tactic(auto)]
 
+mod all_nodes;
 mod answer;
 mod arguments;
 mod building;
@@ -15,10 +16,13 @@ mod extract;
 mod failure;
 mod fit;
 mod fit_building;
+mod ignoring;
 mod images;
 mod kind;
+mod known_all_nodes;
 mod known_calls;
 mod known_elements;
+mod known_ignoring;
 mod known_numbers;
 mod known_paths;
 mod legacy;
@@ -29,6 +33,7 @@ mod paths;
 mod properties;
 mod region;
 mod regions;
+mod scan;
 mod show;
 mod texts;
 mod update;
@@ -36,6 +41,7 @@ mod values;
 mod verdicts;
 mod writing;
 
+pub use all_nodes::TreeElement;
 pub use answer::Answer;
 pub use concerns::ConcernElement;
 pub use fit::{FitFields, ReservationElement};

@@ -123,7 +123,7 @@ fn fill_properties(
 
 /// Returns the element of a property of a file. Requires: the file has at least 16 bytes, and has
 /// the name and the value of the property at their places.
-fn property_element(file: &[u8], property: Property<'_>) -> PropertyElement
+pub(crate) fn property_element(file: &[u8], property: Property<'_>) -> PropertyElement
     requires header { 16 ≤ length file.now }
     requires regions { HasPropertyBytes file.now (file_property_of property) }
     ensures { result ≡ element_of_property file.now (file_property_of property.entry) }

@@ -3,11 +3,11 @@
 
 #include <bootimg.h>
 
-enum { PARTS, RESERVATIONS, IMAGES, CONFIGURATIONS, LISTED, VERDICTS, CONCERNS, CHILDREN, PROPERTIES, ARRAYS };
+enum { PARTS, RESERVATIONS, IMAGES, CONFIGURATIONS, LISTED, VERDICTS, CONCERNS, NODES, CHILDREN, PROPERTIES, ARRAYS };
 
 static const size_t element_sizes[ARRAYS] = {
     sizeof(bootimg_region), sizeof(bootimg_reservation), sizeof(bootimg_image),  sizeof(bootimg_region),   sizeof(size_t),
-    sizeof(bootimg_hash),   sizeof(bootimg_concern),     sizeof(bootimg_region), sizeof(bootimg_property),
+    sizeof(bootimg_hash),   sizeof(bootimg_concern),     sizeof(bootimg_tree_element), sizeof(bootimg_region), sizeof(bootimg_property),
 };
 
 /* What is called on a file: which call, of LISTED the name and the key, of CONCERNS the kinds, and of CHILDREN and PROPERTIES the path. */
@@ -35,6 +35,8 @@ static uint32_t fill_array(const struct call *call, uint32_t limit, uint32_t dep
         return bootimg_verdicts(file, size, limit, depth, array, count, answer);
     case CONCERNS:
         return bootimg_concerns(file, size, call->kinds, limit, depth, array, count, answer);
+    case NODES:
+        return bootimg_nodes(file, size, limit, depth, array, count, answer);
     case LISTED:
         return bootimg_listed(file, size, call->name.bytes, call->name.size, call->key, limit, depth, array, count, answer);
     case CHILDREN:

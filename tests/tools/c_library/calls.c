@@ -33,6 +33,10 @@ struct call {
     /* Where a single value is, and how it is written. */
     struct memory place, property;
     uint32_t value_form;
+    /* What comparing leaves out. */
+    struct memory words;
+    bootimg_region regions[8];
+    size_t regions_count;
 };
 
 enum { PART = 1, IMAGE, CONFIG, DEFAULT };
@@ -50,14 +54,21 @@ static uint32_t make(const struct call *call, uint8_t *buffer, size_t size, boot
         return (call->is_json ? bootimg_list_json : bootimg_list)(one, one_size, limit, depth, buffer, size, answer);
     if (strcmp(call->command, "describe") == 0)
         return (call->is_json ? bootimg_describe_json : bootimg_describe)(one, one_size, limit, depth, buffer, size, answer);
+    if (strcmp(call->command, "scan") == 0)
+        return (call->is_json ? bootimg_scan_json : bootimg_scan)(one, one_size, limit, depth, buffer, size, answer);
     if (strcmp(call->command, "show") == 0)
-        return bootimg_show(one, one_size, call->layout, limit, depth, buffer, size, answer);
+        return call->is_json ? bootimg_show_json(one, one_size, limit, depth, buffer, size, answer)
+                             : bootimg_show(one, one_size, call->layout, limit, depth, buffer, size, answer);
     if (strcmp(call->command, "verify") == 0)
         return (call->is_json ? bootimg_verify_json : bootimg_verify)(one, one_size, limit, depth, buffer, size, answer);
     if (strcmp(call->command, "check") == 0)
         return (call->is_json ? bootimg_check_json : bootimg_check)(one, one_size, call->kinds, limit, depth, buffer, size, answer);
     if (strcmp(call->command, "convert") == 0)
         return bootimg_convert(one, one_size, limit, depth, buffer, size, answer);
+    if (strcmp(call->command, "compare") == 0 && call->regions_count != 0)
+        return (call->is_json ? bootimg_compare_ignoring_json : bootimg_compare_ignoring)(
+            one, one_size, other, other_size, call->words.bytes, call->words.size, call->regions, call->regions_count, limit, depth, buffer,
+            size, answer);
     if (strcmp(call->command, "compare") == 0)
         return (call->is_json ? bootimg_compare_json : bootimg_compare)(one, one_size, other, other_size, limit, depth, buffer, size,
                                                                         answer);
@@ -157,7 +168,7 @@ static int run(const struct call *call, FILE *output)
     CHECK((answer.reason != 0) == (status == BOOTIMG_NOT_FOUND));
     CHECK(make(call, NULL, 0, &again) == status && memcmp(&answer, &again, sizeof answer) == 0);
     if (status != BOOTIMG_OK && status != BOOTIMG_NO_ROOM) {
-        CHECK(answer.size == 0 && answer.value == 0);
+        CHECK(answer.size == 0 && (answer.reason == BOOTIMG_BAD_WORD ? answer.value < call->regions_count : answer.value == 0));
         CHECK(make_with(call, &buffer, 100, &again) == status);
         CHECK(memcmp(&answer, &again, sizeof answer) == 0);
         CHECK(is_unchanged(buffer.bytes, 100));
@@ -168,7 +179,9 @@ static int run(const struct call *call, FILE *output)
             tell(call, &answer);
         else
             CHECK(answer.cause == 0 && answer.offset == 0 && answer.file == 0);
-        if (status == BOOTIMG_NOT_FOUND && !call->is_quiet) {
+        if (answer.reason == BOOTIMG_BAD_WORD) {
+            fputs("bootimg: usage: bad value\n", stderr);
+        } else if (status == BOOTIMG_NOT_FOUND && !call->is_quiet) {
             CHECK(strcmp(call->command, "get") == 0 ? answer.reason <= BOOTIMG_NO_NUMBER : answer.reason == BOOTIMG_NO_NAME);
             fprintf(stderr, "bootimg: %s: %s\n", call->paths[0], reasons[answer.reason]);
         }
@@ -192,7 +205,9 @@ static int run(const struct call *call, FILE *output)
     give_back(exact);
     if (has_notes)
         note(call, &answer);
-    if (strcmp(call->command, "compare") == 0) {
+    if (strcmp(call->command, "scan") == 0)
+        return answer.size == (call->is_json ? strlen("{\"images\":[]}\n") : 0);
+    if (strcmp(call->command, "compare") == 0 && call->regions_count == 0) {
         CHECK(bootimg_same_meaning(call->files[0].bytes, call->files[0].size, call->files[1].bytes, call->files[1].size,
                                    call->limit, BOOTIMG_DEPTH, &again) == BOOTIMG_OK);
         CHECK(again.value == answer.value && again.size == 0);
@@ -263,7 +278,7 @@ static const struct {
     int is_json;
 } of_one[] = {
     {"normalise", 0}, {"update", 0}, {"convert", 0}, {"list", 0}, {"list", 1}, {"describe", 0}, {"describe", 1}, {"verify", 0},
-    {"verify", 1}, {"check", 0}, {"check", 1}, {"show", 0}, {"get", 0},
+    {"verify", 1}, {"check", 0}, {"check", 1}, {"show", 0}, {"show", 1}, {"get", 0}, {"scan", 0}, {"scan", 1},
 };
 
 enum { CALLS_OF_ONE = sizeof of_one / sizeof of_one[0] };
@@ -312,6 +327,13 @@ static int try_arguments(struct call *call)
                       &byte, 1, &answer) == BOOTIMG_WRONG_ARGUMENT);
     CHECK(bootimg_get(call->files[0].bytes, call->files[0].size, (const uint8_t *)"size", 4, NULL, 0, BOOTIMG_VALUE_RAW, call->limit, 64,
                       &byte, 1, &answer) == BOOTIMG_WRONG_ARGUMENT);
+    for (int i = 0; i < 2; i++) {
+        const bootimg_region outside[] = {{0, 4}, {1 + (size_t)i, 4}};
+        CHECK(bootimg_compare_ignoring(call->files[0].bytes, call->files[0].size, call->files[0].bytes, call->files[0].size,
+                                       (const uint8_t *)"time", 4, outside, 2, i == 0 ? call->limit : 63, 64, &byte, 1, &answer) ==
+              BOOTIMG_WRONG_ARGUMENT);
+        CHECK(answer.value == 0 && answer.reason == 0);
+    }
     for (int selection = PART; selection <= DEFAULT; selection++) {
         struct call wrong = *call;
         wrong.selection = selection;
@@ -347,8 +369,8 @@ static void try_null(const struct call *call)
         one.is_json = other.is_json = of_one[i].is_json;
         one.files[0] = none;
         other.files[0] = null;
-        CHECK(make(&one, NULL, 0, &answer) == BOOTIMG_REFUSED && make(&other, NULL, 0, &again) == BOOTIMG_REFUSED);
-        CHECK(memcmp(&answer, &again, sizeof answer) == 0 && answer.cause == BOOTIMG_CAUSE_TRUNCATED && answer.file == 1);
+        CHECK(make(&one, NULL, 0, &answer) == make(&other, NULL, 0, &again) && memcmp(&answer, &again, sizeof answer) == 0);
+        CHECK(strcmp(one.command, "scan") == 0 ? answer.cause == 0 : answer.cause == BOOTIMG_CAUSE_TRUNCATED && answer.file == 1);
     }
     for (int i = 0; i < 2; i++) {
         struct call one = *call, other = *call;
@@ -465,6 +487,20 @@ static struct memory bytes_of(const char *word)
     return bytes;
 }
 
+/* Adds a word for what comparing leaves out. */
+static void add_word(struct call *call, const char *word)
+{
+    struct memory more = take(call->words.size + strlen(word));
+    CHECK(call->regions_count < sizeof call->regions / sizeof call->regions[0]);
+    if (call->words.size != 0)
+        memcpy(more.bytes, call->words.bytes, call->words.size);
+    memcpy(more.bytes + call->words.size, word, strlen(word));
+    call->regions[call->regions_count++] = (bootimg_region){call->words.size, strlen(word)};
+    if (call->words.map != NULL)
+        give_back(call->words);
+    call->words = more;
+}
+
 /* The number of a form of values. */
 static uint32_t form_of(const char *word)
 {
@@ -535,6 +571,8 @@ int main(int count, char **words)
             call.place = bytes_of(words[++i]);
         } else if (strcmp(words[i], "--property") == 0) {
             call.property = bytes_of(words[++i]);
+        } else if (strcmp(words[i], "--ignore") == 0) {
+            add_word(&call, words[++i]);
         } else if (strcmp(words[i], "--index") == 0) {
             call.index = (uint32_t)strtoul(words[++i], NULL, 0);
         } else {
@@ -572,6 +610,8 @@ int main(int count, char **words)
         give_back(call.name);
     if (call.property.map != NULL)
         give_back(call.property);
+    if (call.words.map != NULL)
+        give_back(call.words);
     give_back(call.place);
     while (files > 0)
         give_back(call.files[--files]);

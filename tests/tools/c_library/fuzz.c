@@ -67,8 +67,8 @@ static void repair(uint8_t *file, size_t size)
 
 /* The calls with a buffer, after those with an array. */
 enum {
-    NORMALISE = ARRAYS, UPDATE, CONVERT, LIST, LIST_JSON, DESCRIBE, DESCRIBE_JSON, SHOW, VERIFY, VERIFY_JSON, CHECK_LINES, CHECK_JSON,
-    COMPARE, COMPARE_JSON, GET, CODE_NAME, CAUSE_NAME, EXPLAIN, VERSION, CALLS
+    NORMALISE = ARRAYS, UPDATE, CONVERT, LIST, LIST_JSON, SCAN, SCAN_JSON, DESCRIBE, DESCRIBE_JSON, SHOW, SHOW_JSON, VERIFY, VERIFY_JSON,
+    CHECK_LINES, CHECK_JSON, COMPARE, COMPARE_JSON, IGNORING, IGNORING_JSON, GET, CODE_NAME, CAUSE_NAME, EXPLAIN, VERSION, CALLS
 };
 
 /* Numbers of forms, and two that are those of none. */
@@ -81,6 +81,7 @@ static size_t element_size(int call)
 
 static uint32_t make_text(const struct choice *c, int call, uint8_t *to, size_t room, bootimg_result *answer)
 {
+    const bootimg_region words[] = {{0, c->name_size}, {c->time >> 24, c->time >> 16 & 15}};
     switch (call) {
     case NORMALISE:
         return bootimg_normalise(c->file, c->size, forms[c->number % 8], c->limit, c->depth, to, room, answer);
@@ -92,12 +93,18 @@ static uint32_t make_text(const struct choice *c, int call, uint8_t *to, size_t 
         return bootimg_list(c->file, c->size, c->limit, c->depth, to, room, answer);
     case LIST_JSON:
         return bootimg_list_json(c->file, c->size, c->limit, c->depth, to, room, answer);
+    case SCAN:
+        return bootimg_scan(c->file, c->size, c->limit, c->depth, to, room, answer);
+    case SCAN_JSON:
+        return bootimg_scan_json(c->file, c->size, c->limit, c->depth, to, room, answer);
     case DESCRIBE:
         return bootimg_describe(c->file, c->size, c->limit, c->depth, to, room, answer);
     case DESCRIBE_JSON:
         return bootimg_describe_json(c->file, c->size, c->limit, c->depth, to, room, answer);
     case SHOW:
         return bootimg_show(c->file, c->size, c->number % 3, c->limit, c->depth, to, room, answer);
+    case SHOW_JSON:
+        return bootimg_show_json(c->file, c->size, c->limit, c->depth, to, room, answer);
     case VERIFY:
         return bootimg_verify(c->file, c->size, c->limit, c->depth, to, room, answer);
     case VERIFY_JSON:
@@ -110,6 +117,12 @@ static uint32_t make_text(const struct choice *c, int call, uint8_t *to, size_t 
         return bootimg_compare(c->file, c->size, c->name, c->name_size, c->limit, c->depth, to, room, answer);
     case COMPARE_JSON:
         return bootimg_compare_json(c->file, c->size, c->file, c->size, c->limit, c->depth, to, room, answer);
+    case IGNORING:
+        return bootimg_compare_ignoring(c->file, c->size, c->file, c->size, c->name, c->name_size, words, c->number % 3, c->limit, c->depth,
+                                        to, room, answer);
+    case IGNORING_JSON:
+        return bootimg_compare_ignoring_json(c->file, c->size, c->name, c->name_size, (const uint8_t *)"time,signatures", 15,
+                                             &(bootimg_region){0, c->number & 1 ? 15 : 4}, 1, c->limit, c->depth, to, room, answer);
     case GET:
         return bootimg_get(c->file, c->size, (const uint8_t *)"/", 1, c->name, c->name_size, c->number % 5, c->limit, c->depth, to, room,
                            answer);
@@ -138,7 +151,7 @@ static void check_answer(uint32_t status, const bootimg_result *answer)
     CHECK((answer->cause != 0) == (status == BOOTIMG_REFUSED) && answer->cause <= BOOTIMG_CAUSE_UNSUPPORTED);
     CHECK((answer->file != 0) == (status == BOOTIMG_REFUSED) && answer->file <= 2);
     CHECK(answer->offset == 0 || status == BOOTIMG_REFUSED);
-    CHECK((answer->reason != 0) == (status == BOOTIMG_NOT_FOUND) && answer->reason <= BOOTIMG_NO_CODE);
+    CHECK((answer->reason != 0) == (status == BOOTIMG_NOT_FOUND) && answer->reason <= BOOTIMG_BAD_WORD);
     CHECK(answer->size == 0 || status == BOOTIMG_OK || status == BOOTIMG_NO_ROOM);
 }
 
@@ -172,6 +185,12 @@ static void check_elements(const struct choice *c, int call, const void *element
             CHECK(concern->kind != 0 && concern->kind <= BOOTIMG_CONCERN_UNIT_ADDRESS && (concern->kind & (concern->kind - 1)) == 0);
             CHECK((concern->kind & c->number) == 0);
             CHECK(concern->verdict <= BOOTIMG_VERDICT_MALFORMED && concern->key <= BOOTIMG_SCRIPT);
+        } else if (call == NODES) {
+            const bootimg_tree_element *element = (const bootimg_tree_element *)elements + i;
+            check_region(c, element->name);
+            check_region(c, element->value);
+            CHECK(element->kind == BOOTIMG_ELEMENT_NODE || element->kind == BOOTIMG_ELEMENT_PROPERTY);
+            CHECK(i == 0 ? element->depth == 0 : element->depth != 0 && element->depth <= element[-1].depth + 1);
         } else if (call == PROPERTIES) {
             const bootimg_property *property = (const bootimg_property *)elements + i;
             check_region(c, property->name);

@@ -74,7 +74,17 @@ static uint32_t make(int call, uint8_t *buffer, bootimg_result *answer)
     case 32:
         return bootimg_get(file, size, (const uint8_t *)"/", 1, (const uint8_t *)"timestamp", 9, BOOTIMG_VALUE_NUMBER, BOOTIMG_LIMIT,
                            64, buffer, sizeof text, answer);
-    case 33: return bootimg_notes(file, size, 3, 7, BOOTIMG_EXTERNAL, BOOTIMG_LIMIT, 64, (void *)buffer, answer);
+    case 33: return bootimg_scan(file, size, BOOTIMG_LIMIT, 64, buffer, sizeof text, answer);
+    case 34: return bootimg_scan_json(file, size, BOOTIMG_LIMIT, 64, buffer, sizeof text, answer);
+    case 35: return bootimg_show_json(file, size, BOOTIMG_LIMIT, 64, buffer, sizeof text, answer);
+    case 36: return bootimg_nodes(file, size, BOOTIMG_LIMIT, 64, (void *)buffer, 1000, answer);
+    case 37:
+        return bootimg_compare_ignoring(file, size, file, size, (const uint8_t *)"time/images/x y", 15,
+                                        (const bootimg_region[]){{0, 4}, {4, 11}}, 2, BOOTIMG_LIMIT, 64, buffer, sizeof text, answer);
+    case 38:
+        return bootimg_compare_ignoring_json(file, size, file, size - 1, (const uint8_t *)"/images", 7, &(bootimg_region){0, 7}, 1,
+                                             BOOTIMG_LIMIT, 64, buffer, sizeof text, answer);
+    case 39: return bootimg_notes(file, size, 3, 7, BOOTIMG_EXTERNAL, BOOTIMG_LIMIT, 64, (void *)buffer, answer);
     default: return bootimg_listed(file, size, name, 6, BOOTIMG_KERNEL, BOOTIMG_LIMIT, 64, (void *)buffer, 100, answer);
     }
 }
@@ -110,7 +120,7 @@ int main(int count, char **words)
     size = input == NULL ? 0 : fread(file, 1, sizeof file, input);
     if (size == 0)
         return 2;
-    for (int call = 0; call <= 34; call++) {
+    for (int call = 0; call <= 40; call++) {
         bootimg_result expected;
         uint32_t status;
         memset(wanted, 0xa5, sizeof wanted);

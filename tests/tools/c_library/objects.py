@@ -234,6 +234,26 @@ def try_values(path, image, node, shown_path):
         try_values(path, image, child, f"{shown_path}/{shown(child.name)}")
 
 
+def nodes_below(node):
+    """A node and all nodes below it."""
+    yield node
+    for child in node.children:
+        yield from nodes_below(child)
+
+
+def try_nodes(path, image):
+    """The nodes of a FIT are those below its root, and none has another path."""
+    found = [(node.name, node.path, node.properties, [child.path for child in node.children]) for node in image.nodes()]
+    check(f"{path}: all nodes", found == [
+        (node.name, node.path, node.properties, [child.path for child in node.children]) for node in nodes_below(image.root)
+    ])
+    for wrong in "", "images", "/images/", "//images", "/images/none":
+        check(f"{path}: no node has the path {wrong!r}", raises(bootimg.NotFound, image.properties, wrong) == "no such node")
+        check(f"{path}: nor {wrong!r} as bytes", raises(bootimg.NotFound, image.property_value, wrong.encode(), "x") == "no such node")
+    check(f"{path}: no such property", raises(bootimg.NotFound, image.property_value, "/", "no-such") == "no such property")
+    check(f"{path}: the children of the root", image.children(b"/") == tuple(child.name for child in image.root.children))
+
+
 def try_building(path, image):
     """The header and the parts of a legacy image build its normal form, also with other fields."""
     built = bootimg.build_legacy(image.parts, header=image.header)
@@ -269,6 +289,7 @@ for path in sorted(accepted):
     accepted_image = bootimg.open(path)
     if accepted_image.kind == "fit":
         try_values(path, accepted_image, accepted_image.root, "")
+        try_nodes(path, accepted_image)
     else:
         try_building(path, accepted_image)
 check("there are files of both kinds", {bootimg.open(path).kind for path in accepted} == {"legacy", "fit"})
@@ -283,6 +304,13 @@ check("an image", "2628 bytes" in repr(bootimg.open(board)))
 image = bootimg.open(board)
 check("the image itself is compared", image.compare(bootimg.open(board)) == bootimg.compare(image.file, image.file))
 check("so are bytes", image.compare(board.read_bytes()).same)
+later = bootimg.update(image.file, time=7)
+check("what is ignored is left out", image.compare(later, ignore=["time"]).same and not image.compare(later).same)
+check("words are text or bytes", bootimg.compare_json(image.file, later, ignore=[b"/ timestamp", "/images"]).same)
+check("a word that names nothing", raises(bootimg.WrongArgument, image.compare, later, ignore=["time", "no"]) == "wrong argument: 'no'")
+check("a page in JSON", json.loads(image.show_json())["images"][0]["name"] == "kernel-1")
+check("a scan in JSON", json.loads(bootimg.scan_json(b"x" + bytes(image.file)))["images"][0]["offset"] == 1)
+check("nothing is found", (bootimg.scan(b""), bootimg.scan_json(b"")) == ("", '{"images":[]}\n'))
 check("the default configuration", image.configuration().name == image.default == "conf-1")
 check("a name of bytes", image.configuration(b"conf-2").images("fdt") == (image.image(b"fdt-1"),))
 for name, call in {
@@ -296,7 +324,7 @@ for name, call in {
     except bootimg.NotFound as reason:
         check(f"there is no such {name}", reason.reason == f"no such {name}")
 small = bootimg.open(root / "examples/kernel.uimage", limit=3974)
-for name, call in {"root": lambda: small.root, "configuration": small.configuration}.items():
+for name, call in {"root": lambda: small.root, "node": small.nodes, "configuration": small.configuration}.items():
     try:
         call()
         check(f"a legacy image has no {name}", False)

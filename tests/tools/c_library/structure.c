@@ -302,6 +302,15 @@ static void print_verdict(FILE *output, struct memory file, const void *element)
     fprintf(output, " %u\n", (unsigned)hash->verdict);
 }
 
+static void print_tree_element(FILE *output, struct memory file, const void *element)
+{
+    const bootimg_tree_element *one = element;
+    fprintf(output, "element %u %u ", (unsigned)one->kind, (unsigned)one->depth);
+    print_bytes(output, file, one->name);
+    print_found(output, file, one->value);
+    fputc('\n', output);
+}
+
 static int is_same_region(bootimg_region one, bootimg_region other)
 {
     return one.offset == other.offset && one.size == other.size;
@@ -394,6 +403,7 @@ static void print_elements(FILE *output, struct memory file, int which)
         [CONFIGURATIONS] = {"configurations", "default", print_configuration},
         [VERDICTS] = {"verdicts", NULL, print_verdict},
         [CONCERNS] = {"concerns", NULL, print_concern},
+        [NODES] = {"nodes", NULL, print_tree_element},
     };
     const struct call call = {.call = which, .file = file};
     bootimg_result answer;
@@ -589,6 +599,7 @@ static void *take_apart(void *argument)
         print_elements(output, file, CONFIGURATIONS);
         print_elements(output, file, VERDICTS);
         print_tree(output, file);
+        print_elements(output, file, NODES);
         print_concerns(output, file);
         try_null(file);
         try_numbers(file);

@@ -20,6 +20,7 @@ import bootimg
 import reference
 
 LEGACY_MAGIC, FIT_MAGIC = bytes.fromhex("27051956"), bytes.fromhex("d00dfeed")
+FIT_CALLS = ("fit", "reservations", "images", "configurations", "verdicts", "properties", "children", "nodes")
 PLACES = (None, "data", "data-offset", "data-position")
 
 
@@ -39,7 +40,7 @@ def lines_of(path):
     yield from legacy_lines(image) if image and image.kind == "legacy" else refusals(
         ("legacy", "parts"), "BadMagic at 0" if image or magic == FIT_MAGIC else refusal)
     yield from fit_lines(image, path) if image and image.kind == "fit" else refusals(
-        ("fit", "reservations", "images", "configurations", "verdicts", "properties", "children"), "BadMagic at 0" if image or magic == LEGACY_MAGIC else refusal)
+        FIT_CALLS, "BadMagic at 0" if image or magic == LEGACY_MAGIC else refusal)
     yield from concern_lines(path) if image else refusals(("concerns",), refusal)
 
 
@@ -68,7 +69,9 @@ def fit_lines(image, path):
     yield f"default {names.index(image.default) if image.default in names else len(names)}"
     report = bootimg.verify_json(path.read_bytes()).text
     yield from map(hash_line, json.loads(report)["hashes"])
-    yield from node_lines(b"/", reference.Blob(path.read_bytes()).root)
+    root = reference.Blob(path.read_bytes()).root
+    yield from node_lines(b"/", root)
+    yield from element_lines(0, root)
 
 
 def hash_line(one):
@@ -101,6 +104,14 @@ def node_lines(path, node):
     yield from (f"property {name.hex()} {value.hex() or '-'}" for name, value in node.properties.items())
     for child in node.children:
         yield from node_lines(path.rstrip(b"/") + b"/" + child.name, child)
+
+
+def element_lines(depth, node):
+    """The lines of the elements of a node of the vectors' reference, and of the nodes below it."""
+    yield f"element 1 {depth} {node.name.hex() or '-'} none"
+    yield from (f"element 2 {depth + 1} {name.hex()} {value.hex() or '-'}" for name, value in node.properties.items())
+    for child in node.children:
+        yield from element_lines(depth + 1, child)
 
 
 def key_line(image, configuration, number, key):

@@ -29,7 +29,8 @@ COMMANDS = {
     "extract": {"--part", "--image", "--config", "--default", "--key", "--index"},
     "list": {"--json"},
     "describe": {"--json"},
-    "show": {"--layout"},
+    "scan": {"--json"},
+    "show": {"--layout", "--json"},
     "verify": {"--json"},
     "check": {"--allow", "--signed", "--json"},
     "convert": set(),
@@ -83,7 +84,7 @@ def words_for_calls(words):
         result += value
     if command == "update" and not seen & {"--time", "--hashes"} or command == "extract" and len(seen & SELECTIONS) != 1:
         return None
-    if "--part" in seen and "--index" in seen or "--align" in seen and "--external" not in seen:
+    if "--part" in seen and "--index" in seen or "--align" in seen and "--external" not in seen or {"--layout", "--json"} <= seen:
         return None
     return result
 

@@ -1,0 +1,1 @@
+use Rattle.bi_c.proofs.ignoring.ignored_words.Goals as goal

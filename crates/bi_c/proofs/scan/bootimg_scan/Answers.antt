@@ -1,0 +1,17 @@
+use Rattle.std.proofs.Common.{refl, string_bytes}
+use Rattle.bi_common.specs.declared.format.Format.TheVariants.{Lines}
+use Rattle.bi_report.specs.Scanning.{IsScanError, IsScanText}
+use Rattle.bi_c.specs.declared.failure.Failure.TheVariants.{WrongArgument}
+use Rattle.bi_c.specs.Answers.{FilledNothing}
+use Rattle.bi_c.proofs.CallAnswers.{not_so, is_so, text_fills}
+use Rattle.bi_c.proofs.scan.bootimg_scan.Goals as goal
+
+pub returns-in_default : goal.returns-in_default
+returns-in_default c = FilledNothing WrongArgument (not_so _ c.in_default.ensures.in_range) refl c.fail.ensures.answer c.fail.ensures.status
+
+pub returns : goal.returns
+returns c =
+    text_fills c.args.limit c.args.depth (λ limits text. IsScanText Lines limits c.args.file.now text)
+    (λ limits. IsScanError limits c.args.file.now) (λ text. string_bytes text) c.in-Some.limits c.scan.result _ _ _ _
+    (is_so _ c.in-Some.ensures.in_range) c.in-Some.ensures.value (λ l is. is) (λ l is. is) c.scan.ensures.scanned
+    c.scan.ensures.failed c.fill_text.ensures

@@ -1,0 +1,17 @@
+use Rattle.std.proofs.Common.{refl, string_bytes}
+use Rattle.bi_report.specs.CheckedFiles.{IsCheckError}
+use Rattle.bi_show.specs.ShownObjects.{IsShownObject}
+use Rattle.bi_c.specs.declared.failure.Failure.TheVariants.{WrongArgument}
+use Rattle.bi_c.specs.Answers.{FilledNothing}
+use Rattle.bi_c.proofs.CallAnswers.{not_so, is_so, text_fills}
+use Rattle.bi_c.proofs.show.bootimg_show_json.Goals as goal
+
+pub returns-in_default : goal.returns-in_default
+returns-in_default c = FilledNothing WrongArgument (not_so _ c.in_default.ensures.in_range) refl c.fail.ensures.answer c.fail.ensures.status
+
+pub returns : goal.returns
+returns c =
+    text_fills c.args.limit c.args.depth (λ limits text. IsShownObject limits c.args.file.now text)
+    (λ limits. IsCheckError limits c.args.file.now) (λ text. string_bytes text) c.in-Some.limits c.show_json.result _ _ _ _
+    (is_so _ c.in-Some.ensures.in_range) c.in-Some.ensures.value (λ l is. is) (λ l is. is) c.show_json.ensures.shown
+    c.show_json.ensures.failed c.fill_text.ensures

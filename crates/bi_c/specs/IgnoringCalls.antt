@@ -1,0 +1,86 @@
+use Rattle.std.specs.Prelude.{ℕ, ◌≡◌, ⊤, Bool, false, List, map}
+use Rattle.std.specs.List.{AllByRecursion}
+use Rattle.bi_base.specs.Limits.{IsInRange}
+use Rattle.bi_common.specs.declared.format.Format.{Format}
+use Rattle.bi_describe.specs.ComparingWithout.{AreComparedWithout, IsIgnoringError}
+use Rattle.bi_describe.specs.IgnoredWords.{AreWordsOfValues, IsFirstBadIgnored}
+use Rattle.bi_describe.specs.Ignoring.{Ignored}
+use Rattle.bi_describe.specs.declared.ignored.IgnoredError.{IgnoredError}
+use Rattle.bi_describe.specs.declared.ignored.IgnoredError.TheVariants as ignored
+use Rattle.bi_c.specs.Arguments.{bounds}
+use Rattle.bi_c.specs.Calls.{IsFailureOfTwo, flag}
+use Rattle.bi_c.specs.PieceBuilding.{IsPieceInside, bytes_of_piece}
+use Rattle.bi_c.specs.declared.failure.Failure.{Failure}
+use Rattle.bi_c.specs.declared.failure.Failure.TheVariants.{WrongArgument, Refused, OutOfMemory}
+use Rattle.bi_c.specs.declared.failure.Failure.TheVariants.{NotFound}
+use Rattle.bi_c.specs.declared.region.Region.{Region}
+
+-- What a call from C returns that compares two files without what words name (profile of this
+-- project).
+
+-- The bytes of regions of an input.
+abbrev pub pieces_in : (input : List ℕ) → List Region → List (List ℕ)
+pieces_in input regions = map (bytes_of_piece input) regions
+
+-- The limits are in their ranges, and the regions are inside the input.
+pub record HasInsideWords (limit depth : ℕ) (input : List ℕ) (regions : List Region) : Type 0 where
+  pub limits : IsInRange limit depth
+  pub inside : AllByRecursion (IsPieceInside input) regions
+
+-- The arguments are so, and the bytes in the regions are for these words.
+pub record HasIgnoredWords (limit depth : ℕ) (input : List ℕ) (regions : List Region)
+    (words : List Ignored) : Type 0
+  where
+    pub arguments : HasInsideWords limit depth input regions
+    pub are_words : AreWordsOfValues (pieces_in input regions) words
+
+-- The text is what differs between two files without what the words name, in a form, and the
+-- number says whether they mean the same without it.
+pub record IsWithoutWords (format : Format) (limit depth : ℕ) (input : List ℕ)
+    (regions : List Region) (one other text : List ℕ) (value : ℕ) : Type 0
+  where
+    pub words : List Ignored
+    pub arguments : HasIgnoredWords limit depth input regions words
+    pub same : Bool
+    pub number : value ≡ flag same
+    pub is : AreComparedWithout (record { words = words; quiet = false; format = format })
+        (bounds limit depth) one other same text
+
+-- The failure for an error of reading words.
+abbrev pub failure_of_ignored_error : IgnoredError → Failure
+failure_of_ignored_error (ignored.BadValue index) = NotFound 16 index
+failure_of_ignored_error ignored.OutOfMemory = OutOfMemory
+
+-- The numbers of the reason that the word with this index is the first that names nothing.
+pub record IsBadWord (input : List ℕ) (regions : List Region) (reason index : ℕ) : Type 0 where
+  pub is_reason : reason ≡ 16
+  pub is_first : IsFirstBadIgnored (pieces_in input regions) index
+
+-- Why regions of an input have no words.
+abbrev pub IsWordsFailure : (input : List ℕ) → List Region → Failure → Type 0
+IsWordsFailure input regions WrongArgument = ¬ (AllByRecursion (IsPieceInside input) regions)
+IsWordsFailure input regions OutOfMemory = ⊤
+IsWordsFailure input regions (NotFound reason index) =
+    AllByRecursion (IsPieceInside input) regions × IsBadWord input regions reason index
+IsWordsFailure input regions (Refused file fault) = ⊥
+
+-- Two files with valid words are refused.
+pub record IsRefusedWithWords (limit depth : ℕ) (input : List ℕ) (regions : List Region)
+    (one other : List ℕ) (failure : Failure) : Type 0
+  where
+    pub words : List Ignored
+    pub arguments : HasIgnoredWords limit depth input regions words
+    pub is_failure : IsFailureOfTwo limit depth (IsIgnoringError (bounds limit depth) one other)
+        failure
+
+-- Why two files were not compared without what words name: an argument is not valid, a word names
+-- nothing, or comparing them fails. Memory can run out as soon as the limits are in their ranges.
+abbrev pub IsIgnoringFailure : (limit depth : ℕ) → (input : List ℕ) → List Region
+    → (one other : List ℕ) → Failure → Type 0
+IsIgnoringFailure limit depth input regions one other WrongArgument =
+    ¬ (HasInsideWords limit depth input regions)
+IsIgnoringFailure limit depth input regions one other (NotFound reason index) =
+    HasInsideWords limit depth input regions × IsBadWord input regions reason index
+IsIgnoringFailure limit depth input regions one other OutOfMemory = IsInRange limit depth
+IsIgnoringFailure limit depth input regions one other (Refused file fault) =
+    IsRefusedWithWords limit depth input regions one other (Refused file fault)
