@@ -131,7 +131,7 @@ enum bootimg_cause {
 #define BOOTIMG_NO_PROPERTY 11u
 #define BOOTIMG_NO_TEXT 12u
 #define BOOTIMG_NO_NUMBER 13u
-#define BOOTIMG_BAD_WORD 14u
+#define BOOTIMG_BAD_WORD 16u
 
 /* `form` of a value. */
 #define BOOTIMG_VALUE_SHOWN 0u

@@ -149,7 +149,7 @@ VALUE_FORMS = ("shown", "text", "number", "raw")
 
 _OK, _REFUSED, _OUT_OF_MEMORY, _NO_ROOM, _WRONG_ARGUMENT, _NOT_FOUND = range(6)
 _MISSING = 7
-_BAD_WORD = 14
+_BAD_WORD = 16
 _SIGNED = 32768
 
 

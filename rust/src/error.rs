@@ -199,7 +199,7 @@ pub(crate) fn failure(status: u32, answer: &sys::Answer) -> Error {
         (_, 11) => Error::NoProperty,
         (_, 12) => Error::NoText,
         (_, 13) => Error::NoNumber,
-        (_, 14) => Error::BadWord(answer.value),
+        (_, 16) => Error::BadWord(answer.value),
         _ => Error::Unknown,
     }
 }

@@ -48,12 +48,12 @@ pub record IsWithoutWords (format : Format) (limit depth : ℕ) (input : List �
 
 -- The failure for an error of reading words.
 abbrev pub failure_of_ignored_error : IgnoredError → Failure
-failure_of_ignored_error (ignored.BadValue index) = NotFound 14 index
+failure_of_ignored_error (ignored.BadValue index) = NotFound 16 index
 failure_of_ignored_error ignored.OutOfMemory = OutOfMemory
 
 -- The numbers of the reason that the word with this index is the first that names nothing.
 pub record IsBadWord (input : List ℕ) (regions : List Region) (reason index : ℕ) : Type 0 where
-  pub is_reason : reason ≡ 14
+  pub is_reason : reason ≡ 16
   pub is_first : IsFirstBadIgnored (pieces_in input regions) index
 
 -- Why regions of an input have no words.

@@ -29,7 +29,7 @@ pub record IgnoringCallsAreKnown : Type 0 where
       (lines (codes "+node /images/a" ∷ codes "+payload /images/a none" ∷ [])) 0
   pub bad_word : (one other : List ℕ) → IsIgnoringFailure 0x7fffffff 64 (codes "timex")
       (region_at_offset 0 4 ∷ region_at_offset 4 0 ∷ region_at_offset 4 1 ∷ []) one other
-      (NotFound 14 1)
+      (NotFound 16 1)
   pub outside : (one other : List ℕ) → IsIgnoringFailure 0x7fffffff 64 (codes "time")
       (region_at_offset 1 4 ∷ []) one other WrongArgument
   pub refused : IsIgnoringFailure 0x7fffffff 64 [] [] file_without_magic kernel_file

@@ -22,7 +22,7 @@ use bi_commands::ignored::{Ignored, IgnoredError};
 use std::alloc::Global;
 
 /// The number of the reason that a word names nothing that can be left out.
-const BAD_WORD: u32 = 14;
+const BAD_WORD: u32 = 16;
 
 /// Writes the differences between what two files mean once something is left out of both to a
 /// buffer, and sets `answer.value` to 1 if they then mean the same, and otherwise to 0. The words
