@@ -2,8 +2,10 @@
 # Measures what normalising 64 MiB by the library for C takes: a legacy image and a flattened image tree. It fails if a call takes more than
 # 1.05 times as long as the program with the same file, which also reads it and writes the output; or more than twice as long as a call
 # without a buffer, which checks the file and counts the output, and copying as many bytes. A call took less than half as long as the
-# program, and as long as these two. Each is the median of the rounds, and the ratios are printed. The script needs gcc and python3, and
-# installs Debian's if one is missing and it runs as root.
+# program, and as long as these two. Each is the median of the rounds, and the ratios are printed.
+# Then it measures what the module for Python takes to read one property of each of 577 nodes of a tree with 576 devicetrees, and one value
+# and the payload of each of 900 images, after `bootimg.open`. The bounds are in tests/costs/many_nodes.py. The script needs gcc and python3,
+# and installs Debian's if one is missing and it runs as root.
 set -u
 
 root=$(cd "$(dirname "$0")/../.." && pwd)
@@ -57,4 +59,11 @@ for image in legacy tree; do
         echo "FAILED: normalising 64 MiB: $image"
     fi
 done
+
+# The module.
+check "the shared library is linked" gcc -shared -o libbootimg.so -Wl,--whole-archive "$library" -Wl,--no-whole-archive "$heap"
+BOOTIMG_LIBRARY=$PWD/libbootimg.so
+PYTHONPATH=$root/python
+export BOOTIMG_LIBRARY PYTHONPATH
+passes python3 -B "$root/tests/costs/many_nodes.py"
 finish
