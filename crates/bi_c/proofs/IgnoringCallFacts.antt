@@ -1,26 +1,71 @@
-use Rattle.std.proofs.Common.{◌≡◌, arith, inl, refl, [], ◌∷◌}
+use Rattle.std.proofs.Common.{arith, codes, false, inl, lit≤, refl, true, [], ◌∷◌}
 use Rattle.bi_base.specs.Limits.{widest}
 use Rattle.bi_blob.specs.KnownTexts.{smallest_text}
-use Rattle.bi_describe.specs.ComparingWithout.{AreMeanings}
-use Rattle.bi_describe.specs.Ignoring.{IgnoredNode}
+use Rattle.bi_common.specs.declared.format.Format.{Format}
+use Rattle.bi_common.specs.declared.format.Format.TheVariants.{Lines, Json}
+use Rattle.bi_describe.specs.Comparing.{comparison_text}
+use Rattle.bi_describe.specs.ComparingWithout.{AreComparedWithout}
+use Rattle.bi_describe.specs.Ignoring.{Ignored, IgnoredNode}
 use Rattle.bi_describe.specs.KnownIgnored.{own_node}
 use Rattle.bi_describe.proofs.ComparedWithoutFacts.{compared_without_is_known, ignored_values_are_known, ignoring_errors_are_known}
-use Rattle.bi_describe.proofs.DescribedFileFacts.{bare, small}
+use Rattle.bi_describe.proofs.DescribedFileFacts.{bare, only_bare, only_smallest, small, tree_of_bare_file, tree_of_smallest_text}
 use Rattle.bi_describe.proofs.IgnoredFacts.{ignored_words_are_known}
 use Rattle.bi_legacy.specs.Laws.{OneLegacyMeaning}
+use Rattle.bi_fit.specs.KnownFiles.{bare_file}
+use Rattle.bi_norm.specs.Meaning.{OfFit}
+use Rattle.bi_c.specs.IgnoringCalls.{HasIgnoredWords}
+use Rattle.bi_c.specs.KnownElements.{region_at_offset}
 use Rattle.bi_c.specs.KnownIgnoringCalls.{IgnoringCallsAreKnown}
 use Rattle.bi_c.proofs.AnswerFacts.{widest_is_in_range}
 
 -- What the calls return for small files that compare without what words name is known.
 
+-- The word for the root, in a region of an input.
+abbrev root_word : Ignored
+root_word = IgnoredNode (own_node [])
+
+root_words : HasIgnoredWords 0x7fffffff 64 (codes "x/") (region_at_offset 1 1 ∷ []) (root_word ∷ [])
+root_words = record {
+  arguments = record { limits = widest_is_in_range; inside = (lit≤ tt, tt) };
+  are_words = record { first = root_word ∷ []; others = []; is_first = ignored_words_are_known.root; is_other = refl; are = refl };
+}
+
+-- Without the root, both trees are the same.
+without_root : OneLegacyMeaning → (format : Format) →
+    AreComparedWithout (record { words = root_word ∷ []; quiet = false; format = format }) widest smallest_text bare_file true
+    (comparison_text format true [])
+without_root one_legacy format = record {
+  are = record {
+    meaning = OfFit tree_of_smallest_text;
+    other_meaning = OfFit tree_of_bare_file;
+    means = only_smallest one_legacy;
+    other_means = only_bare one_legacy;
+  };
+  described = small one_legacy;
+  other_described = bare one_legacy;
+  differs = record { is_same = (λ _. refl, λ _. refl); lines = []; are_lines = refl; empty = (λ _. refl, λ _. refl); is_text = refl };
+}
+
 pub ignoring_calls_are_known : OneLegacyMeaning → IgnoringCallsAreKnown
 ignoring_calls_are_known one_legacy = record {
   words = record {
-    arguments = record { limits = widest_is_in_range; inside = (omega arith, omega arith, tt) };
+    arguments = record { limits = widest_is_in_range; inside = (lit≤ tt, (lit≤ tt, tt)) };
     are_words = ignored_values_are_known.two;
   };
-  same = ?;
-  same_json = ?;
+  same = record {
+    words = root_word ∷ [];
+    arguments = root_words;
+    same = true;
+    number = refl;
+    is = without_root one_legacy Lines;
+  };
+  same_json = record {
+    words = root_word ∷ [];
+    arguments = root_words;
+    same = true;
+    number = refl;
+    is = without_root one_legacy Json;
+  };
   different = record {
     words = [];
     arguments = record { arguments = record { limits = widest_is_in_range; inside = tt }; are_words = refl };
@@ -29,13 +74,13 @@ ignoring_calls_are_known one_legacy = record {
     is = (compared_without_is_known one_legacy).different;
   };
   bad_word = λ one other. (
-    record { limits = widest_is_in_range; inside = (omega arith, omega arith, omega arith, tt) },
+    record { limits = widest_is_in_range; inside = (lit≤ tt, (lit≤ tt, (lit≤ tt, tt))) },
     record { is_reason = refl; is_first = ignored_values_are_known.second },
   );
   outside = λ one other has. omega (arith, has.inside.0);
   refused = record {
     words = [];
     arguments = record { arguments = record { limits = widest_is_in_range; inside = tt }; are_words = refl };
-    is_failure = (widest_is_in_range, inl (refl, ignoring_errors_are_known.no_magic_first));
+    is_failure = (widest_is_in_range, inl (refl, (ignoring_errors_are_known one_legacy).no_magic_first));
   };
 }

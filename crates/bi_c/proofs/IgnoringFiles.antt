@@ -32,15 +32,15 @@ module _ (limit depth : ℕ) (input : List ℕ) (regions : List Region) (one oth
     has_words : HasIgnoredWords limit depth input regions words
     has_words = record { arguments = record { limits = in_range; inside = inside }; are_words = are }
 
-    pub without_words : (format : Format) (yes : Bool) (text : List ℕ) →
-        AreComparedWithout (record { words = words; quiet = false; format = format }) limits one other yes text →
-        IsWithoutWords format limit depth input regions one other text (flag yes)
-    without_words format yes text is = record {
+    pub without_words : (format : Format) (told : Bool) (text : List ℕ) →
+        AreComparedWithout (record { words = words; quiet = false; format = format }) limits one other told text →
+        IsWithoutWords format limit depth input regions one other text (flag told)
+    without_words format told text is = record {
       words = words;
       arguments = has_words;
-      same = yes;
+      same = told;
       number = refl;
-      is = subst (λ (l : Limits). AreComparedWithout (record { words = words; quiet = false; format = format }) l one other yes text) same
+      is = subst (λ (l : Limits). AreComparedWithout (record { words = words; quiet = false; format = format }) l one other told text) same
           is;
     }
 

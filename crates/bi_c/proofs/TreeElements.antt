@@ -1,7 +1,7 @@
 use Rattle.std.proofs.Common.{◌≡◌, ◌+◌, ◌<◌, ◌≤◌, ◌++◌, ◌∷◌, [], ◌^◌, ℕ, List, map, max, ap, refl, sym, subst, ◌∙◌, append_assoc, append-nil, arith}
 use Rattle.bi_base.specs.Limits.{Limits, IsInRange}
 use Rattle.bi_blob.specs.Lookups.{Sibling, root_node}
-use Rattle.bi_blob.specs.Tree.{FileNode, Root, node, as_nodes, depth}
+use Rattle.bi_blob.specs.Tree.{FileNode, Root, node, as_nodes, depth as levels}
 use Rattle.bi_fdt.specs.Content.{root_of}
 use Rattle.bi_fit.specs.Content.{FitModel, tree_of}
 use Rattle.bi_fit.specs.NormalNodes.{alone}
@@ -48,6 +48,12 @@ module _ (limit depth : ℕ) (file : List ℕ) (limits : Limits) (content : FitM
   read_bytes =
       subst (λ (root : Root FileNode). HaveNodeBytes file (as_nodes root)) read.same_root
       (all_node_bytes file content.blob.cpu content.blob.reservations read.means.is_file.root read.means.is_file.blob)
+
+  -- there are few levels of them,
+  pub few_levels : IsInRange limit depth → levels (alone (root_node (root_of content.blob))) < 2 ^ 32
+  few_levels in_range =
+      subst (λ (root : Root FileNode). levels (as_nodes root) < 2 ^ 32) read.same_root
+      (omega (arith, read.means.within.shallow, ap (λ (l : Limits). l.depth) same, in_range.3))
 
   -- and their elements are those of the file.
   pub are_tree_elements : (elements : List TreeElement) → IsInRange limit depth →

@@ -102,7 +102,7 @@ fn add_node(
     requires header { 16 ≤ length file.now }
     requires bytes { HaveNodeBytes file.now (alone (node_of node)) }
     requires few { above + levels (alone (node_of node)) < 2 ^ 32 }
-    ensures added { OnOk result (elements.new.items ≡ elements.old.items
+    ensures { OnOk result (elements.new.items ≡ elements.old.items
         ++ elements_of_nodes file.now above (alone (node_of node.entry))) }
 {
     elements.push(node_element(above, node))?;
@@ -123,7 +123,7 @@ fn add_children(
     requires header { 16 ≤ length file.now }
     requires bytes { HaveNodeBytes file.now (node_of node).children }
     requires few { above + levels (node_of node).children < 2 ^ 32 }
-    ensures added { OnOk result (elements.new.items ≡ elements.old.items
+    ensures { OnOk result (elements.new.items ≡ elements.old.items
         ++ elements_of_nodes file.now above (node_of node.entry).children) }
 {
     let mut next = node.first_child();
@@ -145,7 +145,7 @@ fn add_properties(
 ) -> Result<(), AllocError>
     requires header { 16 ≤ length file.now }
     requires regions { AllByRecursion (HasPropertyBytes file.now) (node_of node).own.properties }
-    ensures added { OnOk result (elements.new.items ≡ elements.old.items
+    ensures { OnOk result (elements.new.items ≡ elements.old.items
         ++ map (property_in_tree file.now above) (node_of node.entry).own.properties) }
 {
     for property in node.properties() {

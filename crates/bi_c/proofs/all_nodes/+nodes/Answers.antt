@@ -1,4 +1,4 @@
-use Rattle.std.proofs.Common.{◌≡◌, ◌+◌, ◌≤◌, ◌++◌, refl, sym, suc, length, max, Some, ap, subst, ◌∙◌, append-nil, arith}
+use Rattle.std.proofs.Common.{◌≡◌, ◌+◌, ◌≤◌, ◌++◌, ◌∷◌, [], refl, sym, suc, length, max, Some, ap, subst, ◌∙◌, append-nil, arith}
 use Rattle.std.specs.Option.{option_map}
 use Rattle.bi_blob.specs.Tree.{depth}
 use Rattle.bi_blob.specs.Lookups.{siblings}
@@ -6,6 +6,7 @@ use Rattle.bi_fdt.specs.Views.{node_of}
 use Rattle.bi_fit.specs.NormalNodes.{alone}
 use Rattle.bi_fit.proofs.NodeEvents.{nodes_from, nodes_from_first}
 use Rattle.bi_report.proofs.UnitAddresses.{added_first}
+use Rattle.bi_c.specs.declared.all_nodes.TreeElement.{TreeElement}
 use Rattle.bi_c.specs.TreeElements.{tree_elements}
 use Rattle.bi_c.specs.TreeRegions.{HaveNodeBytes}
 use Rattle.bi_c.proofs.TreeElements.{elements_first, node_elements}
@@ -28,7 +29,7 @@ add_children-add_node-requires t c =
     let bytes : HaveNodeBytes c.args.file.now (nodes_from (Some s)) = subst
     (HaveNodeBytes c.args.file.now) here c.loop-next.invariant.bytes in (
       omega arith,
-      (c.requires.header, (bytes.0, (bytes.1, (bytes.2, tt))), omega (arith, c.requires.few)),
+      (c.requires.header, ((bytes.0, bytes.1, bytes.2, tt), omega (arith, c.requires.few, shallow))),
     )
 
 pub add_children-loop-next-smaller : goal.add_children-loop-next-smaller
@@ -59,12 +60,12 @@ add_children-loop-next-preserved t c =
     rw rest (record {
       bytes = bytes.3;
       left = added_first c.loop-next.elements.items (tree_elements file above (alone s)) (tree_elements file above s.later) target
-          c.add_node.new.elements.items left c.in_ok-add_node.ensures.added;
+          c.add_node.new.elements.items left c.in_ok-add_node.ensures;
       shallow = omega arith;
     })
 
-pub add_children-returns-clause-added : goal.add_children-returns-clause-added
-add_children-returns-clause-added t c =
+pub add_children-returns : goal.add_children-returns
+add_children-returns t c =
     let file = c.args.file.now in
     let target = c.args.elements.now.items ++ tree_elements file c.args.above (node_of c.args.node).children in
     let none_left = ap (λ next. nodes_from (option_map node_of next)) c.in_default.is in
@@ -73,9 +74,14 @@ add_children-returns-clause-added t c =
 
 pub add_node-add_children-requires : goal.add_node-add_children-requires
 add_node-add_children-requires t c =
-    (omega arith, (c.requires.header, c.requires.bytes.2, omega (arith, c.requires.few)))
+    (omega arith, (c.requires.header, (c.requires.bytes.2, omega (arith, c.requires.few))))
 
-pub add_node-returns-clause-added : goal.add_node-returns-clause-added
-add_node-returns-clause-added t c =
+pub add_node-add_properties-requires-clause-regions : goal.add_node-add_properties-requires-clause-regions
+add_node-add_properties-requires-clause-regions t c = c.requires.bytes.1
+
+pub add_node-returns : goal.add_node-returns
+add_node-returns t c =
     node_elements c.args.file.now c.args.above (node_of c.args.node) c.args.elements.now.items c.push.new.self.items
-    c.add_properties.new.elements.items c.add_children.new.elements.items ? ? ?
+    c.add_properties.new.elements.items c.add_children.new.elements.items
+    (c.in_ok-push.ensures.items ∙ ap (λ (e : TreeElement). c.args.elements.now.items ++ e ∷ []) c.node_element.ensures)
+    c.in_ok-add_properties.ensures c.in_ok-add_children.ensures

@@ -1,1 +1,0 @@
-use Rattle.bi_c.proofs.ignoring.ignored_words.Goals as goal
