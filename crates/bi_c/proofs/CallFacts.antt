@@ -278,7 +278,7 @@ call_answers_are_known = record {
 }
 
 -- The alignment of 4096 bytes.
-page_align : Align
+abbrev page_align : Align
 page_align = record { bytes = 4096; is_alignment = record { exponent = 12; least = lit≤ tt; most = lit≤ tt; is_power = refl } }
 
 -- A form with the number 4096 has this alignment.

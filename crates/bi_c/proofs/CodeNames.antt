@@ -34,17 +34,17 @@ ascii_by_test (byte ∷ later) passes =
 no_name_without_text : (names : List CodeName) → HasAsciiNames names → (name : List ℕ) → ¬ (IsUtf8 name) →
     code_of_name names name ≡ None
 no_name_without_text [] are name no_text = refl
-no_name_without_text (entry ∷ later) are name no_text = by (bytes_eq entry.name name) refl
+no_name_without_text (entry ∷ later) are name no_text =
+    let parts = and_parts (list_all (λ byte. ltb byte 128) entry.name)
+    (list_all (λ (entry : CodeName). list_all (λ byte. ltb byte 128) entry.name) later) are in
+    by parts.0 (no_name_without_text later parts.1 name no_text) (bytes_eq entry.name name) refl
   where
-    parts : (list_all (λ byte. ltb byte 128) entry.name ≡ true) × HasAsciiNames later
-    parts = and_parts (list_all (λ byte. ltb byte 128) entry.name)
-        (list_all (λ (entry : CodeName). list_all (λ byte. ltb byte 128) entry.name) later) are
-
-    by : (b : Bool) → bytes_eq entry.name name ≡ b → cond b (Some entry.code) (code_of_name later name) ≡ None
-    by true same = absurd
+    by : list_all (λ byte. ltb byte 128) entry.name ≡ true → code_of_name later name ≡ None → (b : Bool) →
+        bytes_eq entry.name name ≡ b → cond b (Some entry.code) (code_of_name later name) ≡ None
+    by ascii rest true same = absurd
         (no_text (subst IsUtf8 (same_bytes entry.name name same)
-        (IsUtf8-from_ascii entry.name (is_ascii entry.name (ascii_by_test entry.name parts.0)))))
-    by false other = no_name_without_text later parts.1 name no_text
+        (IsUtf8-from_ascii entry.name (is_ascii entry.name (ascii_by_test entry.name ascii)))))
+    by ascii rest false other = rest
 
 -- The names of a field, by the tests of its number.
 abbrev names_by : (first second third : Bool) → List CodeName
@@ -78,19 +78,19 @@ AreFirst names entries = list_all (λ (entry : CodeName). is_this (code_of_name 
 code_of_its_name : (names entries : List CodeName) → AreFirst names entries → (code : ℕ) (name : List ℕ) →
     name_of_code entries code ≡ Some name → code_of_name names name ≡ Some code
 code_of_its_name names [] are code name is = absurd (let wrong : None ≡ Some name = is in cc)
-code_of_its_name names (entry ∷ later) are code name is = by (entry.code == code) refl is
+code_of_its_name names (entry ∷ later) are code name is =
+    let parts = and_parts (is_this (code_of_name names entry.name) entry.code)
+    (list_all (λ (entry : CodeName). is_this (code_of_name names entry.name) entry.code) later) are in
+    by parts.0 (code_of_its_name names later parts.1 code name) (entry.code == code) refl is
   where
-    parts : (is_this (code_of_name names entry.name) entry.code ≡ true) × AreFirst names later
-    parts = and_parts (is_this (code_of_name names entry.name) entry.code)
-        (list_all (λ (entry : CodeName). is_this (code_of_name names entry.name) entry.code) later) are
-
-    by : (b : Bool) → (entry.code == code) ≡ b → cond b (Some entry.name) (name_of_code later code) ≡ Some name →
-        code_of_name names name ≡ Some code
-    by true same this =
+    by : is_this (code_of_name names entry.name) entry.code ≡ true →
+        (name_of_code later code ≡ Some name → code_of_name names name ≡ Some code) → (b : Bool) → (entry.code == code) ≡ b →
+        cond b (Some entry.name) (name_of_code later code) ≡ Some name → code_of_name names name ≡ Some code
+    by first rest true same this =
         let named : entry.name ≡ name = cc in
         subst (λ (text : List ℕ). code_of_name names text ≡ Some code) named
-        (this_by_test (code_of_name names entry.name) entry.code parts.0 ∙ ap Some (eqb-true entry.code code same))
-    by false other next = code_of_its_name names later parts.1 code name next
+        (this_by_test (code_of_name names entry.name) entry.code first ∙ ap Some (eqb-true entry.code code same))
+    by first rest false other next = rest next
 
 -- The names of each field.
 code_of_its_name_of_field : (field code : ℕ) (name : List ℕ) → name_of_code (names_of_field field) code ≡ Some name →
@@ -115,14 +115,14 @@ finds_code field code name is_field found =
   where
     fails : (failure : Failure) → IsCodeNumberFailure field name failure → failure ≡ OutOfMemory
     fails WrongArgument is = absurd (is is_field)
-    fails (NotFound reason index) is = absurd (let wrong : None ≡ Some code = sym is.1.0 ∙ found in cc)
+    fails (NotFound reason index) is = absurd (let wrong : None ≡ Some code = sym is.1 ∙ found in cc)
     fails (Refused file fault) is = absurd is
     fails OutOfMemory is = absurd is
 
 -- No code has the name `linux` in the field of types.
 no_code_fails : (failure : Failure) → IsCodeNumberFailure 2 (codes "linux") failure → (failure ≡ NotFound 15 0) ⊎ (failure ≡ OutOfMemory)
 no_code_fails WrongArgument is = absurd (is (lit< tt))
-no_code_fails (NotFound reason index) is = inl (λ i. NotFound (is.2.0 i) (is.2.1 i))
+no_code_fails (NotFound reason index) is = inl (λ i. NotFound (is.2 i) (is.3 i))
 no_code_fails (Refused file fault) is = absurd is
 no_code_fails OutOfMemory is = absurd is
 
@@ -148,7 +148,7 @@ wrong_numbers field code wrong before =
 -- The code 0 of an operating system has no name.
 no_name_fails : (failure : Failure) → IsCodeNameFailure 0 0 failure → (failure ≡ NotFound 14 0) ⊎ (failure ≡ OutOfMemory)
 no_name_fails WrongArgument is = absurd (is (record { is_field = lit< tt; is_code = lit< tt }))
-no_name_fails (NotFound reason index) is = inl (λ i. NotFound (is.2.0 i) (is.2.1 i))
+no_name_fails (NotFound reason index) is = inl (λ i. NotFound (is.2 i) (is.3 i))
 no_name_fails (Refused file fault) is = absurd is
 no_name_fails OutOfMemory is = absurd is
 

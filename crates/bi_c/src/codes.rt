@@ -1,6 +1,6 @@
 //! The names of the codes in legacy headers, and the codes of names.
 
-ghost use Rattle.std.specs.Prelude.{◌≡◌, option_map};
+ghost use Rattle.std.specs.Prelude.{◌≡◌, ◌↔◌, ◌<◌, IfSome, IsSome, option_map};
 ghost use Rattle.bi_legacy.specs.Codes.{name_of_code};
 ghost use Rattle.bi_show.specs.AllCodes.{code_of_name};
 ghost use Rattle.bi_c.specs.Answers.{Answers, FillsBuffer};
@@ -44,10 +44,13 @@ pub extern "C" fn bootimg_code_name(
     ensures { FillsBuffer (IsNameOfCode field code) (IsCodeNameFailure field code) buffer.old
         buffer.new answer.new result }
 {
-    if field > CODE_COMPRESSION || code > 255 {
+    if field > CODE_COMPRESSION {
         return fail(Failure::WrongArgument, answer);
     }
-    match name_in_field(field, code as u8) {
+    let Some(wanted) = code_of(code) else {
+        return fail(Failure::WrongArgument, answer);
+    };
+    match name_in_field(field, wanted) {
         Some(name) => fill(name.as_bytes(), 0, buffer, answer),
         None => fail(Failure::NotFound(NO_NAME, 0), answer),
     }
@@ -66,6 +69,17 @@ pub extern "C" fn bootimg_code_number(field: u32, name: &[u8], answer: &mut Answ
         Some(code) => succeed(0, usize::from(code), answer),
         None => fail(Failure::NotFound(NO_CODE, 0), answer),
     }
+}
+
+/// Returns the code with this number, if there is one.
+fn code_of(number: u32) -> Option<u8>
+    ensures in_range { IsSome result ↔ number < 256 }
+    ensures value { IfSome result (λ code. code ≡ number) }
+{
+    if number > 255 {
+        return None;
+    }
+    Some(number as u8)
 }
 
 /// Returns the name of a code of a field, or of a compression for any other number of a field.

@@ -49,8 +49,8 @@ returns-in-Ok c =
       are_numbers = c.numbers_of.ensures;
     }) c.succeed.ensures.answer c.succeed.ensures.status
 
-pub returns-in-Err : goal.returns-in-Err
-returns-in-Err c =
+pub returns : goal.returns
+returns c =
     let limits = c.in-Some.limits in
     let form = c.in-Some-form_of.kind in
     let changes = c.in-Some-changes_of.wanted in
