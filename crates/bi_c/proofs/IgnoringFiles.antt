@@ -2,7 +2,7 @@ use Rattle.std.proofs.Common.{◌≡◌, ℕ, Bool, false, List, refl, subst}
 use Rattle.std.specs.List.{AllByRecursion}
 use Rattle.bi_base.specs.Limits.{Limits, IsInRange}
 use Rattle.bi_common.specs.declared.format.Format.{Format}
-use Rattle.bi_describe.specs.ComparingWithout.{AreComparedWithout, IgnoringOptionsModel, IsIgnoringError}
+use Rattle.bi_describe.specs.ComparingWithout.{AreComparedWithout, IsIgnoringError}
 use Rattle.bi_describe.specs.IgnoredWords.{AreWordsOfValues}
 use Rattle.bi_describe.specs.Ignoring.{Ignored}
 use Rattle.bi_describe.specs.declared.compare.CompareError.{CompareError}

@@ -1,4 +1,4 @@
-use Rattle.std.proofs.Common.{◌≡◌, ◌+◌, ◌<◌, ◌≤◌, ◌++◌, ◌∷◌, [], ◌^◌, ℕ, List, map, max, ap, refl, sym, subst, ◌∙◌, append_assoc, append-nil, arith}
+use Rattle.std.proofs.Common.{◌≡◌, ◌+◌, ◌<◌, ◌++◌, ◌∷◌, [], ◌^◌, ℕ, List, map, ap, refl, sym, subst, ◌∙◌, append_assoc, append-nil, arith}
 use Rattle.bi_base.specs.Limits.{Limits, IsInRange}
 use Rattle.bi_blob.specs.Lookups.{Sibling, root_node}
 use Rattle.bi_blob.specs.Tree.{FileNode, Root, node, as_nodes, depth as levels}

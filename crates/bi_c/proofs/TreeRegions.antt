@@ -20,7 +20,7 @@ use Rattle.bi_fit.proofs.Meanings.{same_in_some}
 use Rattle.bi_fit.specs.ImageTree.{children_of}
 use Rattle.bi_fit.specs.Payloads.{IsAt}
 use Rattle.bi_c.specs.NodeElements.{node_below}
-use Rattle.bi_c.specs.TreeRegions.{AreBytesAt, HasNameBytes, HasPropertyBytes, HaveNodeBytes, children_of_found, node_name_region}
+use Rattle.bi_c.specs.TreeRegions.{HasNameBytes, HasPropertyBytes, HaveNodeBytes, children_of_found}
 
 -- The file has the names and the values of its tree at their places.
 

@@ -73,7 +73,7 @@ pub extern "C" fn bootimg_nodes(
 
 /// Returns the elements of a node without a parent, and of all nodes below it. Fails if memory runs
 /// out. Requires: the file has at least 16 bytes, and has the names and the values of these nodes
-/// at their places; there are less than 2^32 levels of nodes.
+/// at their places; there are fewer than 2^32 levels of nodes.
 fn tree_elements(
     alloc: Global,
     file: &[u8],

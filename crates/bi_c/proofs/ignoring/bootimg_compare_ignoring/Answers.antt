@@ -1,4 +1,4 @@
-use Rattle.std.proofs.Common.{false, refl, ap, string_bytes, subst, sym}
+use Rattle.std.proofs.Common.{false, refl, string_bytes, subst, sym}
 use Rattle.bi_common.specs.declared.format.Format.TheVariants.{Lines}
 use Rattle.bi_describe.specs.ComparingWithout.{AreComparedWithout, IsIgnoringError}
 use Rattle.bi_describe.specs.IgnoredWords.{AreWordsOfValues}
