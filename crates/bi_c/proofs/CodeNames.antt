@@ -1,5 +1,5 @@
 use Rattle.std.proofs.Common.{◌≡◌, ◌⊎◌, ◌==◌, ◌<◌, ℕ, Bool, true, false, cond, List, [], ◌∷◌, Option, None, Some, codes, bytes_eq}
-use Rattle.std.proofs.Common.{ap, ◌∙◌, inl, inr, refl, sym, subst, lit<, arith}
+use Rattle.std.proofs.Common.{ap, ◌∙◌, inl, refl, sym, subst, lit<, arith}
 use Rattle.std.specs.Prelude.{IsUtf8, ltb}
 use Rattle.std.specs.List.{list_all}
 use Rattle.std.proofs.lemmas.Bool.{and_parts, eqb-true, false≢true, ltb-true}

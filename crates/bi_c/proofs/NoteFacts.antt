@@ -1,5 +1,4 @@
-use Rattle.std.proofs.Common.{◌≡◌, ◌∙◌, ℕ, None, ap, refl, lit<, lit≤}
-use Rattle.bi_base.specs.Limits.{widest}
+use Rattle.std.proofs.Common.{◌∙◌, ap, refl, lit<}
 use Rattle.bi_commands.proofs.PromiseFacts.{kept_of_updates_is_known}
 use Rattle.bi_fit.specs.declared.form.Form.TheVariants.{Embedded, External}
 use Rattle.bi_fit.specs.KnownFiles.{three_embedded, three_external}

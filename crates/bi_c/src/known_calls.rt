@@ -103,8 +103,8 @@ pub fn value_calls_are_known()
     bi_legacy::laws::one_meaning();
 }
 
-/// The names of some codes are known, the codes of some names, and which numbers are wrong. The name
-/// of a code is the name of no other code.
+/// The names of some codes are known, the codes of some names, and which numbers are wrong. The
+/// name of a code is the name of no other code.
 pub fn names_of_codes_are_known()
     ensures { NamesOfCodesAreKnown }
 {}
