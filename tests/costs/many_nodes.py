@@ -1,17 +1,16 @@
 """Measures what the module for Python takes to look into large trees, and fails if that is more than a bound.
 
 A FIT of 576 devicetrees and a kernel: one property of each image. A FIT of 900 images: the payload of each by its path, and by its
-name. Each is done with a new image in each round, and the median of the rounds counts, without `bootimg.open`. The bounds are twice what
-was measured. The last line is `N passed, M failed`.
+name. Each is done with a new image in each round, without `bootimg.open`, and the shortest round counts, since other programs of the
+machine only lengthen one. The last line is `N passed, M failed`.
 """
 
-import statistics
 import sys
 import time
 
 import bootimg
 
-ROUNDS = 7
+ROUNDS = 15
 
 
 def tree_of(count):
@@ -51,10 +50,10 @@ for what, call, count, most in (
             taken.append(time.perf_counter() - begin)
             assert len(found) == count
             del found
-    median = statistics.median(taken)
-    print(f"{what} of {len(file)} bytes take {median:.4f} s, and at most {most} s")
-    failed += median > most
-    if median > most:
+    shortest = min(taken)
+    print(f"{what} of {len(file)} bytes take {shortest:.4f} s, and at most {most} s")
+    failed += shortest > most
+    if shortest > most:
         print(f"FAILED: {what}")
 print(f"{3 - failed} passed, {failed} failed")
 sys.exit(failed != 0)
