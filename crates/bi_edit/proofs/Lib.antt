@@ -14,5 +14,9 @@ pub mod KeptNodes
 pub mod KeptImages
 pub mod KeptDepths
 pub mod KeptDigests
+pub mod PlainBounds
+pub mod PartNumbers
+pub mod LegacyContents
 pub mod EditedFits
 pub mod EditedTrees
+pub mod EditedFiles

@@ -1,6 +1,7 @@
 //! Whether edits are of a kind of boot image.
 
-ghost use Rattle.std.specs.Prelude.{◌≡◌, ◌↔◌, ◌<◌, ◌^◌, IsTrue, IfOk, IfErr, OnOk, IfSome, IfNone};
+ghost use Rattle.std.specs.Prelude.{◌≡◌, ◌↔◌, ◌<◌, ◌^◌, ℕ, IsTrue, IfOk, IfErr, OnOk};
+ghost use Rattle.std.specs.Prelude.{IfSome, IfNone};
 ghost use Rattle.std.specs.Fmt.{decimal};
 ghost use Rattle.bi_fit.specs.declared.form.Form.{Form};
 ghost use Rattle.bi_fit.specs.ImageTree.{ImageTree};
@@ -88,7 +89,19 @@ fn number_in(digits: &[u8]) -> Option<u64>
     ensures none { IfNone result (IsPartNumber digits.now → ⊥) }
 {
     match str::from_utf8(digits) {
-        Ok(text) => text.parse::<u64>().ok(),
+        Ok(text) => number_in_text(text),
+        Err(_) => None,
+    }
+}
+
+/// Does so for a text.
+fn number_in_text(text: &str) -> Option<u64>
+    ensures some { IfSome result (λ number. (other : ℕ)
+        → other < 2 ^ 64 → decimal other ≡ text.now → other ≡ number) }
+    ensures none { IfNone result (IsPartNumber text.now → ⊥) }
+{
+    match text.parse::<u64>() {
+        Ok(number) => Some(number),
         Err(_) => None,
     }
 }
