@@ -18,5 +18,9 @@ pub mod PlainBounds
 pub mod PartNumbers
 pub mod LegacyContents
 pub mod EditedFits
+pub mod OtherValues
+pub mod OtherDigests
+pub mod EditLaws
+pub mod OldImages
 pub mod EditedTrees
 pub mod EditedFiles

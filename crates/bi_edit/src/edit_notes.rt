@@ -81,7 +81,10 @@ fn image_of<'b, 'a>(old: &'b Fit<'a>, name: &[u8]) -> Option<&'b Image<'a>>
     ensures { option_map (λ image. image_model image.now) result
         ≡ model_named name.now old.entry.now.images }
 {
-    old.images().get(old.image(name)?)
+    match old.image(name) {
+        Some(index) => old.images().get(index),
+        None => None,
+    }
 }
 
 /// Returns how many of these images have a payload that is not empty, and that was not empty in the
