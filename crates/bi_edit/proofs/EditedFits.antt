@@ -9,6 +9,7 @@ use Rattle.bi_base.specs.Limits.{Limits, IsInRange}
 use Rattle.bi_base.specs.Reading.{too_large}
 use Rattle.bi_common.specs.PayloadBounds.{payloads_length}
 use Rattle.bi_blob.specs.Tree.{Root, PropertyMap, depth_of}
+use Rattle.bi_fit.specs.declared.form.Form.{Form}
 use Rattle.bi_fit.specs.declared.form.Form.TheVariants.{Embedded}
 use Rattle.bi_fit.specs.Content.{FitModel, tree_of}
 use Rattle.bi_fit.specs.ImageTree.{ImageTree, IsImageTree}
@@ -16,7 +17,7 @@ use Rattle.bi_fit.specs.Laws.{IsAcceptedAs}
 use Rattle.bi_fit.specs.Text.{fit_text}
 use Rattle.bi_fit.proofs.FileTrees.{depth-image_tree, is_image_tree}
 use Rattle.bi_plain.specs.Laws.{HasPlainTree, IsOfImageTree}
-use Rattle.bi_norm.specs.Meaning.{OfFit}
+use Rattle.bi_norm.specs.Meaning.{Meaning, OfFit}
 use Rattle.bi_plain.specs.Plain.{IsPlainTree, plain_payloads, plain_root, with_plain_root}
 use Rattle.bi_plain.specs.PlainText.{HasPlainText, IsPlainTextFault, plain_text}
 use Rattle.bi_plain.proofs.PlainTrees.{each_image_tree_has_plain_tree, each_plain_tree_is_of_image_tree, plain_tree_has_text}
@@ -29,8 +30,9 @@ use Rattle.bi_edit.specs.declared.edit_error.EditError.TheVariants as error
 use Rattle.bi_edit.specs.Applying.{IsApplyError}
 use Rattle.bi_edit.specs.EditedFits.{HasLongPayloads, IsEditedText, WasReadWithin, edit_error_of}
 use Rattle.bi_edit.specs.EditLaws.{IsEditOfBytes}
-use Rattle.bi_edit.specs.EditRefusals.{AreOfKind, AreShallow, CanBeMade, IsEditError, IsEditFault, NeedsTooMuch, OfPayloads, OfText}
-use Rattle.bi_edit.specs.Edits.{AllFind, FindsNothing, IsFirstRefused, IsTooDeep, before_digests, edited_root, edited_tree}
+use Rattle.bi_edit.specs.EditRefusals.{AreOfKind, AreShallow, CanBeMade, IsEditError, IsEditFault, IsKindError, NeedsTooMuch}
+use Rattle.bi_edit.specs.EditRefusals.{OfPayloads, OfText}
+use Rattle.bi_edit.specs.Edits.{AllFind, FindsNothing, IsFirstRefused, IsOfKind, IsTooDeep, before_digests, edited_root, edited_tree}
 use Rattle.bi_edit.specs.Edits.{edits_of_turn, in_edit_order, root_after}
 use Rattle.bi_edit.proofs.AppliedEdits.{after-append, none_is_first, none_refused-append, order_split, refused_more}
 use Rattle.bi_edit.proofs.EditedTrees.{edits_keep_plain_trees, order_each}
@@ -43,6 +45,14 @@ pub edit_error_passed_on : {A : Type 0} (r : Result A EditError) (e : EditError)
     P e → IfErr r P
 edit_error_passed_on (Ok a) e P is holds = absurd is
 edit_error_passed_on (Err x) e P is holds = subst P (sym is) holds
+
+-- An edit of the other kind.
+pub of_kind_error : (limits : Limits) (form : Form) (meaning : Meaning) (edits : List Edit) (error : EditError) →
+    IsKindError (IsOfKind meaning) edits error → IsEditError limits form meaning edits error
+of_kind_error limits form meaning edits error.WrongKind is = is
+of_kind_error limits form meaning edits (error.FindsNothing index) is = absurd is
+of_kind_error limits form meaning edits (error.Failed failure) is =
+    subst (λ failure. IsEditError limits form meaning edits (error.Failed failure)) (sym is) tt
 
 -- The edited plain tree of what was read, if each edit is of a flattened image tree, and none is too deep.
 module _ (limits : Limits) (content : FitModel) (edits : List Edit) (read : WasReadWithin limits content)

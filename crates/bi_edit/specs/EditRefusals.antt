@@ -1,6 +1,7 @@
 use Rattle.std.specs.Prelude.{◌≡◌, ℕ, ⊤, List, Some, slice_get, Contains}
 use Rattle.std.specs.List.{AllByRecursion}
 use Rattle.bi_base.specs.declared.fault.Cause.TheVariants.{TooDeep}
+use Rattle.bi_base.specs.declared.fault.Error.TheVariants.{OutOfMemory}
 use Rattle.bi_base.specs.declared.fault.Fault.{Fault}
 use Rattle.bi_base.specs.Errors.{IsFaultOrNoMemory}
 use Rattle.bi_base.specs.Limits.{Limits}
@@ -28,11 +29,17 @@ AreOfKind meaning edits = AllByRecursion (IsOfKind meaning) edits
 abbrev pub AreShallow : Limits → List Edit → Type 0
 AreShallow limits edits = AllByRecursion (λ edit. ¬ (IsTooDeep limits edit)) edits
 
--- One of these edits is of the other kind of boot image.
-pub record HasOtherKind (meaning : Meaning) (edits : List Edit) : Type 0 where
+-- One of these edits is not of a kind.
+pub record HasOther (IsOf : Edit → Type 0) (edits : List Edit) : Type 0 where
   pub edit : Edit
   pub there : Contains edits edit
-  pub of_other_kind : ¬ (IsOfKind meaning edit)
+  pub is_other : ¬ (IsOf edit)
+
+-- The error of finding whether edits are of a kind: one is not, or memory ran out.
+abbrev pub IsKindError : (IsOf : Edit → Type 0) → List Edit → EditError → Type 0
+IsKindError IsOf edits error.WrongKind = HasOther IsOf edits
+IsKindError IsOf edits (error.FindsNothing index) = ⊥
+IsKindError IsOf edits (error.Failed failure) = failure ≡ OutOfMemory
 
 -- One of these edits adds nodes at a depth over the limit, or would if they were not there.
 pub record HasTooDeep (limits : Limits) (edits : List Edit) : Type 0 where
@@ -86,7 +93,7 @@ pub data IsEditFault (limits : Limits) (form : Form) (meaning : Meaning) (edits 
 -- The error of edits: one of them is of the other kind of boot image; one of them finds nothing;
 -- their fault; or memory ran out.
 abbrev pub IsEditError : Limits → Form → Meaning → List Edit → EditError → Type 0
-IsEditError limits form meaning edits error.WrongKind = HasOtherKind meaning edits
+IsEditError limits form meaning edits error.WrongKind = HasOther (IsOfKind meaning) edits
 IsEditError limits form meaning edits (error.FindsNothing index) =
     IsRefusedAt limits meaning edits index
 IsEditError limits form meaning edits (error.Failed failure) =

@@ -4,6 +4,7 @@ use Rattle.bi_base.specs.Commands.{WasRefused}
 use Rattle.bi_norm.specs.Meaning.{OfLegacy}
 use Rattle.bi_edit.proofs.EditedFiles.{legacy_not_edited, legacy_not_written, legacy_written, of_part_error, out_of_memory}
 use Rattle.bi_edit.proofs.EditedFiles.{form_of_legacy, has_form_of_legacy}
+use Rattle.bi_edit.proofs.EditedFits.{of_kind_error}
 use Rattle.bi_edit.proofs.editing.edit_legacy.Goals as goal
 
 pub returns-in_err-check_legacy_kind-clause-failed : goal.returns-in_err-check_legacy_kind-clause-failed
@@ -12,7 +13,8 @@ returns-in_err-check_legacy_kind-clause-failed g c file opened =
     let form = form_of_legacy c.args.choice in
     rw (p.1, p.2) (WasRefused (legacy_not_edited c.args.edits.now c.args.choice c.args.limits file c.args.image.now opened form
     (has_form_of_legacy c.args.choice file c.args.image.now.image) _
-    (c.in_err-check_legacy_kind.ensures.failed c.args.limits form c.args.image.now.image)) refl)
+    (of_kind_error c.args.limits form (OfLegacy c.args.image.now.image) c.args.edits.now c.in_err-check_legacy_kind.field-0.0
+    c.in_err-check_legacy_kind.ensures.failed)) refl)
 
 pub returns-in_err-content-clause-failed : goal.returns-in_err-content-clause-failed
 returns-in_err-content-clause-failed g c file opened =
