@@ -1,23 +1,31 @@
-use Rattle.std.proofs.Common.{◌≡◌, ◌&&◌, ℕ, zero, suc, ◌+◌, Bool, true, false, List, [], ◌∷◌, ◌++◌, Option, Some, None, bytes_eq, map, filter, length}
+use Rattle.std.proofs.Common.{◌≡◌, ◌&&◌, ℕ, zero, suc, ◌+◌, ◌-◌, Bool, true, false, List, [], ◌∷◌, ◌++◌, Option, Some, None, bytes_eq, map, filter, length}
 use Rattle.std.proofs.Common.{option_map, slice_get, is_some, refl, sym, ap, subst, ◌∙◌, arith}
 use Rattle.std.specs.Option.{option_and_then}
 use Rattle.std.specs.List.{AllZip}
 use Rattle.bi_base.specs.Cells.{up_to}
+use Rattle.bi_base.specs.Limits.{Limits}
 use Rattle.bi_blob.specs.Lookups.{Sibling, node_named, siblings}
 use Rattle.bi_blob.specs.Tree.{Nodes, none, node, FileNode}
 use Rattle.bi_fdt.specs.Content.{root_of}
+use Rattle.bi_fit.specs.declared.form.Form.TheVariants.{External}
 use Rattle.bi_fit.specs.declared.image.Image.{Image}
 use Rattle.bi_fit.specs.declared.image.Place.{Place}
-use Rattle.bi_fit.specs.declared.image.Place.TheVariants.{Absent, Data, DataOffset, DataPosition}
 use Rattle.bi_fit.specs.Content.{FitModel, ImageModel, IsHeld, IsReadImage, image_model, index_from, index_of, place_of, place_or_absent, tree_of}
 use Rattle.bi_fit.specs.ImageTree.{image_nodes, nodes_or_none}
-use Rattle.bi_fit.specs.Judgement.{image_named, images_of, images_with}
+use Rattle.bi_fit.specs.Judgement.{image_named, images_of, images_with, signature_count}
 use Rattle.bi_fit.specs.Judgement.{Image as TreeImage}
 use Rattle.bi_fit.specs.Kept.{PlacedPayload, payload_if_placed, placed_payloads}
 use Rattle.bi_fit.specs.Payloads.{source_of}
-use Rattle.bi_fit.specs.Text.{end_after, payload_places}
+use Rattle.bi_fit.specs.Reading.{IsReadFit}
+use Rattle.bi_fit.specs.Text.{blob_of, end_after, fit_text, payload_places, payloads_end}
 use Rattle.bi_fit.proofs.FileNodes.{bare_image, image_siblings}
-use Rattle.bi_edit.specs.EditNotes.{comes_inside, has_bytes, is_fixed, is_outside, loses_position, old_payload, old_place, place_of_node}
+use Rattle.bi_fit.proofs.NormalTrees.{some_nodes}
+use Rattle.bi_fit.proofs.ReadBlobs.{read_payloads}
+use Rattle.bi_fit.proofs.TextLaws.{each_external_text_has_its_length}
+use Rattle.bi_edit.specs.declared.edit_notes.EditNotes.{EditNotes}
+use Rattle.bi_edit.specs.declared.form_choice.FormChoice.{FormChoice}
+use Rattle.bi_edit.specs.EditNotes.{AreTreeNotes, SaysOfPayloads, comes_inside, has_bytes, is_fixed, is_outside, loses_position}
+use Rattle.bi_edit.specs.EditNotes.{old_payload, old_place, place_of_node, still_placed}
 use Rattle.bi_edit.specs.OldImages.{comes_inside_from, loses_position_from, model_named, payload_or_none, still_placed_from}
 
 -- The images of a file, by their names, are those of its tree.
@@ -181,15 +189,14 @@ module _ (content : FitModel) (held : IsHeld content) where
           rw one (rw same rest)
 
   -- The payloads that are still there, in the order of a new tree.
-  no_new : (place : Place) (payload : Option (List ℕ)) → payload_if_placed place payload None ≡ []
-  no_new Absent payload = refl
-  no_new (Data at) payload = refl
-  no_new (DataOffset at) None = refl
-  no_new (DataOffset at) (Some []) = refl
-  no_new (DataOffset at) (Some (byte ∷ later)) = refl
-  no_new (DataPosition at) None = refl
-  no_new (DataPosition at) (Some []) = refl
-  no_new (DataPosition at) (Some (byte ∷ later)) = refl
+  one_more : (given : Option (List ℕ)) (places : List Place) (olds later : List (Option (List ℕ))) (place : Place)
+      (old : Option (List ℕ)) (base end : ℕ) (rest : List PlacedPayload) →
+      placed_payloads places olds (payload_places 4 base (end_after 4 end given) later) ≡ rest →
+      placed_payloads (place ∷ places) (old ∷ olds) (payload_places 4 base end (given ∷ later))
+      ≡ payload_if_placed place old (option_map (λ payload. base + up_to 4 end) given) ++ rest
+  one_more None places olds later place old base end rest same = ap (λ rest. payload_if_placed place old None ++ rest) same
+  one_more (Some payload) places olds later place old base end rest same =
+      ap (λ rest. payload_if_placed place old (Some (base + up_to 4 end)) ++ rest) same
 
   still_same : (file : List ℕ) (entries : List (Sibling FileNode)) (images : List Image) (base end : ℕ) →
       AllZip (IsReadImage file) entries (map image_model images) →
@@ -202,7 +209,22 @@ module _ (content : FitModel) (held : IsHeld content) where
   still_same file [] [] base end read = refl
   still_same file [] (image ∷ images) base end read = absurd read
   still_same file (entry ∷ entries) [] base end read = absurd read
-  still_same file (entry ∷ entries) (image ∷ images) base end read = ?
+  still_same file (entry ∷ entries) (image ∷ images) base end read =
+      let first : TreeImage = record { entry = bare_image entry; payload = (image_model image).payload } in
+      let new = option_map (λ payload. base + up_to 4 end) (image_model image).payload in
+      let before = model_named image.name.now content.images in
+      let rest = still_placed_from content.images base (end_after 4 end (image_model image).payload) images in
+      one_more (image_model image).payload
+      (map (old_place content.blob.file old_nodes)
+      (images_with (map bare_image entries) (map (λ image. image.payload) (map image_model images))))
+      (map (old_payload (tree_of content)) (images_with (map bare_image entries) (map (λ image. image.payload) (map image_model images))))
+      (map (λ image. image.payload) (map image_model images)) (old_place content.blob.file old_nodes first)
+      (old_payload (tree_of content) first) base end rest
+      (still_same file entries images base (end_after 4 end (image_model image).payload) read.1)
+      ∙ ap (λ place. payload_if_placed place (old_payload (tree_of content) first) new ++ rest)
+      (old_place_same first image.name.now (sym read.0.name))
+      ∙ ap (λ payload. payload_if_placed (place_or_absent before) payload new ++ rest)
+      (old_payload_same first image.name.now (sym read.0.name))
 
   -- What is counted of a new tree, which has these images.
   module _ (new : FitModel) (new_held : IsHeld new) (images : List Image) (are : map image_model images ≡ new.images) where
@@ -229,3 +251,54 @@ module _ (content : FitModel) (held : IsHeld content) where
         ∙ count_same (loses_position content.blob.file old_nodes (tree_of content)) (loses_position_from content.images) loses_same
         new.blob.file (siblings (nodes_or_none (image_nodes (root_of new.blob)))) images
         (subst (AllZip (IsReadImage new.blob.file) (siblings (nodes_or_none (image_nodes (root_of new.blob))))) (sym are) new_held.images)
+
+    -- The payloads that are still there, if the blob of the text has `base` bytes.
+    pub placed_same : (base : ℕ) →
+        placed_payloads (map (old_place content.blob.file old_nodes) (images_of (tree_of new)))
+        (map (old_payload (tree_of content)) (images_of (tree_of new))) (payload_places 4 base 0 (tree_of new).payloads)
+        ≡ still_placed_from content.images base 0 images
+    placed_same base =
+        ap (λ all. placed_payloads (map (old_place content.blob.file old_nodes) all) (map (old_payload (tree_of content)) all)
+        (payload_places 4 base 0 (tree_of new).payloads)) images_same
+        ∙ ap (λ models. placed_payloads
+        (map (old_place content.blob.file old_nodes)
+        (images_with (map bare_image (siblings (nodes_or_none (image_nodes (root_of new.blob)))))
+        (map (λ image. image.payload) (map image_model images))))
+        (map (old_payload (tree_of content))
+        (images_with (map bare_image (siblings (nodes_or_none (image_nodes (root_of new.blob)))))
+        (map (λ image. image.payload) (map image_model images))))
+        (payload_places 4 base 0 (map (λ image. image.payload) models))) (sym are)
+        ∙ still_same new.blob.file (siblings (nodes_or_none (image_nodes (root_of new.blob)))) images base 0
+        (subst (AllZip (IsReadImage new.blob.file) (siblings (nodes_or_none (image_nodes (root_of new.blob))))) (sym are) new_held.images)
+
+    -- Those of the text in the form External.
+    pub external_same : (size : ℕ) → length (fit_text External (tree_of new)) ≡ size →
+        still_placed content.blob.file old_nodes (tree_of content) (tree_of new)
+        ≡ still_placed_from content.images (size - payloads_end 4 0 (tree_of new).payloads) 0 images
+    external_same size long =
+        let whole = (each_external_text_has_its_length External 4 (tree_of new) refl).is_length in
+        let base : length (blob_of External (tree_of new)) ≡ size - payloads_end 4 0 (tree_of new).payloads =
+        omega (arith, whole, long) in
+        ap (λ base. placed_payloads (map (old_place content.blob.file old_nodes) (images_of (tree_of new)))
+        (map (old_payload (tree_of content)) (images_of (tree_of new))) (payload_places 4 base 0 (tree_of new).payloads)) base
+        ∙ placed_same (size - payloads_end 4 0 (tree_of new).payloads)
+
+-- What is said of the payloads of a file that was read.
+pub tree_notes : (chosen : FormChoice) (limits : Limits) (file : List ℕ) (content new : FitModel) (read : IsReadFit limits file content)
+    (notes : EditNotes) → notes.kept.signatures ≡ signature_count (tree_of new) →
+    SaysOfPayloads chosen content.blob.file (old_nodes content read.held) (tree_of content) (tree_of new) notes →
+    AreTreeNotes chosen file (tree_of content) (tree_of new) notes
+tree_notes chosen limits file content new read notes count says =
+    subst (λ file. AreTreeNotes chosen file (tree_of content) (tree_of new) notes) read.is_file (record {
+      is_file = record {
+        root = root_of content.blob;
+        blob = read.held.is_blob;
+        images = nodes_or_none (image_nodes (root_of content.blob));
+        has_images = some_nodes (image_nodes (root_of content.blob)) read.held.has_images;
+        payloads = read_payloads content.blob.file (nodes_or_none (image_nodes (root_of content.blob))) content.images
+            read.held.images;
+        is_root = refl;
+      };
+      signatures = count;
+      payloads = says;
+    })

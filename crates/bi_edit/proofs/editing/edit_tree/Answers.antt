@@ -36,6 +36,9 @@ returns-in_err-text-clause-failed g c file opened =
     (c.in_ok-form.ensures c.args.limits file opened) c.in_ok-blob.blob.items c.in_ok-blob.ensures.edited c.in_ok-edited.edited
     c.in_ok-edited.ensures.read _ c.in_err-text.ensures.failed) refl)
 
+pub notes_of-requires-clause-held : goal.notes_of-requires-clause-held
+notes_of-requires-clause-held g c = c.in_ok-edited.ensures.read.held
+
 pub notes_of-requires-clause-size : goal.notes_of-requires-clause-size
 notes_of-requires-clause-size g c = ?
 

@@ -1,7 +1,7 @@
-use Rattle.std.proofs.Common.{◌≡◌, ◌≢◌, ◌≤◌, ◌<◌, ◌%◌, ◌^◌, ℕ, zero, suc, List, [], ◌∷◌, max, refl, sym, ap, subst, ◌∙◌, arith}
-use Rattle.bi_base.specs.declared.align.Align.{Align}
-use Rattle.bi_base.specs.Aligns.{align_bytes}
-use Rattle.bi_fit.specs.Kept.{AreAlignedInFile, IsAlignmentOf, IsPower, PlacedPayload}
+use Rattle.std.proofs.Common.{◌≡◌, ◌≢◌, ◌≤◌, ◌/◌, ◌%◌, ℕ, List, [], ◌∷◌, refl, rules, lit≤, arith}
+use Rattle.std.proofs.lemmas.Bool.{cases_lt}
+use Rattle.bi_fit.specs.Kept.{IsAlignmentOf, IsPower, PlacedPayload}
+use Rattle.bi_fit.proofs.PowersOfTwo.{le-half, smaller_divides}
 use Rattle.bi_edit.specs.FormChoices.{IsFormOfPlaced, Inside, Outside}
 use Rattle.bi_edit.specs.KnownEditedFiles.{payload_at_offset}
 use Rattle.bi_edit.proofs.known_edits.forms_of_files_are_known.Goals as goal
@@ -9,21 +9,24 @@ use Rattle.bi_edit.proofs.known_edits.forms_of_files_are_known.Goals as goal
 not_empty : (first : PlacedPayload) (later : List PlacedPayload) → first ∷ later ≢ []
 not_empty first later same = absurd cc
 
-remainder_of_more : (n other : ℕ) → 0 < n → n < other → n % other ≡ 0 → ⊥
-remainder_of_more n other some less whole = ?
+-- A power that divides a number is at most the half of one that does not.
+at_most_half : (twice other n : ℕ) → IsPower twice → n % twice ≢ 0 → IsPower other → n % other ≡ 0 → other ≤ twice / 2
+at_most_half twice other n is_twice odd power whole = search (rules, cases_lt, smaller_divides, le-half)
 
 four_thousand : IsAlignmentOf (payload_at_offset 4096 ∷ []) 4096
 four_thousand = record {
-  is_power = record { exponent = 12; most = omega arith; is_power = refl };
+  is_power = record { exponent = 12; most = lit≤ tt; is_power = refl };
   divides = (refl, tt);
-  greatest = λ other power all. ?;
+  greatest = λ other power all.
+      at_most_half 8192 other 4096 (record { exponent = 13; most = lit≤ tt; is_power = refl }) (λ e. omega (arith, e)) power all.0;
 }
 
 two : IsAlignmentOf (payload_at_offset 6 ∷ []) 2
 two = record {
-  is_power = record { exponent = 1; most = omega arith; is_power = refl };
+  is_power = record { exponent = 1; most = lit≤ tt; is_power = refl };
   divides = (refl, tt);
-  greatest = λ other power all. ?;
+  greatest = λ other power all.
+      at_most_half 4 other 6 (record { exponent = 2; most = lit≤ tt; is_power = refl }) (λ e. omega (arith, e)) power all.0;
 }
 
 pub returns : goal.returns
