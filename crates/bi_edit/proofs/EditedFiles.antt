@@ -153,6 +153,7 @@ module _ (edits : List Edit) (choice : FormChoice) (limits : Limits) (file : Lis
     pub tree_output : (new : FitModel) (is : IsReadFit limits blob new) (most : limits.file ≤ longest_text) (text : List ℕ)
         (of : IsTextOfTree limits form (tree_of new) text) (notes : EditNotes) →
         AreTreeNotes choice file tree (tree_of new) notes → IsEditOutput edits choice limits notes file text
+    unfolding tree_is_edited
     tree_output new is most text of notes are = record {
       is = tree_is_edited new is most text of;
       are_notes = subst (λ new. AreTreeNotes choice file tree new notes) (blob_means new is) are;
@@ -161,7 +162,7 @@ module _ (edits : List Edit) (choice : FormChoice) (limits : Limits) (file : Lis
 -- ---- a legacy image
 
 -- A form for each choice.
-pub form_of_legacy : FormChoice → Form
+abbrev pub form_of_legacy : FormChoice → Form
 form_of_legacy (form_choice.Given form) = form
 form_of_legacy form_choice.Keep = Embedded
 
@@ -240,7 +241,8 @@ module _ (edits : List Edit) (choice : FormChoice) (limits : Limits) (file : Lis
         | inl none ↦ SinkFailed (legacy_text edited_image) failure (legacy_is_edited of small none) (wrote.written none) refl
         | inr some ↦
             let refused = wrote.refused some.0 some.1 in
-            let same : failure ≡ Refused some.0 = cc (refused.0) in
+            let e = refused.0 in
+            let same : failure ≡ Refused some.0 = cc in
             WasRefused (subst (λ failure. IsEditFileError edits choice limits file (error.Failed failure)) (sym same)
             (inr (legacy_file_error (error.Failed (Refused some.0)) (OfText can_edit_image some.1)))) refused.1
       ]
@@ -250,6 +252,7 @@ module _ (edits : List Edit) (choice : FormChoice) (limits : Limits) (file : Lis
           (notes : EditNotes) → AllByRecursion IsEditOfBytes edits → limits.file < 2 ^ 32 → AreNoNotes notes →
           WroteImage appends fails limits edited_image old (Ok tt) new →
           Appended appends (IsEditOutput edits choice limits notes file) old new
+      unfolding legacy_is_edited
       legacy_written appends fails old new notes of small says wrote = elim wrote.refused_or_written [
         | inl none ↦ record {
           text = legacy_text edited_image;

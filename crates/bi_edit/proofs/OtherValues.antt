@@ -63,7 +63,7 @@ module _ {Own : Type 0} where
       by false one false two rest = rw one (rw two rest)
 
   -- A child that is added, unless one has its name.
-  child_or : Own → Option (Root Own) → Root Own
+  abbrev child_or : Own → Option (Root Own) → Root Own
   child_or nothing None = record { own = nothing; children = none }
   child_or nothing (Some child) = child
 

@@ -1,4 +1,4 @@
-use Rattle.std.specs.Prelude.{◌≡◌, ◌<◌, ℕ, List, [], ◌∷◌, length, codes, Some, None}
+use Rattle.std.specs.Prelude.{◌≡◌, ◌<◌, ℕ, false, List, [], ◌∷◌, length, codes, Some, None}
 use Rattle.std.specs.Borrow.{Bor}
 use Rattle.bi_base.specs.declared.align.Align.{Align}
 use Rattle.bi_base.specs.Aligns.{align_bytes}

@@ -2,6 +2,7 @@
 
 ghost use Rattle.std.specs.Prelude.{◌≡◌, List, ℕ, max, IfOk, IfSome, IfNone};
 ghost use Rattle.bi_base.specs.Aligns.{align_bytes};
+ghost use Rattle.bi_base.specs.Limits.{Limits};
 ghost use Rattle.bi_fit.specs.Content.{tree_of};
 ghost use Rattle.bi_fit.specs.Kept.{IsPower};
 ghost use Rattle.bi_fit.specs.Reading.{IsReadFit};
