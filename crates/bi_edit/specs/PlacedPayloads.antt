@@ -3,12 +3,12 @@ use Rattle.bi_fit.specs.declared.image.Image.{Image}
 use Rattle.bi_fit.specs.Content.{image_model}
 use Rattle.bi_fit.specs.Kept.{PlacedPayload, placed_payloads}
 use Rattle.bi_fit.specs.NormalNodes.{payloads_of}
-use Rattle.bi_edit.specs.declared.placed.Placed.{Placed}
+use Rattle.bi_edit.specs.declared.outside_payloads.OutsidePayload.{OutsidePayload}
 
 -- Payloads outside the blob, as the code has them.
 
 -- One of them, as the definitions see it.
-abbrev pub placed_payload : Placed → PlacedPayload
+abbrev pub placed_payload : OutsidePayload → PlacedPayload
 placed_payload placed = record {
   old_offset = placed.old_offset;
   new_offset = placed.new_offset;
@@ -16,11 +16,11 @@ placed_payload placed = record {
 }
 
 -- All of them.
-abbrev pub placed_list : List Placed → List PlacedPayload
+abbrev pub placed_list : List OutsidePayload → List PlacedPayload
 placed_list placed = map placed_payload placed
 
 -- One as a list, if there is one.
-abbrev pub placed_or_none : Option Placed → List PlacedPayload
+abbrev pub placed_or_none : Option OutsidePayload → List PlacedPayload
 placed_or_none None = []
 placed_or_none (Some placed) = placed_payload placed ∷ []
 

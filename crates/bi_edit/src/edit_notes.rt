@@ -19,7 +19,7 @@ ghost use Rattle.bi_edit.specs.OldImages.{still_placed_from};
 ghost use Rattle.bi_edit.specs.PlacedPayloads.{placed_list};
 
 use crate::form_choice::FormChoice;
-use crate::placed::{Placed, has_bytes, lost_alignment, push_placed};
+use crate::outside_payloads::{OutsidePayload, has_bytes, lost_alignment, push_placed};
 use bi_base::up4;
 use bi_fit::{Fit, Form, Image, Kept, Place};
 use std::alloc::{AllocError, Global};
@@ -218,7 +218,7 @@ fn still_placed(
     old: &Fit<'_>,
     images: &[Image<'_>],
     base: u32,
-) -> Result<Vec<Placed>, AllocError>
+) -> Result<Vec<OutsidePayload>, AllocError>
     requires { base + payloads_end 4 0 (payloads_of images.now) ≤ longest_text }
     ensures { IfOk result (λ all.
         placed_list all.items ≡ still_placed_from old.now.images base 0 images.now) }
@@ -236,7 +236,7 @@ fn still_placed(
 /// `data-offset` or `data-position` gave it. The payloads before it end at `end`. Fails if memory
 /// runs out. Requires: it ends within the longest text.
 fn push_still_placed(
-    all: &mut Vec<Placed>,
+    all: &mut Vec<OutsidePayload>,
     old: &Fit<'_>,
     image: &Image<'_>,
     base: u32,

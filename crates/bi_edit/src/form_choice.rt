@@ -10,7 +10,7 @@ ghost use Rattle.bi_norm.specs.Meaning.{OfFit};
 ghost use Rattle.bi_edit.specs.FormChoices.{IsChosenForm, IsFormOfPlaced};
 ghost use Rattle.bi_edit.specs.PlacedPayloads.{placed_of_images};
 
-use crate::placed::{alignment_of, placed_in_file};
+use crate::outside_payloads::{alignment_of, placed_in_file};
 use bi_base::Align;
 use bi_fit::{Fit, Form, Image};
 use std::alloc::{AllocError, Global};

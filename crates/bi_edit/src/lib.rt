@@ -13,7 +13,7 @@ mod kinds;
 mod know;
 pub mod known_edits;
 pub mod laws;
-mod placed;
+mod outside_payloads;
 mod places;
 pub mod words;
 

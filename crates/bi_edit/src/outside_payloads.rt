@@ -1,10 +1,10 @@
 //! Payloads outside the blob of a file.
 
-ghost use Rattle.std.specs.Prelude.{◌≡◌, ◌++◌, ◌↔◌, ℕ, Some, IsTrue, IfOk, IfSome, IsNone, OnOk};
+ghost use Rattle.std.specs.Prelude.{◌≡◌, ◌≢◌, ◌++◌, ◌↔◌, ◌%◌, ℕ, Some, IsTrue, IfOk, IfSome, IfNone};
+ghost use Rattle.std.specs.Prelude.{IsNone, OnOk};
 ghost use Rattle.std.specs.Option.{option_map};
 ghost use Rattle.bi_fit.specs.Kept.{AreAlignedInFile, AreAlignedInText, IsAlignmentOf, IsPower};
 ghost use Rattle.bi_fit.specs.Kept.{LosesAlignment, payload_if_placed};
-ghost use Rattle.bi_fit.specs.KeptImages.{IsPowerWithin};
 ghost use Rattle.bi_edit.specs.EditNotes.{has_bytes as has_bytes_of};
 ghost use Rattle.bi_edit.specs.PlacedPayloads.{placed_list, placed_of_images, placed_or_none};
 
@@ -16,7 +16,7 @@ const MOST: u32 = 0x10_0000;
 
 /// A payload that is not empty and that `data-offset` or `data-position` of a file gives.
 #[derive(Clone, Copy)]
-pub(crate) struct Placed {
+pub(crate) struct OutsidePayload {
     /// The offset of its first byte in the file.
     pub(crate) old_offset: u32,
     /// The offset of its first byte in a text.
@@ -27,7 +27,7 @@ pub(crate) struct Placed {
 
 /// Returns the payload of an image, if it is not empty and `data-offset` or `data-position` gives
 /// it. `new_offset` is its offset in a text.
-fn placed_if(place: Place, payload: Option<&[u8]>, new_offset: u32) -> Option<Placed>
+fn placed_if(place: Place, payload: Option<&[u8]>, new_offset: u32) -> Option<OutsidePayload>
     ensures { placed_or_none result ≡ payload_if_placed place
         (option_map (λ payload. payload.now) payload.entry) (Some new_offset) }
 {
@@ -35,12 +35,12 @@ fn placed_if(place: Place, payload: Option<&[u8]>, new_offset: u32) -> Option<Pl
         return None;
     }
     match place {
-        Place::DataOffset(old_offset) => Some(Placed {
+        Place::DataOffset(old_offset) => Some(OutsidePayload {
             old_offset,
             new_offset,
             has_position: false,
         }),
-        Place::DataPosition(old_offset) => Some(Placed {
+        Place::DataPosition(old_offset) => Some(OutsidePayload {
             old_offset,
             new_offset,
             has_position: true,
@@ -62,7 +62,7 @@ pub(crate) fn has_bytes(payload: Option<&[u8]>) -> bool
 /// Adds the payload of an image, if it is not empty and `data-offset` or `data-position` gives it.
 /// Fails if memory runs out.
 pub(crate) fn push_placed(
-    all: &mut Vec<Placed>,
+    all: &mut Vec<OutsidePayload>,
     place: Place,
     payload: Option<&[u8]>,
     new_offset: u32,
@@ -79,7 +79,10 @@ pub(crate) fn push_placed(
 
 /// Returns the payloads of images that are not empty and that `data-offset` or `data-position`
 /// gives. Fails if memory runs out.
-pub(crate) fn placed_in_file(alloc: Global, images: &[Image<'_>]) -> Result<Vec<Placed>, AllocError>
+pub(crate) fn placed_in_file(
+    alloc: Global,
+    images: &[Image<'_>],
+) -> Result<Vec<OutsidePayload>, AllocError>
     ensures { IfOk result (λ all. placed_list all.items ≡ placed_of_images images.now) }
 {
     let mut all = Vec::new(alloc);
@@ -91,32 +94,35 @@ pub(crate) fn placed_in_file(alloc: Global, images: &[Image<'_>]) -> Result<Vec<
 
 /// Returns the alignment in bytes that payloads have in their file: the greatest power of two up to
 /// 1048576 that divides the offset of each.
-pub(crate) fn alignment_of(placed: &[Placed]) -> u32
+pub(crate) fn alignment_of(placed: &[OutsidePayload]) -> u32
     ensures { IsAlignmentOf (placed_list placed.now) result }
 {
     let mut power = MOST;
-    for payload in placed {
-        power = power_within(power, payload.old_offset);
-    }
-    power
-}
-
-/// Returns the greatest power of two up to `most` that divides an offset. Requires: `most` is a
-/// power of two.
-fn power_within(most: u32, offset: u32) -> u32
-    requires { IsPower most }
-    ensures { IsPowerWithin most offset result }
-{
-    let mut power = most;
-    while offset % power != 0 {
+    while first_between(placed, power).is_some() {
         power /= 2;
     }
     power
 }
 
+/// Returns the first offset of payloads in their file that is not a multiple of a power of two.
+/// Requires: `power` is one.
+fn first_between(placed: &[OutsidePayload], power: u32) -> Option<u32>
+    requires { IsPower power }
+    ensures some { IfSome result (λ offset. (offset % power ≢ 0) × ((other : ℕ)
+        → AreAlignedInFile other (placed_list placed.now) → offset % other ≡ 0)) }
+    ensures none { IfNone result (AreAlignedInFile power (placed_list placed.now)) }
+{
+    for payload in placed {
+        if payload.old_offset % power != 0 {
+            return Some(payload.old_offset);
+        }
+    }
+    None
+}
+
 /// Returns the alignment that payloads have in their file and lose in the text. Returns None if
 /// they lose none.
-pub(crate) fn lost_alignment(placed: &[Placed]) -> Option<u32>
+pub(crate) fn lost_alignment(placed: &[OutsidePayload]) -> Option<u32>
     ensures lost { IfSome result (LosesAlignment (placed_list placed.now)) }
     ensures kept { IsNone result → (bytes : ℕ)
         → ¬ (LosesAlignment (placed_list placed.now) bytes) }
@@ -131,7 +137,7 @@ pub(crate) fn lost_alignment(placed: &[Placed]) -> Option<u32>
 
 /// Returns whether payloads begin at multiples of `alignment` in the text. Requires: `alignment` is
 /// a power of two.
-fn are_aligned(placed: &[Placed], alignment: u32) -> bool
+fn are_aligned(placed: &[OutsidePayload], alignment: u32) -> bool
     requires { IsPower alignment }
     ensures { IsTrue result ↔ AreAlignedInText alignment (placed_list placed.now) }
 {

@@ -1,7 +1,7 @@
 use Rattle.std.proofs.Common.{drop}
 use Rattle.bi_fit.specs.Kept.{AreAlignedInText}
 use Rattle.bi_edit.specs.PlacedPayloads.{placed_list}
-use Rattle.bi_edit.proofs.placed.are_aligned.Given as goal
+use Rattle.bi_edit.proofs.outside_payloads.are_aligned.Given as goal
 
 -- If those that are left are aligned, all are.
 abbrev pub invariant-loop-payload : goal.invariant-loop-payload
