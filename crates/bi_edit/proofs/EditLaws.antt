@@ -16,56 +16,48 @@ use Rattle.bi_plain.proofs.PlainTrees.{each_image_tree_has_plain_tree}
 use Rattle.bi_edit.specs.declared.edit.Edit.{Edit}
 use Rattle.bi_edit.specs.declared.edit.Edit.TheVariants.{RemoveNode, RemoveProperty, SetProperty}
 use Rattle.bi_edit.specs.declared.edit.Edit.TheVariants.{SetField, SetPayload, SetTime, SetDigests}
-use Rattle.bi_edit.specs.EditLaws.{IsNamedBy, NothingChanges, OthersStay, SetValuesAreThere, SettingWhatIsThere}
+use Rattle.bi_edit.specs.EditLaws.{IsNamedBy, NothingChanges, OtherValuesStay, SetValuesAreThere, SettingWhatIsThere}
 use Rattle.bi_edit.specs.Edits.{edited_root}
 use Rattle.bi_edit.specs.Places.{image_path}
-use Rattle.bi_edit.proofs.OtherValues.{change_found, kept_at, kept_with, kept_without, unchanged_at, with_found}
+use Rattle.bi_edit.proofs.OtherValues.{change_found, value_kept_at, value_kept_with, value_kept_without, unchanged_at, with_found}
 use Rattle.bi_edit.proofs.OtherDigests.{kept_with_digests}
+use Rattle.bi_edit.proofs.PartNumbers.{differs}
 use Rattle.bi_edit.proofs.PresentNodes.{nodes_there}
 
 -- Laws of edits.
 
-reflexive : (name : List ℕ) → bytes_eq name name ≡ true
-reflexive name = (bytes_eq-Decides name name).1 refl
-
-not_same : (one other : List ℕ) → one ≢ other → bytes_eq one other ≡ false
-not_same one other no = by (bytes_eq one other) refl where
-  by : (b : Bool) → bytes_eq one other ≡ b → bytes_eq one other ≡ false
-  by true equal = absurd (no (same_bytes one other equal))
-  by false differ = differ
-
 -- A value of another name.
 other_put : (own : PropertyMap) (name other value : List ℕ) → other ≢ name → get (insert own name value) other ≡ get own other
-other_put own name other value differs = get-put_other own name value other (not_same other name differs)
+other_put own name other value apart = get-put_other own name value other (differs other name apart (bytes_eq other name) refl)
 
 other_removed : (own : PropertyMap) (name other : List ℕ) → other ≢ name → get (remove own name) other ≡ get own other
-other_removed own name other differs =
+other_removed own name other apart =
     get-remove nat_list_cmp_total own name other
-    ∙ ap (λ b. cond b None (get own other)) (is_eq-slice_cmp other name ∙ not_same other name differs)
+    ∙ ap (λ b. cond b None (get own other)) (is_eq-slice_cmp other name ∙ differs other name apart (bytes_eq other name) refl)
 
 edit_stays : (root : Root PropertyMap) (edit : Edit) (path : List (List ℕ)) (name : List ℕ) → ¬ (IsNamedBy edit path name) →
     value_by_path (edited_root root edit) path name ≡ value_by_path root path name
-edit_stays root (RemoveNode removed) path name apart = kept_without removed path name apart root
+edit_stays root (RemoveNode removed) path name apart = value_kept_without removed path name apart root
 edit_stays root (RemoveProperty place) path name apart =
-    kept_at place.path (without_own_value place.name) (λ root. refl) path name
+    value_kept_at place.path (without_own_value place.name) (λ root. refl) path name
     (λ same root. other_removed root.own place.name name (λ is. apart (same, is))) root
 edit_stays root (SetProperty place value) path name apart =
-    kept_at place.path (with_own_value place.name value.items) (λ root. refl) path name
+    value_kept_at place.path (with_own_value place.name value.items) (λ root. refl) path name
     (λ same root. other_put root.own place.name name value.items (λ is. apart (same, is))) (with_node_at empty place.path root)
-    ∙ kept_with place.path path name reflexive root
+    ∙ value_kept_with place.path path name (λ n. (bytes_eq-Decides n n).1 refl) root
 edit_stays root (SetField value) path name apart = refl
 edit_stays root (SetPayload image payload) path name apart =
-    kept_at (image_path image) (with_own_value data_name payload.now) (λ root. refl) path name
+    value_kept_at (image_path image) (with_own_value data_name payload.now) (λ root. refl) path name
     (λ same root. other_put root.own data_name name payload.now (λ is. apart (same, is))) root
 edit_stays root (SetTime time) path name apart =
-    kept_at [] (with_own_value timestamp_name (cell time)) (λ root. refl) path name
+    value_kept_at [] (with_own_value timestamp_name (cell time)) (λ root. refl) path name
     (λ same root. other_put root.own timestamp_name name (cell time) (λ is. apart (same, is))) root
 edit_stays root SetDigests path name apart = kept_with_digests path name apart root
 
-pub others_stay : OthersStay
-others_stay root [] path name apart = refl
-others_stay root (edit ∷ later) path name apart =
-    others_stay (edited_root root edit) later path name apart.1 ∙ edit_stays root edit path name apart.0
+pub other_values_stay : OtherValuesStay
+other_values_stay root [] path name apart = refl
+other_values_stay root (edit ∷ later) path name apart =
+    other_values_stay (edited_root root edit) later path name apart.1 ∙ edit_stays root edit path name apart.0
 
 -- ---- what is set
 
@@ -76,11 +68,11 @@ value_found (Some found) name value there = get-put found.own name value
 
 pub set_values_are_there : SetValuesAreThere
 set_values_are_there root place value later apart =
-    others_stay (edited_root root (SetProperty place value)) later place.path place.name apart
+    other_values_stay (edited_root root (SetProperty place value)) later place.path place.name apart
     ∙ ap (option_and_then (λ found. get found.own place.name))
     (change_found place.path (with_own_value place.name value.items) (with_node_at empty place.path root))
     ∙ value_found (node_by_path (with_node_at empty place.path root) place.path) place.name value.items
-    (with_found place.path reflexive root)
+    (with_found place.path (λ n. (bytes_eq-Decides n n).1 refl) root)
 
 -- ---- what is there
 

@@ -48,25 +48,25 @@ use Rattle.bi_edit.proofs.LegacyContents.{HasContent, edits_keep_content, legacy
 -- What is written of edits of a file, and its errors.
 
 -- An error of reading a file.
-pub error_of_reading : (edits : List Edit) (choice : FormChoice) (limits : Limits) (file : List ℕ) (error : Error) →
+pub error_of_read_file : (edits : List Edit) (choice : FormChoice) (limits : Limits) (file : List ℕ) (error : Error) →
     IsBootImageReadError limits file error → IsEditFileError edits choice limits file (error.Failed error)
-error_of_reading edits choice limits file failure is = inl is
+error_of_read_file edits choice limits file failure is = inl is
 
 -- Memory ran out for a file that means something.
-pub out_of_memory : (edits : List Edit) (choice : FormChoice) (limits : Limits) (file : List ℕ) (meaning : Meaning) →
+pub edits_out_of_memory : (edits : List Edit) (choice : FormChoice) (limits : Limits) (file : List ℕ) (meaning : Meaning) →
     Means limits file meaning → IsEditFileError edits choice limits file (error.Failed OutOfMemory)
-out_of_memory edits choice limits file meaning means = inl (needs_memory limits file meaning means)
+edits_out_of_memory edits choice limits file meaning means = inl (needs_memory limits file meaning means)
 
 -- An error of editing with a sink that fails only if memory runs out.
-pub error_in_memory : {S : Type 0} (fails : S → List ℕ → S → Error → Type 0) (edits : List Edit) (choice : FormChoice) (limits : Limits)
+pub edit_error_in_memory : {S : Type 0} (fails : S → List ℕ → S → Error → Type 0) (edits : List Edit) (choice : FormChoice) (limits : Limits)
     (file : List ℕ) (old new : S) (failure : EditError) →
     ((text : List ℕ) (cause : Error) → fails old text new cause → cause ≡ OutOfMemory) →
     CommandFailed fails (λ cause. error.Failed cause) (IsEdited edits choice limits file) (IsEditFileError edits choice limits file) old new
     failure → IsEditFileError edits choice limits file failure
-error_in_memory fails edits choice limits file old new failure full (WasRefused is same) = is
-error_in_memory fails edits choice limits file old new failure full (SinkFailed text cause is failed same) =
+edit_error_in_memory fails edits choice limits file old new failure full (WasRefused is same) = is
+edit_error_in_memory fails edits choice limits file old new failure full (SinkFailed text cause is failed same) =
     subst (IsEditFileError edits choice limits file) (sym (same ∙ ap (λ cause. error.Failed cause) (full text cause failed)))
-    (out_of_memory edits choice limits file is.meaning is.means.means)
+    (edits_out_of_memory edits choice limits file is.meaning is.means.means)
 
 -- The error of the blob is one in any form.
 fault_in_form : (limits : Limits) (form : Form) (tree : ImageTree) (edits : List Edit) (fault : Fault) →
@@ -115,7 +115,7 @@ module _ (edits : List Edit) (choice : FormChoice) (limits : Limits) (file : Lis
     -- It is read, unless memory runs out.
     pub blob_not_read : (error : Error) → IsFitReadError limits blob error → IsEditFileError edits choice limits file (error.Failed error)
     blob_not_read (Refused fault) is = absurd (is.means_nothing edited made.accepted.means)
-    blob_not_read OutOfMemory is = out_of_memory edits choice limits file (OfFit tree) read.means
+    blob_not_read OutOfMemory is = edits_out_of_memory edits choice limits file (OfFit tree) read.means
     blob_not_read ReadFailed is = absurd is
     blob_not_read WriteFailed is = absurd is
 
@@ -128,7 +128,7 @@ module _ (edits : List Edit) (choice : FormChoice) (limits : Limits) (file : Lis
     text_not_made new is (Refused fault) failed =
         inr (file_error (error.Failed (Refused fault))
         (OfText made.can (failed.0, subst (λ tree. limits.file < length (fit_text form tree)) (blob_means new is) failed.1)))
-    text_not_made new is OutOfMemory failed = out_of_memory edits choice limits file (OfFit tree) read.means
+    text_not_made new is OutOfMemory failed = edits_out_of_memory edits choice limits file (OfFit tree) read.means
     text_not_made new is ReadFailed failed = absurd failed
     text_not_made new is WriteFailed failed = absurd failed
 

@@ -189,6 +189,6 @@ module _ (limits : Limits) (content : FitModel) (edits : List Edit) (read : WasR
   of_write_error early is_early find base_error.WriteFailed is = absurd is
 
   -- It can be written.
-  pub has_text : (early : Root PropertyMap) → early ≡ root_after (plain_root tree) (before_digests edits) →
+  pub edited_tree_has_text : (early : Root PropertyMap) → early ≡ root_after (plain_root tree) (before_digests edits) →
       HasPlainText tree.cpu tree.reservations (root_after early (edits_of_turn 4 edits))
-  has_text early is = subst (HasPlainText tree.cpu tree.reservations) (sym (all_made early is)) edited_has_text
+  edited_tree_has_text early is = subst (HasPlainText tree.cpu tree.reservations) (sym (all_made early is)) edited_has_text

@@ -24,7 +24,7 @@ use Rattle.bi_fit.proofs.ReadBlobs.{read_payloads}
 use Rattle.bi_fit.proofs.TextLaws.{each_external_text_has_its_length}
 use Rattle.bi_edit.specs.declared.edit_notes.EditNotes.{EditNotes}
 use Rattle.bi_edit.specs.declared.form_choice.FormChoice.{FormChoice}
-use Rattle.bi_edit.specs.EditNotes.{AreTreeNotes, SaysOfPayloads, comes_inside, has_bytes, is_fixed, is_outside, loses_position}
+use Rattle.bi_edit.specs.EditNotes.{AreTreeNotes, SaysOfPayloads, comes_inside, is_not_empty, is_fixed, is_outside, loses_position}
 use Rattle.bi_edit.specs.EditNotes.{old_payload, old_place, place_of_node, still_placed}
 use Rattle.bi_edit.specs.OldImages.{comes_inside_from, loses_position_from, model_named, payload_or_none, still_placed_from}
 
@@ -141,22 +141,22 @@ module _ (content : FitModel) (held : IsHeld content) where
   comes_same : (image : TreeImage) (model : ImageModel) → image.entry.name ≡ model.name → image.payload ≡ model.payload →
       comes_inside content.blob.file old_nodes (tree_of content) image ≡ comes_inside_from content.images model
   comes_same image model is same =
-      ap (λ place. is_outside place && (has_bytes (old_payload (tree_of content) image) && has_bytes image.payload))
+      ap (λ place. is_outside place && (is_not_empty (old_payload (tree_of content) image) && is_not_empty image.payload))
       (old_place_same image model.name is)
       ∙ ap (λ payload. is_outside (place_or_absent (model_named model.name content.images))
-      && (has_bytes payload && has_bytes image.payload)) (old_payload_same image model.name is)
+      && (is_not_empty payload && is_not_empty image.payload)) (old_payload_same image model.name is)
       ∙ ap (λ payload. is_outside (place_or_absent (model_named model.name content.images))
-      && (has_bytes (payload_or_none (model_named model.name content.images)) && has_bytes payload)) same
+      && (is_not_empty (payload_or_none (model_named model.name content.images)) && is_not_empty payload)) same
 
   loses_same : (image : TreeImage) (model : ImageModel) → image.entry.name ≡ model.name → image.payload ≡ model.payload →
       loses_position content.blob.file old_nodes (tree_of content) image ≡ loses_position_from content.images model
   loses_same image model is same =
-      ap (λ place. is_fixed place && (has_bytes (old_payload (tree_of content) image) && is_some image.payload))
+      ap (λ place. is_fixed place && (is_not_empty (old_payload (tree_of content) image) && is_some image.payload))
       (old_place_same image model.name is)
       ∙ ap (λ payload. is_fixed (place_or_absent (model_named model.name content.images))
-      && (has_bytes payload && is_some image.payload)) (old_payload_same image model.name is)
+      && (is_not_empty payload && is_some image.payload)) (old_payload_same image model.name is)
       ∙ ap (λ payload. is_fixed (place_or_absent (model_named model.name content.images))
-      && (has_bytes (payload_or_none (model_named model.name content.images)) && is_some payload)) same
+      && (is_not_empty (payload_or_none (model_named model.name content.images)) && is_some payload)) same
 
   -- How many images of a new tree pass a test.
   count_same : (test : TreeImage → Bool) (model_test : ImageModel → Bool) →

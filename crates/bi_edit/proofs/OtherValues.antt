@@ -109,16 +109,16 @@ kept_below path name change keeps None = refl
 kept_below path name change keeps (Some child) = keeps child
 
 -- A change at a path keeps a property, if it does so at this path and keeps the nodes below.
-pub kept_at : (at : List (List ℕ)) (change : Root PropertyMap → Root PropertyMap) →
+pub value_kept_at : (at : List (List ℕ)) (change : Root PropertyMap → Root PropertyMap) →
     ((root : Root PropertyMap) → (change root).children ≡ root.children) → (path : List (List ℕ)) (name : List ℕ) →
     (path ≡ at → (root : Root PropertyMap) → get (change root).own name ≡ get root.own name) → (root : Root PropertyMap) →
     value_by_path (with_change_at at change root) path name ≡ value_by_path root path name
-kept_at [] change children [] name keeps root = keeps refl root
-kept_at [] change children (next ∷ later) name keeps root =
+value_kept_at [] change children [] name keeps root = keeps refl root
+value_kept_at [] change children (next ∷ later) name keeps root =
     ap (λ nodes. value_below later name (child_named nodes next)) (children root)
-kept_at (first ∷ rest) change children [] name keeps root = refl
-kept_at (first ∷ rest) change children (next ∷ later) name keeps root =
-    by (bytes_eq first next) refl (kept_at rest change children later name)
+value_kept_at (first ∷ rest) change children [] name keeps root = refl
+value_kept_at (first ∷ rest) change children (next ∷ later) name keeps root =
+    by (bytes_eq first next) refl (value_kept_at rest change children later name)
   where
     by : (b : Bool) → bytes_eq first next ≡ b →
         ((later ≡ rest → (root : Root PropertyMap) → get (change root).own name ≡ get root.own name) → (root : Root PropertyMap) →
@@ -146,12 +146,12 @@ kept_in_new : (path : List (List ℕ)) (name : List ℕ) (change : Root Property
 kept_in_new path name change keeps None = keeps (record { own = empty; children = none }) ∙ nothing_below path name
 kept_in_new path name change keeps (Some child) = keeps child
 
-pub kept_with : (at path : List (List ℕ)) (name : List ℕ) → ((n : List ℕ) → bytes_eq n n ≡ true) → (root : Root PropertyMap) →
+pub value_kept_with : (at path : List (List ℕ)) (name : List ℕ) → ((n : List ℕ) → bytes_eq n n ≡ true) → (root : Root PropertyMap) →
     value_by_path (with_node_at empty at root) path name ≡ value_by_path root path name
-kept_with [] path name reflexive root = refl
-kept_with (first ∷ rest) [] name reflexive root = refl
-kept_with (first ∷ rest) (next ∷ later) name reflexive root =
-    by (bytes_eq first next) refl (kept_with rest later name reflexive)
+value_kept_with [] path name reflexive root = refl
+value_kept_with (first ∷ rest) [] name reflexive root = refl
+value_kept_with (first ∷ rest) (next ∷ later) name reflexive root =
+    by (bytes_eq first next) refl (value_kept_with rest later name reflexive)
   where
     by : (b : Bool) → bytes_eq first next ≡ b →
         ((root : Root PropertyMap) → value_by_path (with_node_at empty rest root) later name ≡ value_by_path root later name) →
@@ -170,18 +170,18 @@ kept_with (first ∷ rest) (next ∷ later) name reflexive root =
         ∙ other_child_new empty first next differs root.children)
 
 -- A node that is removed takes only what is at its path and below it.
-pub kept_without : (at path : List (List ℕ)) (name : List ℕ) → ¬ (BeginsPath at path) → (root : Root PropertyMap) →
+pub value_kept_without : (at path : List (List ℕ)) (name : List ℕ) → ¬ (BeginsPath at path) → (root : Root PropertyMap) →
     value_by_path (without_node_at at root) path name ≡ value_by_path root path name
-kept_without [] path name apart root = refl
-kept_without (first ∷ []) [] name apart root = refl
-kept_without (first ∷ []) (next ∷ later) name apart root = by (bytes_eq first next) refl where
+value_kept_without [] path name apart root = refl
+value_kept_without (first ∷ []) [] name apart root = refl
+value_kept_without (first ∷ []) (next ∷ later) name apart root = by (bytes_eq first next) refl where
   by : (b : Bool) → bytes_eq first next ≡ b →
       value_by_path (without_node_at (first ∷ []) root) (next ∷ later) name ≡ value_by_path root (next ∷ later) name
   by true same = absurd (apart (later, ap (λ n. n ∷ later) (sym (same_bytes first next same))))
   by false differs = ap (value_below later name) (other_child_without first next differs root.children)
-kept_without (first ∷ second ∷ rest) [] name apart root = refl
-kept_without (first ∷ second ∷ rest) (next ∷ later) name apart root =
-    by (bytes_eq first next) refl (kept_without (second ∷ rest) later name)
+value_kept_without (first ∷ second ∷ rest) [] name apart root = refl
+value_kept_without (first ∷ second ∷ rest) (next ∷ later) name apart root =
+    by (bytes_eq first next) refl (value_kept_without (second ∷ rest) later name)
   where
     by : (b : Bool) → bytes_eq first next ≡ b →
         (¬ (BeginsPath (second ∷ rest) later) → (root : Root PropertyMap) →

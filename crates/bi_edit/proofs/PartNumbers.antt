@@ -8,7 +8,7 @@ use Rattle.bi_edit.specs.Edits.{has_part, with_part}
 
 -- The part of a number.
 
-differs : (one other : List ℕ) → (one ≡ other → ⊥) → (b : Bool) → bytes_eq one other ≡ b → bytes_eq one other ≡ false
+pub differs : (one other : List ℕ) → (one ≡ other → ⊥) → (b : Bool) → bytes_eq one other ≡ b → bytes_eq one other ≡ false
 differs one other no true is = absurd (no (same_bytes one other is))
 differs one other no false is = is
 

@@ -8,12 +8,18 @@ use Rattle.bi_fit.specs.ImageTree.{ImageTree, IsImageTree}
 use Rattle.bi_fit.specs.Names.{data_name, images_name, is_hash_name, timestamp_name, value_name}
 use Rattle.bi_plain.specs.Plain.{IsPlainTree, plain_root}
 use Rattle.bi_tree.specs.Trees.{value_by_path}
+use Rattle.bi_fit.specs.declared.form.Form.{Form}
+use Rattle.bi_norm.specs.Meaning.{Meaning, Means}
+use Rattle.bi_norm.specs.NormalForm.{IsNormalForm}
 use Rattle.bi_edit.specs.declared.edit.Edit.{Edit}
 use Rattle.bi_edit.specs.declared.edit.Edit.TheVariants.{RemoveNode, RemoveProperty, SetProperty}
 use Rattle.bi_edit.specs.declared.edit.Edit.TheVariants.{SetField, SetPayload, SetTime, SetDigests}
 use Rattle.bi_edit.specs.declared.edit.FieldValue.{FieldValue}
 use Rattle.bi_edit.specs.declared.edit.FieldValue.TheVariants as field
-use Rattle.bi_edit.specs.Edits.{IsTooDeep, edited_root, edited_tree, in_edit_order, root_after}
+use Rattle.bi_edit.specs.declared.form_choice.FormChoice.TheVariants as choice
+use Rattle.bi_edit.specs.EditedFiles.{IsEdited}
+use Rattle.bi_edit.specs.Edits.{IsTooDeep, edited_root, edited_tree, in_edit_order, meaning_after}
+use Rattle.bi_edit.specs.Edits.{root_after}
 use Rattle.bi_edit.specs.Places.{IsChildNameOfBytes, IsPlace, IsRemovable, PropertyPlaceModel}
 use Rattle.bi_edit.specs.Places.{image_path}
 
@@ -88,8 +94,8 @@ IsNamedBy (SetTime time) path name = (path ≡ []) × (name ≡ timestamp_name)
 IsNamedBy SetDigests path name = IsHashPath path × (name ≡ value_name)
 
 -- The value of a property that no edit names stays, or there is none before and after.
-abbrev pub OthersStay : Type 0
-OthersStay =
+abbrev pub OtherValuesStay : Type 0
+OtherValuesStay =
     (root : Root PropertyMap) (edits : List Edit) (path : List (List ℕ)) (name : List ℕ)
     → AllByRecursion (λ edit. ¬ (IsNamedBy edit path name)) edits
     → value_by_path (root_after root edits) path name ≡ value_by_path root path name
@@ -118,3 +124,18 @@ NothingChanges =
     (tree : ImageTree) (edits : List Edit) → IsImageTree tree
     → root_after (plain_root tree) (in_edit_order edits) ≡ plain_root tree
     → edited_tree edits tree ≡ tree
+
+-- Edits that change nothing of what a file means give its normal form.
+abbrev pub NoChangeNormalises : Type 0
+NoChangeNormalises =
+    (edits : List Edit) (limits : Limits) (form : Form) (file text normal : List ℕ)
+    → IsEdited edits (choice.Given form) limits file text
+    → ((meaning : Meaning) → Means limits file meaning → meaning_after edits meaning ≡ meaning)
+    → IsNormalForm limits form file normal → text ≡ normal
+
+-- In a given form a file has at most one text after edits.
+abbrev pub OneEditedText : Type 0
+OneEditedText =
+    (edits : List Edit) (limits : Limits) (form : Form) (file text other : List ℕ)
+    → IsEdited edits (choice.Given form) limits file text
+    → IsEdited edits (choice.Given form) limits file other → text ≡ other

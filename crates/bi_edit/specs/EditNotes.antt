@@ -43,10 +43,10 @@ still_placed file nodes old new =
     (map (old_payload old) (images_of new)) (external_places new)
 
 -- Whether there is a payload, and it is not empty.
-abbrev pub has_bytes : Option (List ℕ) → Bool
-has_bytes None = false
-has_bytes (Some []) = false
-has_bytes (Some (byte ∷ later)) = true
+abbrev pub is_not_empty : Option (List ℕ) → Bool
+is_not_empty None = false
+is_not_empty (Some []) = false
+is_not_empty (Some (byte ∷ later)) = true
 
 -- Whether `data-position` gives a place, and whether it or `data-offset` does.
 abbrev pub is_fixed : Place → Bool
@@ -62,7 +62,7 @@ is_outside place = is_fixed place
 abbrev pub comes_inside : (file : List ℕ) → Nodes FileNode → (old : ImageTree) → Image → Bool
 comes_inside file nodes old image =
     is_outside (old_place file nodes image)
-    && (has_bytes (old_payload old image) && has_bytes image.payload)
+    && (is_not_empty (old_payload old image) && is_not_empty image.payload)
 
 -- How many such images there are.
 abbrev pub inside_count : (file : List ℕ) → Nodes FileNode → (old new : ImageTree) → ℕ
@@ -74,7 +74,7 @@ inside_count file nodes old new =
 abbrev pub loses_position : (file : List ℕ) → Nodes FileNode → (old : ImageTree) → Image → Bool
 loses_position file nodes old image =
     is_fixed (old_place file nodes image)
-    && (has_bytes (old_payload old image) && is_some image.payload)
+    && (is_not_empty (old_payload old image) && is_some image.payload)
 
 -- How many such images there are.
 abbrev pub position_count : (file : List ℕ) → Nodes FileNode → (old new : ImageTree) → ℕ

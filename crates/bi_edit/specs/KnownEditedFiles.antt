@@ -12,7 +12,7 @@ use Rattle.bi_edit.specs.declared.edit.Edit.TheVariants.{SetDigests, SetTime}
 use Rattle.bi_edit.specs.declared.edit.FieldValue.TheVariants as field
 use Rattle.bi_edit.specs.declared.edit_error.EditError.TheVariants as error
 use Rattle.bi_edit.specs.declared.form_choice.FormChoice.TheVariants as choice
-use Rattle.bi_edit.specs.EditNotes.{has_bytes, is_fixed, is_outside}
+use Rattle.bi_edit.specs.EditNotes.{is_not_empty, is_fixed, is_outside}
 use Rattle.bi_edit.specs.EditRefusals.{IsEditError, NeedsTooMuch}
 use Rattle.bi_edit.specs.Edits.{meaning_after}
 use Rattle.bi_edit.specs.FormChoices.{IsChosenForm, IsFormOfPlaced}
@@ -59,9 +59,9 @@ pub record PlacesAreKnown : Type 0 where
   pub in_blob : is_outside (Data 1) ≡ is_fixed (DataOffset 1)
   pub offset : is_outside (DataOffset 1) ≡ is_outside (DataPosition 1)
   pub position : is_outside (DataPosition 1) ≡ is_fixed (DataPosition 1)
-  pub bytes : has_bytes (Some (0 ∷ [])) ≡ is_fixed (DataPosition 1)
-  pub no_bytes : has_bytes (Some []) ≡ is_fixed (Data 1)
-  pub nothing : has_bytes None ≡ is_fixed (Data 1)
+  pub bytes : is_not_empty (Some (0 ∷ [])) ≡ is_fixed (DataPosition 1)
+  pub no_bytes : is_not_empty (Some []) ≡ is_fixed (Data 1)
+  pub nothing : is_not_empty None ≡ is_fixed (Data 1)
 
 -- The bound is on the payloads after the edits, and only if digests are computed.
 pub record EditBoundsAreKnown : Type 0 where

@@ -6,7 +6,7 @@ use Rattle.bi_fit.specs.declared.image.Image.{Image}
 use Rattle.bi_fit.specs.Content.{ImageModel, image_model, place_or_absent}
 use Rattle.bi_fit.specs.Kept.{PlacedPayload, payload_if_placed}
 use Rattle.bi_fit.specs.Text.{end_after}
-use Rattle.bi_edit.specs.EditNotes.{has_bytes, is_fixed, is_outside}
+use Rattle.bi_edit.specs.EditNotes.{is_not_empty, is_fixed, is_outside}
 
 -- The images of an edited file, by the names of images of the edited tree.
 
@@ -23,13 +23,13 @@ payload_or_none found = option_and_then (λ image. image.payload) found
 abbrev pub comes_inside_from : List ImageModel → ImageModel → Bool
 comes_inside_from old image =
     is_outside (place_or_absent (model_named image.name old))
-    && (has_bytes (payload_or_none (model_named image.name old)) && has_bytes image.payload)
+    && (is_not_empty (payload_or_none (model_named image.name old)) && is_not_empty image.payload)
 
 -- Whether an image has a payload, and that was not empty and at a fixed position before.
 abbrev pub loses_position_from : List ImageModel → ImageModel → Bool
 loses_position_from old image =
     is_fixed (place_or_absent (model_named image.name old))
-    && (has_bytes (payload_or_none (model_named image.name old)) && is_some image.payload)
+    && (is_not_empty (payload_or_none (model_named image.name old)) && is_some image.payload)
 
 -- The payloads of these images that were not empty and outside the blob before. The blob of the
 -- text has `base` bytes, and the payloads before these end at `end`.

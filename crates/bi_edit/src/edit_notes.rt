@@ -19,7 +19,7 @@ ghost use Rattle.bi_edit.specs.OldImages.{still_placed_from};
 ghost use Rattle.bi_edit.specs.PlacedPayloads.{placed_list};
 
 use crate::form_choice::FormChoice;
-use crate::outside_payloads::{OutsidePayload, has_bytes, lost_alignment, push_placed};
+use crate::outside_payloads::{OutsidePayload, is_not_empty, lost_alignment, push_placed};
 use bi_base::up4;
 use bi_fit::{Fit, Form, Image, Kept, Place};
 use std::alloc::{AllocError, Global};
@@ -145,7 +145,7 @@ fn comes_inside(old: &Fit<'_>, image: &Image<'_>) -> bool
 {
     match image_of(old, image.name) {
         Some(before) => {
-            is_outside(before.place) && has_bytes(before.payload) && has_bytes(image.payload)
+            is_outside(before.place) && is_not_empty(before.payload) && is_not_empty(image.payload)
         }
         None => false,
     }
@@ -177,7 +177,7 @@ fn loses_position(old: &Fit<'_>, image: &Image<'_>) -> bool
     match image_of(old, image.name) {
         Some(before) => {
             matches!(before.place, Place::DataPosition(_))
-                && has_bytes(before.payload)
+                && is_not_empty(before.payload)
                 && image.payload.is_some()
         }
         None => false,

@@ -1,8 +1,8 @@
 //! Laws of edits. The functions do nothing: what each one ensures is the law.
 
 ghost use Rattle.bi_edit.specs.EditLaws.{EditsKeepImageTrees, EditsKeepPlainTrees};
-ghost use Rattle.bi_edit.specs.EditLaws.{NothingChanges, OthersStay, SetValuesAreThere};
-ghost use Rattle.bi_edit.specs.EditLaws.{SettingWhatIsThere};
+ghost use Rattle.bi_edit.specs.EditLaws.{NothingChanges, OtherValuesStay, SetValuesAreThere};
+ghost use Rattle.bi_edit.specs.EditLaws.{NoChangeNormalises, OneEditedText, SettingWhatIsThere};
 
 /// Edits of a plain tree make a plain tree. It is no deeper than a limit, if the tree is not, and
 /// no edit adds nodes that are.
@@ -16,8 +16,8 @@ pub fn edits_keep_image_trees()
 {}
 
 /// Properties that no edit names stay.
-pub fn others_stay()
-    ensures { OthersStay }
+pub fn other_values_stay()
+    ensures { OtherValuesStay }
 {}
 
 /// A property that was set has this value, after later edits that do not name it, too.
@@ -33,4 +33,14 @@ pub fn setting_what_is_there()
 /// Edits that change nothing of the plain tree change nothing of the flattened image tree.
 pub fn nothing_changes()
     ensures { NothingChanges }
+{}
+
+/// Edits that change nothing of what a file means give its normal form.
+pub fn no_change_normalises()
+    ensures { NoChangeNormalises }
+{}
+
+/// In a given form a file has at most one text after edits.
+pub fn one_edited_text()
+    ensures { OneEditedText }
 {}

@@ -5,7 +5,7 @@ ghost use Rattle.std.specs.Prelude.{IsNone, OnOk};
 ghost use Rattle.std.specs.Option.{option_map};
 ghost use Rattle.bi_fit.specs.Kept.{AreAlignedInFile, AreAlignedInText, IsAlignmentOf, IsPower};
 ghost use Rattle.bi_fit.specs.Kept.{LosesAlignment, payload_if_placed};
-ghost use Rattle.bi_edit.specs.EditNotes.{has_bytes as has_bytes_of};
+ghost use Rattle.bi_edit.specs.EditNotes.{is_not_empty as is_not_empty_of};
 ghost use Rattle.bi_edit.specs.PlacedPayloads.{placed_list, placed_of_images, placed_or_none};
 
 use bi_fit::{Image, Place};
@@ -31,7 +31,7 @@ fn placed_if(place: Place, payload: Option<&[u8]>, new_offset: u32) -> Option<Ou
     ensures { placed_or_none result ≡ payload_if_placed place
         (option_map (λ payload. payload.now) payload.entry) (Some new_offset) }
 {
-    if !has_bytes(payload) {
+    if !is_not_empty(payload) {
         return None;
     }
     match place {
@@ -50,8 +50,8 @@ fn placed_if(place: Place, payload: Option<&[u8]>, new_offset: u32) -> Option<Ou
 }
 
 /// Returns whether there is a payload, and it is not empty.
-pub(crate) fn has_bytes(payload: Option<&[u8]>) -> bool
-    ensures { result ≡ has_bytes_of (option_map (λ payload. payload.now) payload.entry) }
+pub(crate) fn is_not_empty(payload: Option<&[u8]>) -> bool
+    ensures { result ≡ is_not_empty_of (option_map (λ payload. payload.now) payload.entry) }
 {
     match payload {
         Some(payload) => !payload.is_empty(),

@@ -12,7 +12,7 @@ use Rattle.bi_edit.specs.Applying.{IsApplyError}
 use Rattle.bi_edit.specs.EditedFits.{edit_error_of}
 use Rattle.bi_edit.specs.EditRefusals.{IsEditError, OfDepth}
 use Rattle.bi_edit.specs.Edits.{AllFind, IsFirstRefused, before_digests, root_after}
-use Rattle.bi_edit.proofs.EditedFits.{edit_error_passed_on, edited_text, has_text, of_apply_error, of_digests_error}
+use Rattle.bi_edit.proofs.EditedFits.{edit_error_passed_on, edited_text, edited_tree_has_text, of_apply_error, of_digests_error}
 use Rattle.bi_edit.proofs.EditedFits.{of_kind_error, of_long_payloads, of_write_error}
 use Rattle.bi_edit.proofs.edited_fit.edit_fit.Goals as goal
 
@@ -72,7 +72,7 @@ pub write_plain_tree-requires : goal.write_plain_tree-requires
 write_plain_tree-requires c =
     let tree = tree_of c.args.fit.now in
     let edits = c.args.edits.now in
-    let has = has_text c.args.limits c.args.fit.now edits c.requires c.know_limits.ensures c.know_edits.ensures
+    let has = edited_tree_has_text c.args.limits c.args.fit.now edits c.requires c.know_limits.ensures c.know_edits.ensures
     c.in_ok-check_tree_kind.ensures.ok c.in_ok-check_depths.ensures.ok c.apply_before_digests.new.tree
     (c.in_ok-apply_before_digests.ensures.edited ∙ ap (λ first. root_after first (before_digests edits)) c.in_ok-tree.ensures) in
     subst (λ (blob : Blob). HasPlainText blob.cpu blob.reservations c.apply_digests.new.tree) (sym c.blob.ensures)

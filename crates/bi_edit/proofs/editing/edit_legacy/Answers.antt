@@ -2,7 +2,9 @@ use Rattle.std.proofs.Common.{◌≡◌, refl, sym, ap, subst, ◌∙◌, arith}
 use Rattle.std.proofs.lemmas.Result.{err_from_is_err_and}
 use Rattle.bi_base.specs.Commands.{WasRefused}
 use Rattle.bi_norm.specs.Meaning.{OfLegacy}
-use Rattle.bi_edit.proofs.EditedFiles.{legacy_not_edited, legacy_not_written, legacy_written, of_part_error, out_of_memory}
+use Rattle.bi_edit.proofs.EditedFiles.{legacy_not_edited, legacy_not_written, legacy_written, of_part_error, edits_out_of_memory}
+use Rattle.bi_edit.specs.Applying.{IsApplyError}
+use Rattle.bi_edit.specs.Edits.{IsFirstWithoutPart, in_edit_order}
 use Rattle.bi_edit.proofs.EditedFiles.{form_of_legacy, has_form_of_legacy}
 use Rattle.bi_edit.proofs.EditedFits.{of_kind_error}
 use Rattle.bi_edit.proofs.editing.edit_legacy.Goals as goal
@@ -19,11 +21,19 @@ returns-in_err-check_legacy_kind-clause-failed g c file opened =
 pub returns-in_err-content-clause-failed : goal.returns-in_err-content-clause-failed
 returns-in_err-content-clause-failed g c file opened =
     let p = err_from_is_err_and c.from_residual-in_err-content.result c.from_residual-in_err-content.ensures.1 in
-    rw (p.1, p.2) (WasRefused (out_of_memory c.args.edits.now c.args.choice c.args.limits file (OfLegacy c.args.image.now.image)
+    rw (p.1, p.2) (WasRefused (edits_out_of_memory c.args.edits.now c.args.choice c.args.limits file (OfLegacy c.args.image.now.image)
     opened.means) refl)
 
 pub returns-in_err-apply-clause-failed : goal.returns-in_err-apply-clause-failed
-returns-in_err-apply-clause-failed g c file opened = ?
+returns-in_err-apply-clause-failed g c file opened =
+    let p = err_from_is_err_and c.from_residual-in_err-apply.result c.from_residual-in_err-apply.ensures.1 in
+    let edits = c.args.edits.now in
+    let error = c.in_err-apply.field-0.0 in
+    rw (p.1, p.2) (WasRefused (of_part_error edits c.args.choice c.args.limits file c.args.image.now opened
+    (form_of_legacy c.args.choice) (has_form_of_legacy c.args.choice file c.args.image.now.image) c.in_ok-check_legacy_kind.ensures.ok
+    error
+    (subst (λ image. IsApplyError (IsFirstWithoutPart image (in_edit_order edits)) edits error) c.in_ok-content.ensures
+    c.in_err-apply.ensures.failed)) refl)
 
 pub returns-in_err-emit-clause-failed : goal.returns-in_err-emit-clause-failed
 returns-in_err-emit-clause-failed g c file opened = ?

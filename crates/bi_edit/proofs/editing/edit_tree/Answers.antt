@@ -7,13 +7,13 @@ use Rattle.bi_fit.specs.Content.{tree_of}
 use Rattle.bi_fit.specs.Text.{fit_text}
 use Rattle.bi_norm.specs.Meaning.{OfFit}
 use Rattle.bi_edit.specs.FormChoices.{IsChosenForm}
-use Rattle.bi_edit.proofs.EditedFiles.{blob_not_read, out_of_memory, text_not_made, tree_is_edited, tree_not_edited, tree_output}
+use Rattle.bi_edit.proofs.EditedFiles.{blob_not_read, edits_out_of_memory, text_not_made, tree_is_edited, tree_not_edited, tree_output}
 use Rattle.bi_edit.proofs.editing.edit_tree.Goals as goal
 
 pub returns-in_err-form-clause-failed : goal.returns-in_err-form-clause-failed
 returns-in_err-form-clause-failed g c file opened =
     let p = err_from_is_err_and c.from_residual.result c.from_residual.ensures.1 in
-    rw (p.1, p.2) (WasRefused (out_of_memory c.args.edits.now c.args.choice c.args.limits file (OfFit (tree_of c.args.fit.now))
+    rw (p.1, p.2) (WasRefused (edits_out_of_memory c.args.edits.now c.args.choice c.args.limits file (OfFit (tree_of c.args.fit.now))
     opened.means) refl)
 
 pub returns-in_err-blob-clause-failed : goal.returns-in_err-blob-clause-failed
@@ -40,12 +40,20 @@ pub notes_of-requires-clause-held : goal.notes_of-requires-clause-held
 notes_of-requires-clause-held g c = c.in_ok-edited.ensures.read.held
 
 pub notes_of-requires-clause-size : goal.notes_of-requires-clause-size
-notes_of-requires-clause-size g c = ?
+notes_of-requires-clause-size g c = λ given.
+    let is_form : c.in_ok-form.form ≡ External =
+    subst (λ choice. IsChosenForm choice c.requires.0 (OfFit (tree_of c.args.fit.now)) c.in_ok-form.form) given
+    (c.in_ok-form.ensures c.args.limits c.requires.0 c.requires.1) in (
+      ap (λ form. length (fit_text form (tree_of c.in_ok-edited.edited))) (sym is_form)
+          ∙ ap length (sym c.in_ok-text.ensures.text.is_text)
+          ∙ sym c.size.ensures.size,
+      c.size.ensures.small,
+    )
 
 pub returns-in_err-notes-clause-failed : goal.returns-in_err-notes-clause-failed
 returns-in_err-notes-clause-failed g c file opened =
     let p = err_from_is_err_and c.from_residual-in_err-notes.result c.from_residual-in_err-notes.ensures.1 in
-    rw (p.1, p.2) (WasRefused (out_of_memory c.args.edits.now c.args.choice c.args.limits file (OfFit (tree_of c.args.fit.now))
+    rw (p.1, p.2) (WasRefused (edits_out_of_memory c.args.edits.now c.args.choice c.args.limits file (OfFit (tree_of c.args.fit.now))
     opened.means) refl)
 
 pub returns-in_err-emit-clause-failed : goal.returns-in_err-emit-clause-failed
