@@ -60,16 +60,9 @@ none_from name (image ∷ later) base is = by (bytes_eq image.name name) refl is
   by true one is rest = absurd (let here : Some base ≡ None = rw one at is in cc)
   by false one is rest = rw one (rest (rw one at is))
 
-slice_get-map : (images : List Image) (index : ℕ) → slice_get (map image_model images) index ≡ option_map image_model (slice_get images index)
-slice_get-map [] index = refl
-slice_get-map (image ∷ later) zero = refl
-slice_get-map (image ∷ later) (suc index) = slice_get-map later index
-
-pub image_found : (images : List Image) (name : List ℕ) (index : ℕ) → index_of name (map image_model images) ≡ Some index →
-    option_map image_model (slice_get images index) ≡ model_named name (map image_model images)
-image_found images name index is =
-    let found = found_from name (map image_model images) 0 index is in
-    sym (slice_get-map images index) ∙ ap (slice_get (map image_model images)) found.is ∙ found.same
+pub image_found : (name : List ℕ) (images : List ImageModel) (index : ℕ) → index_of name images ≡ Some index →
+    slice_get images index ≡ model_named name images
+image_found name images index is = let found = found_from name images 0 index is in ap (slice_get images) found.is ∙ found.same
 
 pub no_image_found : (name : List ℕ) (images : List ImageModel) → index_of name images ≡ None → model_named name images ≡ None
 no_image_found name images is = none_from name images 0 is

@@ -126,8 +126,8 @@ NothingChanges =
     → edited_tree edits tree ≡ tree
 
 -- Edits that change nothing of what a file means give its normal form.
-abbrev pub NoChangeNormalises : Type 0
-NoChangeNormalises =
+abbrev pub EditsThatChangeNothing : Type 0
+EditsThatChangeNothing =
     (edits : List Edit) (limits : Limits) (form : Form) (file text normal : List ℕ)
     → IsEdited edits (choice.Given form) limits file text
     → ((meaning : Meaning) → Means limits file meaning → meaning_after edits meaning ≡ meaning)

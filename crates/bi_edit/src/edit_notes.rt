@@ -7,7 +7,7 @@ ghost use Rattle.bi_base.specs.Limits.{Limits};
 ghost use Rattle.bi_blob.specs.Layout.{longest_text};
 ghost use Rattle.bi_fit.specs.declared.form.Form.{Form};
 ghost use Rattle.bi_fit.specs.declared.form.Form.TheVariants.{External};
-ghost use Rattle.bi_fit.specs.Content.{IsHeld, image_model, tree_of};
+ghost use Rattle.bi_fit.specs.Content.{IsHeld, image_model, place_or_absent, tree_of};
 ghost use Rattle.bi_fit.specs.Kept.{LosesAlignment};
 ghost use Rattle.bi_fit.specs.NormalNodes.{payloads_of};
 ghost use Rattle.bi_fit.specs.Reading.{IsReadFit};
@@ -15,7 +15,7 @@ ghost use Rattle.bi_fit.specs.Text.{end_after as end_after_of, fit_text, payload
 ghost use Rattle.bi_edit.specs.declared.form_choice.FormChoice.TheVariants.{Given};
 ghost use Rattle.bi_edit.specs.EditNotes.{AreTreeNotes, is_outside as is_outside_of};
 ghost use Rattle.bi_edit.specs.OldImages.{comes_inside_from, loses_position_from, model_named};
-ghost use Rattle.bi_edit.specs.OldImages.{still_placed_from};
+ghost use Rattle.bi_edit.specs.OldImages.{payload_or_none, still_placed_from};
 ghost use Rattle.bi_edit.specs.PlacedPayloads.{placed_list};
 
 use crate::form_choice::FormChoice;
@@ -116,13 +116,23 @@ fn external_notes(
     })
 }
 
-/// Returns the image with this name. Returns None if there is none.
-fn image_of<'b, 'a>(old: &'b Fit<'a>, name: &[u8]) -> Option<&'b Image<'a>>
-    ensures { option_map (λ image. image_model image.now) result
-        ≡ model_named name.now old.entry.now.images }
+/// Returns where the payload of the image with this name is in a file.
+fn old_place(old: &Fit<'_>, name: &[u8]) -> Place
+    ensures { result ≡ place_or_absent (model_named name.now old.now.images) }
 {
     match old.image(name) {
-        Some(index) => old.images().get(index),
+        Some(index) => old.place(index),
+        None => Place::Absent,
+    }
+}
+
+/// Returns the payload of the image with this name, if there is one.
+fn old_payload<'a>(old: &Fit<'a>, name: &[u8]) -> Option<&'a [u8]>
+    ensures { option_map (λ payload. payload.now) result
+        ≡ payload_or_none (model_named name.now old.now.images) }
+{
+    match old.image(name) {
+        Some(index) => old.payload(index),
         None => None,
     }
 }
@@ -143,12 +153,9 @@ fn inside_count(old: &Fit<'_>, images: &[Image<'_>]) -> usize
 fn comes_inside(old: &Fit<'_>, image: &Image<'_>) -> bool
     ensures { result ≡ comes_inside_from old.now.images (image_model image.now) }
 {
-    match image_of(old, image.name) {
-        Some(before) => {
-            is_outside(before.place) && is_not_empty(before.payload) && is_not_empty(image.payload)
-        }
-        None => false,
-    }
+    is_outside(old_place(old, image.name))
+        && is_not_empty(old_payload(old, image.name))
+        && is_not_empty(image.payload)
 }
 
 /// Returns whether `data-offset` or `data-position` gives a place.
@@ -174,14 +181,9 @@ fn position_count(old: &Fit<'_>, images: &[Image<'_>]) -> usize
 fn loses_position(old: &Fit<'_>, image: &Image<'_>) -> bool
     ensures { result ≡ loses_position_from old.now.images (image_model image.now) }
 {
-    match image_of(old, image.name) {
-        Some(before) => {
-            matches!(before.place, Place::DataPosition(_))
-                && is_not_empty(before.payload)
-                && image.payload.is_some()
-        }
-        None => false,
-    }
+    matches!(old_place(old, image.name), Place::DataPosition(_))
+        && is_not_empty(old_payload(old, image.name))
+        && image.payload.is_some()
 }
 
 /// Returns where the payloads of images end after the blob in the form External, counted from the
@@ -249,8 +251,7 @@ fn push_still_placed(
     if image.payload.is_none() {
         return Ok(());
     }
-    match image_of(old, image.name) {
-        Some(before) => push_placed(all, before.place, before.payload, base + up4(end) as u32),
-        None => Ok(()),
-    }
+    let place = old_place(old, image.name);
+    let payload = old_payload(old, image.name);
+    push_placed(all, place, payload, base + up4(end) as u32)
 }

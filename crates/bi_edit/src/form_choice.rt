@@ -59,8 +59,11 @@ fn at_least_four(bytes: u32) -> Align
     requires { IsPower bytes }
     ensures { align_bytes result ≡ max bytes 4 }
 {
-    match Align::new(bytes) {
-        Some(align) => align,
-        None => Align::four(),
+    if bytes < 4 {
+        return Align::four();
     }
+    let Some(align) = Align::new(bytes) else {
+        unreachable!();
+    };
+    align
 }

@@ -2,7 +2,7 @@
 
 ghost use Rattle.bi_edit.specs.EditLaws.{EditsKeepImageTrees, EditsKeepPlainTrees};
 ghost use Rattle.bi_edit.specs.EditLaws.{NothingChanges, OtherValuesStay, SetValuesAreThere};
-ghost use Rattle.bi_edit.specs.EditLaws.{NoChangeNormalises, OneEditedText, SettingWhatIsThere};
+ghost use Rattle.bi_edit.specs.EditLaws.{EditsThatChangeNothing, OneEditedText, SettingWhatIsThere};
 
 /// Edits of a plain tree make a plain tree. It is no deeper than a limit, if the tree is not, and
 /// no edit adds nodes that are.
@@ -36,8 +36,8 @@ pub fn nothing_changes()
 {}
 
 /// Edits that change nothing of what a file means give its normal form.
-pub fn no_change_normalises()
-    ensures { NoChangeNormalises }
+pub fn edits_that_change_nothing()
+    ensures { EditsThatChangeNothing }
 {}
 
 /// In a given form a file has at most one text after edits.

@@ -1,5 +1,10 @@
-use Rattle.std.proofs.Common.{◌≡◌, ◌∙◌, zero, suc, List, [], ◌∷◌, codes, Some, ap, refl, inl, inr, arith}
+use Rattle.std.proofs.Common.{◌≡◌, ◌<◌, ◌∙◌, zero, suc, List, [], ◌∷◌, codes, Some, nat_cmp, sym, ap, subst, refl, inl, inr, arith}
 use Rattle.std.specs.Prelude.{Contains}
+use Rattle.std.specs.Cmp.Lexicographic.{slice_cmp}
+use Rattle.std.specs.FinMap.{empty, get-empty}
+use Rattle.bi_common.specs.PayloadBounds.{payloads_length}
+use Rattle.bi_fit.specs.Names.{data_name}
+use Rattle.bi_fit.proofs.PayloadProperties.{get-put}
 use Rattle.bi_edit.specs.declared.edit.Edit.TheVariants.{RemoveNode, SetDigests, SetField, SetTime}
 use Rattle.bi_edit.specs.declared.edit.FieldValue.TheVariants as field
 use Rattle.bi_edit.specs.Places.{image_path}
@@ -15,8 +20,15 @@ other_edit same = absurd cc
 pub returns : goal.returns
 returns c = record {
   bounds = record {
-    new_payload = λ limits new longer. record { has_digests = (0, omega arith, refl); is_over = omega (arith, longer) };
-    removed_payload = λ limits old needs. omega (arith, needs.is_over);
+    new_payload = λ limits new longer. record {
+      has_digests = (0, omega arith, refl);
+      is_over = subst (λ payloads. limits.file < payloads_length payloads)
+          (λ i. sym (get-put empty data_name []) i ∷ sym (get-put empty data_name new.now) i ∷ []) (omega (arith, longer));
+    };
+    removed_payload = λ limits old needs.
+        let over = subst (λ payloads. limits.file < payloads_length payloads)
+        (λ i. get-empty (slice_cmp nat_cmp) data_name i ∷ []) needs.is_over in
+        omega (arith, over);
     no_digests = λ limits old needs. no_set needs.has_digests;
   };
   errors = record {

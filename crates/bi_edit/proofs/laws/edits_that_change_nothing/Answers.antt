@@ -1,6 +1,6 @@
 use Rattle.std.proofs.Common.{sym, ap, ◌∙◌}
 use Rattle.bi_norm.specs.Meaning.{normal_text}
-use Rattle.bi_edit.proofs.laws.no_change_normalises.Goals as goal
+use Rattle.bi_edit.proofs.laws.edits_that_change_nothing.Goals as goal
 
 pub returns : goal.returns
 returns c = λ edits limits form file text normal is stays is_normal.
