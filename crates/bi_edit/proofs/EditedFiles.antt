@@ -48,8 +48,8 @@ use Rattle.bi_edit.proofs.LegacyContents.{HasContent, edits_keep_content, legacy
 -- What is written of edits of a file, and its errors.
 
 -- An error of reading a file.
-pub error_of_read_file : (edits : List Edit) (choice : FormChoice) (limits : Limits) (file : List ℕ) (error : Error) →
-    IsBootImageReadError limits file error → IsEditFileError edits choice limits file (error.Failed error)
+pub error_of_read_file : (edits : List Edit) (choice : FormChoice) (limits : Limits) (file : List ℕ) (failure : Error) →
+    IsBootImageReadError limits file failure → IsEditFileError edits choice limits file (error.Failed failure)
 error_of_read_file edits choice limits file failure is = inl is
 
 -- Memory ran out for a file that means something.
@@ -113,7 +113,7 @@ module _ (edits : List Edit) (choice : FormChoice) (limits : Limits) (file : Lis
 
   module _ (blob : List ℕ) (made : IsEditedText limits tree edits blob) where
     -- It is read, unless memory runs out.
-    pub blob_not_read : (error : Error) → IsFitReadError limits blob error → IsEditFileError edits choice limits file (error.Failed error)
+    pub blob_not_read : (failure : Error) → IsFitReadError limits blob failure → IsEditFileError edits choice limits file (error.Failed failure)
     blob_not_read (Refused fault) is = absurd (is.means_nothing edited made.accepted.means)
     blob_not_read OutOfMemory is = edits_out_of_memory edits choice limits file (OfFit tree) read.means
     blob_not_read ReadFailed is = absurd is
@@ -123,8 +123,8 @@ module _ (edits : List Edit) (choice : FormChoice) (limits : Limits) (file : Lis
     blob_means new is = sym (is.only edited made.accepted.means)
 
     -- Its text is too long.
-    pub text_not_made : (new : FitModel) → IsReadFit limits blob new → (error : Error) → IsTextError limits form (tree_of new) error →
-        IsEditFileError edits choice limits file (error.Failed error)
+    pub text_not_made : (new : FitModel) → IsReadFit limits blob new → (failure : Error) → IsTextError limits form (tree_of new) failure →
+        IsEditFileError edits choice limits file (error.Failed failure)
     text_not_made new is (Refused fault) failed =
         inr (file_error (error.Failed (Refused fault))
         (OfText made.can (failed.0, subst (λ tree. limits.file < length (fit_text form tree)) (blob_means new is) failed.1)))

@@ -62,7 +62,10 @@ none_from name (image ∷ later) base is = by (bytes_eq image.name name) refl is
 
 pub image_found : (name : List ℕ) (images : List ImageModel) (index : ℕ) → index_of name images ≡ Some index →
     slice_get images index ≡ model_named name images
-image_found name images index is = let found = found_from name images 0 index is in ap (slice_get images) found.is ∙ found.same
+image_found name images index is =
+    let found = found_from name images 0 index is in
+    let same : index ≡ found.at = omega (arith, found.is) in
+    ap (slice_get images) same ∙ found.same
 
 pub no_image_found : (name : List ℕ) (images : List ImageModel) → index_of name images ≡ None → model_named name images ≡ None
 no_image_found name images is = none_from name images 0 is

@@ -11,13 +11,13 @@ use Rattle.bi_edit.specs.EditLaws.{BeginsPath}
 
 -- A change of a node, and nodes that are added or removed, keep the values of other properties.
 
+both_names : (name other : List ℕ) → bytes_eq name other ≡ false → (third : List ℕ) → bytes_eq third name ≡ true →
+    bytes_eq third other ≡ true → ⊥
+both_names name other differs third one two =
+    true≢false (sym (subst (λ n. bytes_eq n other ≡ true) (same_bytes third name one) two) ∙ differs)
+
 module _ {Own : Type 0} where
   -- ---- children of another name
-
-  both_names : (name other : List ℕ) → bytes_eq name other ≡ false → (third : List ℕ) → bytes_eq third name ≡ true →
-      bytes_eq third other ≡ true → ⊥
-  both_names name other differs third one two =
-      true≢false (sym (subst (λ n. bytes_eq n other ≡ true) (same_bytes third name one) two) ∙ differs)
 
   abbrev StaysWith : List ℕ → (Root Own → Root Own) → List ℕ → Nodes Own → Type 0
   StaysWith name change other nodes = child_named (with_node name change nodes) other ≡ child_named nodes other
@@ -44,8 +44,8 @@ module _ {Own : Type 0} where
       by (bytes_eq third name) refl (same_child_with name change later)
     where
       by : (b : Bool) → bytes_eq third name ≡ b → ChangesWith name change later → ChangesWith name change (node third own children later)
-      by true one rest = rw one refl
-      by false one rest = rw one rest
+      by true one rest = rw one (rw one refl)
+      by false one rest = rw one (rw one rest)
 
   abbrev StaysWithout : List ℕ → List ℕ → Nodes Own → Type 0
   StaysWithout name other nodes = child_named (without_node name nodes) other ≡ child_named nodes other

@@ -9,8 +9,8 @@ use Rattle.bi_edit.specs.Edits.{has_part, with_part}
 -- The part of a number.
 
 pub differs : (one other : List ℕ) → (one ≡ other → ⊥) → (b : Bool) → bytes_eq one other ≡ b → bytes_eq one other ≡ false
-differs one other no true is = absurd (no (same_bytes one other is))
-differs one other no false is = is
+differs one other apart true is = absurd (apart (same_bytes one other is))
+differs one other apart false is = is
 
 -- It is there.
 pub part_there : (name bytes : List ℕ) (index later : ℕ) (parts : List (List ℕ)) → later < length parts → index + later < 2 ^ 64 →

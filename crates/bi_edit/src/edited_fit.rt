@@ -12,6 +12,8 @@ ghost use Rattle.bi_fit.specs.Names.{data_name};
 ghost use Rattle.bi_norm.specs.Meaning.{OfFit};
 ghost use Rattle.bi_plain.specs.Plain.{plain_payloads};
 ghost use Rattle.bi_plain.specs.PlainNodes.{models_by_name};
+ghost use Rattle.bi_tree.specs.TreeNodes.{below};
+ghost use Rattle.bi_tree.specs.Trees.{tree_by_name};
 ghost use Rattle.bi_edit.specs.declared.edit.Edit.TheVariants.{SetDigests};
 ghost use Rattle.bi_edit.specs.EditedFits.{HasLongPayloads, IsEditedText, WasReadWithin};
 ghost use Rattle.bi_edit.specs.EditRefusals.{AreShallow, HasTooDeep, IsEditError};
@@ -95,9 +97,19 @@ fn payloads_are_within(tree: &Tree<'_>, limit: u32) -> bool
     ensures { IsTrue result ↔ (payloads_length (plain_payloads tree.now) ≤ limit) }
 {
     match tree.root.child(b"images") {
-        Some(images) => values_are_within(&images.children, limit),
+        Some(images) => children_are_within(images, limit),
         None => true,
     }
+}
+
+/// Returns whether the values of `data` of the children of a node are together no longer than a
+/// limit.
+fn children_are_within(images: &TreeNode<'_>, limit: u32) -> bool
+    ensures { let nodes = (tree_by_name (below images.now)).children in
+        let values = map (λ own. get own data_name) (each_own nodes) in
+        IsTrue result ↔ (payloads_length values ≤ limit) }
+{
+    values_are_within(&images.children, limit)
 }
 
 /// Returns whether the values of `data` of nodes are together no longer than a limit.

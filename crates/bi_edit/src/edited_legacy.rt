@@ -170,10 +170,11 @@ fn set_part<'a>(
     ensures set { IfOk result (λ found. bytes_of parts.new.items
         ≡ with_part 0 digits.now bytes.entry.now (bytes_of parts.old.items)) }
 {
+    let count = parts.len() as u64;
     let Some(number) = part_number(alloc, digits)? else {
         return Ok(false);
     };
-    if number >= parts.len() as u64 {
+    if number >= count {
         return Ok(false);
     }
     parts[number as usize] = bytes;

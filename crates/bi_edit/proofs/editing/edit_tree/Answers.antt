@@ -1,9 +1,10 @@
-use Rattle.std.proofs.Common.{◌≡◌, ◌≤◌, length, refl, sym, ap, subst, ◌∙◌, arith}
+use Rattle.std.proofs.Common.{◌≡◌, ◌≤◌, ℕ, List, length, refl, sym, ap, subst, ◌∙◌, arith}
 use Rattle.std.proofs.lemmas.Result.{err_from_is_err_and}
 use Rattle.bi_base.specs.Commands.{WasRefused, SinkFailed}
 use Rattle.bi_blob.specs.Layout.{longest_text}
 use Rattle.bi_fit.specs.declared.form.Form.TheVariants.{External}
 use Rattle.bi_fit.specs.Content.{tree_of}
+use Rattle.bi_fit.specs.Reading.{IsFitReadError, IsReadFit}
 use Rattle.bi_fit.specs.Text.{fit_text}
 use Rattle.bi_norm.specs.Meaning.{OfFit}
 use Rattle.bi_edit.specs.FormChoices.{IsChosenForm}
@@ -27,14 +28,16 @@ returns-in_err-edited-clause-failed g c file opened =
     let p = err_from_is_err_and c.from_residual-in_err-edited.result c.from_residual-in_err-edited.ensures.1 in
     rw (p.1, p.2) (WasRefused (blob_not_read c.args.edits.now c.args.choice c.args.limits file c.args.fit.now opened c.in_ok-form.form
     (c.in_ok-form.ensures c.args.limits file opened) c.in_ok-blob.blob.items c.in_ok-blob.ensures.edited _
-    c.in_err-edited.ensures.failed) refl)
+    (subst (λ (blob : List ℕ). IsFitReadError c.args.limits blob c.in_err-edited.field-0.0) c.deref.ensures.value
+    c.in_err-edited.ensures.failed)) refl)
 
 pub returns-in_err-text-clause-failed : goal.returns-in_err-text-clause-failed
 returns-in_err-text-clause-failed g c file opened =
     let p = err_from_is_err_and c.from_residual-in_err-text.result c.from_residual-in_err-text.ensures.1 in
     rw (p.1, p.2) (WasRefused (text_not_made c.args.edits.now c.args.choice c.args.limits file c.args.fit.now opened c.in_ok-form.form
     (c.in_ok-form.ensures c.args.limits file opened) c.in_ok-blob.blob.items c.in_ok-blob.ensures.edited c.in_ok-edited.edited
-    c.in_ok-edited.ensures.read _ c.in_err-text.ensures.failed) refl)
+    (subst (λ (blob : List ℕ). IsReadFit c.args.limits blob c.in_ok-edited.edited) c.deref.ensures.value
+    c.in_ok-edited.ensures.read) _ c.in_err-text.ensures.failed) refl)
 
 pub notes_of-requires-clause-held : goal.notes_of-requires-clause-held
 notes_of-requires-clause-held g c = c.in_ok-edited.ensures.read.held
@@ -62,7 +65,8 @@ returns-in_err-emit-clause-failed g c file opened =
     let most : c.args.limits.file ≤ longest_text = omega arith in
     let is = tree_is_edited c.args.edits.now c.args.choice c.args.limits file c.args.fit.now opened c.in_ok-form.form
     (c.in_ok-form.ensures c.args.limits file opened) c.in_ok-blob.blob.items c.in_ok-blob.ensures.edited c.in_ok-edited.edited
-    c.in_ok-edited.ensures.read most c.in_ok-text.text c.in_ok-text.ensures.text in
+    (subst (λ (blob : List ℕ). IsReadFit c.args.limits blob c.in_ok-edited.edited) c.deref.ensures.value
+    c.in_ok-edited.ensures.read) most c.in_ok-text.text c.in_ok-text.ensures.text in
     rw (p.1, p.2) (SinkFailed c.in_ok-text.text c.in_err-emit.field-0.0 is c.in_err-emit.ensures refl)
 
 pub returns-clause-appended : goal.returns-clause-appended
@@ -72,7 +76,8 @@ returns-clause-appended g c file opened =
       text = c.in_ok-text.text;
       is_text = tree_output c.args.edits.now c.args.choice c.args.limits file c.args.fit.now opened c.in_ok-form.form
           (c.in_ok-form.ensures c.args.limits file opened) c.in_ok-blob.blob.items c.in_ok-blob.ensures.edited c.in_ok-edited.edited
-          c.in_ok-edited.ensures.read most c.in_ok-text.text c.in_ok-text.ensures.text c.in_ok-notes.notes
+          (subst (λ (blob : List ℕ). IsReadFit c.args.limits blob c.in_ok-edited.edited) c.deref.ensures.value
+          c.in_ok-edited.ensures.read) most c.in_ok-text.text c.in_ok-text.ensures.text c.in_ok-notes.notes
           (c.in_ok-notes.ensures c.args.limits file opened);
       appended = c.in_ok-emit.ensures;
     }

@@ -6,7 +6,7 @@ use Rattle.bi_blob.specs.Tree.{with_each}
 use Rattle.bi_edit.specs.Edits.{with_payload_digests}
 use Rattle.bi_plain.specs.PlainNodes.{AreNumberedNodes, models_by_name}
 use Rattle.bi_plain.proofs.ChangedNodes.{all_changed, changed_below, images_here, no_images_here, numbered_after, one_changed}
-use Rattle.bi_plain.proofs.ChangedNodes.{other_children, other_values_stay}
+use Rattle.bi_plain.proofs.ChangedNodes.{other_children, others_stay}
 use Rattle.bi_edit.proofs.applying.digests.set_digests_among.Goals as goal
 
 pub returns-then-has_images-clause-set : goal.returns-then-has_images-clause-set
@@ -17,7 +17,7 @@ returns-then-has_images-clause-set c =
     let old = get_or nodes index c.node-item.result in
     on_ok_weaker c.set_images_digests.result
     (λ is.
-    sym (other_values_stay (index + 1) (models_by_name (set nodes index new)))
+    sym (others_stay (index + 1) (models_by_name (set nodes index new)))
     ∙ one_changed (changed_below with_payload_digests) (λ others. others) nodes index new c.node-item.result
     (omega (arith, c.loop-node-test.true))
     (λ later. other_children new old (with_payload_digests (with_each by_name old.children))

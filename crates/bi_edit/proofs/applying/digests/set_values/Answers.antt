@@ -6,7 +6,7 @@ use Rattle.bi_tree.specs.Trees.{tree_by_name}
 use Rattle.bi_tree.specs.TreeNodes.{below}
 use Rattle.bi_edit.specs.PayloadDigests.{with_digest_if, with_each_digest}
 use Rattle.bi_plain.specs.PlainNodes.{models_by_name}
-use Rattle.bi_plain.proofs.ChangedNodes.{all_changed, changed_after, numbered_after, named_before, one_changed, other_values_stay}
+use Rattle.bi_plain.proofs.ChangedNodes.{all_changed, changed_after, numbered_after, named_before, one_changed, others_stay}
 use Rattle.bi_edit.proofs.GivenDigests.{no_nodes_given}
 use Rattle.bi_edit.proofs.applying.digests.set_values.Goals as goal
 
@@ -20,7 +20,7 @@ returns-in_default-clause-set c =
     let index = c.loop-node.node-index in
     let none = nil_from_length (into_iter_items c.loop-node.left) (sym c.loop-node.invariant.2 ∙ c.in_default.ensures.cases.0) in
     ap models_by_name (set-get_or nodes index c.node-item.result)
-    ∙ sym (other_values_stay index (models_by_name nodes))
+    ∙ sym (others_stay index (models_by_name nodes))
     ∙ ap (λ digests. changed_after index (given digests) (models_by_name nodes)) (sym none)
     ∙ c.loop-node.invariant.0
     ∙ ap (λ digests. given digests (models_by_name c.args.nodes.now)) c.into_iter-left.ensures.rest
