@@ -9,6 +9,8 @@ ghost use Rattle.bi_common.specs.declared.format.Format.TheVariants.{Lines, Json
 ghost use Rattle.bi_common.specs.HeldImages.{IsHeldImage};
 ghost use Rattle.bi_common.specs.LineTokens.{tokens_of_lines};
 ghost use Rattle.bi_common.specs.PayloadBounds.{IsOverPayloadBound};
+ghost use Rattle.bi_describe.specs.DeepDescribing.{IsDeepDescribeError, IsDeepDescription};
+ghost use Rattle.bi_describe.specs.DeepDescribing.{IsDeepImageError, deep_laws, deep_promise};
 ghost use Rattle.bi_describe.specs.DescribedImages.{IsDescribed, IsDescriptionOf};
 ghost use Rattle.bi_describe.specs.DescribedImages.{described_lines, described_tokens};
 ghost use Rattle.bi_describe.specs.Describing.{CanBeDescribed, IsImageError, description_text};
@@ -16,11 +18,14 @@ ghost use Rattle.bi_describe.specs.Describing.{IsDescription, IsDescribeError};
 ghost use Rattle.bi_describe.specs.Describing.{describe_promise, describe_laws};
 
 mod bounded_pen;
+pub(crate) mod deep;
 mod digests;
 mod entries;
 mod fit;
 mod image_nodes;
 mod image_payload;
+pub(crate) mod inside;
+pub(crate) mod insides;
 mod json;
 pub(crate) mod kept;
 mod legacy;
@@ -35,7 +40,9 @@ use bi_common::json_writer::{JsonPen, JsonWriter};
 use bi_common::lines::{LinePen, LineWriter};
 use bi_norm::BootImage;
 use bounded_pen::BoundedPen;
+use deep::DeepImage;
 use fit::DescribedFit;
+use insides::Insides;
 use legacy::DescribedLegacy;
 use std::alloc::Global;
 use std::io::{Read, Write};
@@ -311,4 +318,108 @@ fn describe_into<S: Sink>(
     let mut pen = SinkPen::new(sink);
     described.put(format, &mut pen);
     pen.result()
+}
+
+// ---- deep descriptions
+
+/// Returns the deep description of what a boot image means, in a form: its description, and after
+/// the line of each payload or part that is a devicetree the lines of that. A payload is a
+/// devicetree if `Blob::read` accepts it within the limits, and its root has no child `images`. In
+/// JSON the payload has a member `devicetree`.
+///
+/// The errors are those of `describe`, but the limit on the description is on the deep one.
+pub fn describe_deep(
+    alloc: Global,
+    file: &[u8],
+    limits: Limits,
+    format: Format,
+) -> Result<String, Error>
+    ensures described { IfOk result (λ text. IsDeepDescription format limits file.now
+        (string_bytes text)) }
+    ensures failed { IfErr result (IsDeepDescribeError format limits file.now) }
+{
+    let image = BootImage::read(alloc, file, limits)?;
+    let mut deep = deep_image(alloc, &image, limits, format)?;
+    let mut pen = MemoryPen::new(alloc);
+    deep.put(format, &mut pen);
+    match String::from_utf8(pen.into_vec()?) {
+        Ok(text) => Ok(text),
+        Err(_) => unreachable!(),
+    }
+}
+
+/// Describing with what is inside the payloads, as a command: `describe_deep`.
+#[derive(Clone, Copy, Debug, PartialEq, Eq)]
+pub struct DeepDescriber {
+    /// The form of the description.
+    pub format: Format,
+}
+
+impl Command for DeepDescriber {
+    type Value = ();
+
+    type Failure = Error;
+
+    ghost can_run = { λ _. ⊤ };
+
+    ghost promise = { λ describer. deep_promise describer.format };
+
+    /// Appends the deep description piece by piece. Each refusal and each allocation comes before
+    /// the first byte.
+    fn run<S: Sink>(
+        &self,
+        alloc: Global,
+        input: &[u8],
+        limits: Limits,
+        sink: &mut S,
+    ) -> Result<(), Error> {
+        let image = BootImage::read(alloc, input, limits)?;
+        let mut deep = deep_image(alloc, &image, limits, self.format)?;
+        let mut pen = SinkPen::new(sink);
+        deep.put(self.format, &mut pen);
+        pen.result()
+    }
+
+    ghost wraps_from = { λ _ _ _ _ same. same };
+
+    ghost laws = { λ describer. deep_laws describer.format };
+}
+
+/// Reads a boot image to its end, writes its deep description in a form, and flushes: `pipe_to`
+/// with a `DeepDescriber`.
+///
+/// The errors are those of `pipe_to`, and of the file those of `describe_deep`.
+pub fn describe_deep_to<R: Read, W: Write>(
+    alloc: Global,
+    reader: &mut R,
+    writer: &mut W,
+    limits: Limits,
+    format: Format,
+) -> Result<(), Error>
+    ensures { IsPiped (deep_promise format limits) limits (R.remaining reader.old)
+        (R.remaining reader.new) (W.contents writer.old) (W.contents writer.new) result }
+{
+    pipe_to(alloc, &DeepDescriber { format }, reader, writer, limits)
+}
+
+/// Returns what the deep description of a boot image is made from, which is no longer than the
+/// limit in a form. Requires: the image was read.
+///
+/// Errors: TooLarge at the limit, if the payloads or the deep description are longer; OutOfMemory.
+pub(crate) fn deep_image<'a, 'b>(
+    alloc: Global,
+    image: &'b BootImage<'a>,
+    limits: Limits,
+    format: Format,
+) -> Result<DeepImage<'a, 'b>, Error>
+    requires held { IsHeldImage image.now }
+    ensures failed { IfErr result (IsDeepImageError format limits (meaning_of image.now)) }
+{
+    let insides = Insides::read(alloc, image, limits)?;
+    let described = DescribedImage::new(alloc, image, limits)?;
+    let mut deep = DeepImage { described, insides };
+    let mut room = BoundedPen::new(limits.file());
+    deep.put(format, &mut room);
+    room.check(limits.file())?;
+    Ok(deep)
 }

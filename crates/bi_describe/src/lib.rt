@@ -2,6 +2,8 @@
 #![tactic(auto)]
 
 pub mod compare;
+#[cfg(test)]
+mod deep_tests;
 pub mod describe;
 pub mod ignored;
 pub mod known_ignored;

@@ -11,7 +11,10 @@ ghost use Rattle.bi_describe.specs.MadeLines.{compared_line, compared_lines};
 use super::line_keeper::{LineKeeper, Mark};
 use super::signed_lines::ComparedLine;
 use crate::describe::DescribedImage;
+use crate::describe::deep::DeepImage;
+use crate::describe::insides::Insides;
 use crate::describe::kept::KeptImage;
+use crate::ignored::Opened;
 use std::alloc::{AllocError, Global};
 
 /// The lines of a description.
@@ -60,6 +63,38 @@ impl KeptLines {
     {
         let mut keeper = LineKeeper::new(alloc);
         image.put_lines(alloc, &mut keeper)?;
+        let (text, marks) = keeper.into_parts()?;
+        match String::from_utf8(text) {
+            Ok(text) => Ok(KeptLines { text, marks }),
+            Err(_) => unreachable!(),
+        }
+    }
+
+    /// Returns the lines of a deep description.
+    ///
+    /// Fails only if memory runs out.
+    pub(super) fn of_deep(alloc: Global, deep: &mut DeepImage) -> Result<KeptLines, AllocError> {
+        let mut keeper = LineKeeper::new(alloc);
+        deep.put_lines(&mut keeper);
+        let (text, marks) = keeper.into_parts()?;
+        match String::from_utf8(text) {
+            Ok(text) => Ok(KeptLines { text, marks }),
+            Err(_) => unreachable!(),
+        }
+    }
+
+    /// Returns the lines of what stays of an image, but for those of these payloads, and of what is
+    /// inside.
+    ///
+    /// Fails only if memory runs out.
+    pub(super) fn of_kept_deep(
+        alloc: Global,
+        image: &KeptImage,
+        insides: &mut Insides,
+        opened: &Opened,
+    ) -> Result<KeptLines, AllocError> {
+        let mut keeper = LineKeeper::new(alloc);
+        image.put_deep_lines(alloc, insides, opened, &mut keeper)?;
         let (text, marks) = keeper.into_parts()?;
         match String::from_utf8(text) {
             Ok(text) => Ok(KeptLines { text, marks }),

@@ -17,13 +17,16 @@ mod legacy;
 mod tree;
 
 use super::DescribedImage;
-use crate::ignored::Ignored;
+use super::insides::Insides;
+use crate::ignored::{Ignored, Opened};
 use bi_base::are_bytes;
 use bi_common::lines::LinePen;
 use bi_norm::BootImage;
+pub(super) use entries::are_same_entries;
 use legacy::KeptLegacy;
 use std::alloc::{AllocError, Global};
 use tree::KeptFit;
+pub(super) use tree::{have_same_heads, kept_root};
 
 /// What stays of a boot image.
 #[derive(Drop)]
@@ -67,6 +70,39 @@ impl<'a, 'b> KeptImage<'a, 'b> {
                 Ok(())
             }
             KeptImage::Fit(fit) => fit.put_lines(alloc, pen),
+        }
+    }
+
+    /// Puts the lines, but for those of these payloads, and those of what is inside the payloads.
+    ///
+    /// Fails only if memory runs out.
+    pub(crate) fn put_deep_lines<L: LinePen>(
+        &self,
+        alloc: Global,
+        insides: &mut Insides,
+        opened: &Opened,
+        pen: &mut L,
+    ) -> Result<(), AllocError> {
+        match self {
+            KeptImage::Legacy(image) => {
+                image.put_deep_lines(insides, opened, pen);
+                Ok(())
+            }
+            KeptImage::Fit(fit) => fit.put_deep_lines(alloc, insides, opened, pen),
+        }
+    }
+
+    /// Returns whether what stays of two images is the same but for these payloads. The others are
+    /// compared byte by byte.
+    pub(crate) fn is_same_unless_opened(&self, other: &KeptImage<'_, '_>, opened: &Opened) -> bool {
+        match (self, other) {
+            (KeptImage::Legacy(image), KeptImage::Legacy(other)) => {
+                image.is_same_unless_opened(other, opened)
+            }
+            (KeptImage::Fit(fit), KeptImage::Fit(other)) => {
+                fit.is_same_unless_opened(other, opened)
+            }
+            _ => false,
         }
     }
 

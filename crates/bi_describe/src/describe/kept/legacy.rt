@@ -14,9 +14,11 @@ ghost use Rattle.bi_describe.specs.ReducedMeanings.{kept_time, numbered_parts, r
 ghost use Rattle.bi_describe.specs.ReducedMeanings.{reduced_header_lines, reduced_part_lines};
 ghost use Rattle.bi_describe.specs.ReducedMeanings.{reduced_legacy_lines, time_lines};
 
+use crate::describe::deep::put_part_with_inside;
+use crate::describe::insides::Insides;
 use crate::describe::legacy::{DescribedLegacy, put_part};
 use crate::describe::part::DescribedPart;
-use crate::ignored::{Ignored, is_part_ignored, is_time_ignored};
+use crate::ignored::{Ignored, Opened, is_part_ignored, is_time_ignored};
 use bi_common::fields::Field;
 use bi_common::lines::{LinePen, put_line, put_lines};
 use bi_legacy::Fields;
@@ -67,6 +69,26 @@ impl<'a> KeptLegacy<'a> {
     {
         put_header(self.fields, self.time, pen);
         put_parts(&self.parts, pen);
+    }
+
+    /// Puts the lines, but for those of these parts, and those of what is inside the parts.
+    pub(super) fn put_deep_lines<L: LinePen>(
+        &self,
+        insides: &mut Insides,
+        opened: &Opened,
+        pen: &mut L,
+    ) {
+        put_header(self.fields, self.time, pen);
+        for part in &self.parts {
+            put_part_with_inside(part.index, part.part, insides, opened, pen);
+        }
+    }
+
+    /// Returns whether what stays of two images is the same but for the bytes of these parts.
+    pub(super) fn is_same_unless_opened(&self, other: &KeptLegacy<'_>, opened: &Opened) -> bool {
+        are_same_fields(self.fields, other.fields)
+            && self.time == other.time
+            && are_same_unless_opened(&self.parts, &other.parts, opened)
     }
 
     /// Returns whether what stays of two images is the same.
@@ -229,6 +251,24 @@ fn are_same_parts(one: &[KeptPart], other: &[KeptPart]) -> bool
         }
     }
     true
+}
+
+/// Returns whether these are the same parts with the same indices, but for the bytes of these.
+fn are_same_unless_opened(one: &[KeptPart], other: &[KeptPart], opened: &Opened) -> bool {
+    if one.len() != other.len() {
+        return false;
+    }
+    for index in 0..one.len() {
+        if !is_same_unless_opened(one[index], other[index], opened) {
+            return false;
+        }
+    }
+    true
+}
+
+/// Returns whether two parts have the same index and, unless this is one of these, the same bytes.
+fn is_same_unless_opened(one: KeptPart, other: KeptPart, opened: &Opened) -> bool {
+    one.index == other.index && (opened.has_part(one.index) || one.part.bytes == other.part.bytes)
 }
 
 /// Returns whether two parts have the same index and the same bytes.

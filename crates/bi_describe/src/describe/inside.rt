@@ -1,0 +1,174 @@
+//! The devicetree inside a payload.
+
+mod blobs;
+mod paths;
+
+use super::entries::Entry;
+use super::json::{put_members_of_blob, put_root};
+use super::kept::{are_same_entries, have_same_heads, kept_root};
+use super::lines::{most_open, put_tree};
+use crate::ignored::Ignored;
+use bi_base::{Error, Limits};
+use bi_common::fields::Field;
+use bi_common::json_writer::{JsonPen, JsonToken};
+use bi_common::lines::{LinePen, put_line};
+use bi_fdt::Blob;
+pub(super) use blobs::read_blob;
+use blobs::{check_names, entries_of_blob};
+use paths::{InsidePen, longest_path};
+use std::alloc::{AllocError, Global};
+
+/// The nodes of a devicetree, with room for what their lines need.
+#[derive(Drop)]
+struct InsideNodes<'a> {
+    /// The properties of the root, and the nodes below it.
+    entries: Vec<Entry<'a>>,
+    /// Room for the names of all nodes that are open at once.
+    names: Vec<&'a [u8]>,
+    /// Room for the longest path of a node.
+    text: Vec<u8>,
+}
+
+impl<'a> InsideNodes<'a> {
+    /// Returns the nodes with these entries, inside the payload with this path.
+    ///
+    /// Fails only if memory runs out.
+    fn new(
+        alloc: Global,
+        payload: &[u8],
+        entries: Vec<Entry<'a>>,
+    ) -> Result<InsideNodes<'a>, AllocError> {
+        let mut names = vec![in alloc; b"".as_slice(); most_open(&entries)]?;
+        let longest = longest_path(payload, &entries, &mut names);
+        let text = vec![in alloc; 0; longest]?;
+        Ok(InsideNodes {
+            entries,
+            names,
+            text,
+        })
+    }
+
+    /// Puts the lines of the nodes and of their properties. The payload has this path.
+    fn put_lines<L: LinePen>(&mut self, payload: &[u8], pen: &mut L) {
+        let mut inside = InsidePen::new(payload, &mut self.text, pen);
+        put_tree(&self.entries, &mut self.names, &mut inside);
+    }
+}
+
+/// A devicetree inside a payload, or what stays of it once something is left out.
+#[derive(Drop)]
+pub(crate) struct InsideTree<'a> {
+    /// The path of the payload.
+    path: Vec<u8>,
+    blob: Blob<'a>,
+    /// The nodes, unless the root is left out.
+    nodes: Option<InsideNodes<'a>>,
+}
+
+impl<'a> InsideTree<'a> {
+    /// Returns the devicetree that is this blob, inside the payload with this path.
+    ///
+    /// Errors: TooLarge at the limit, if the names of properties are longer than that; OutOfMemory.
+    pub(super) fn new(
+        alloc: Global,
+        path: Vec<u8>,
+        blob: Blob<'a>,
+        limits: Limits,
+    ) -> Result<InsideTree<'a>, Error> {
+        check_names(blob.names(), limits.file())?;
+        let entries = entries_of_blob(alloc, &blob)?;
+        let nodes = Some(InsideNodes::new(alloc, &path, entries)?);
+        Ok(InsideTree { path, blob, nodes })
+    }
+
+    /// Leaves these words out of the tree.
+    ///
+    /// Fails only if memory runs out.
+    pub(super) fn leave_out(&mut self, alloc: Global, words: &[Ignored]) -> Result<(), AllocError> {
+        self.nodes = nodes_that_stay(alloc, &self.path, &self.nodes, words)?;
+        Ok(())
+    }
+
+    /// Returns whether two trees have the same boot processor, the same memory reservations and the
+    /// same nodes, if their roots are not left out.
+    pub(super) fn is_same(&self, other: &InsideTree<'_>) -> bool {
+        have_same_heads(&self.blob, &other.blob) && have_same_nodes(&self.nodes, &other.nodes)
+    }
+
+    /// Puts the lines.
+    pub(super) fn put_lines<L: LinePen>(&mut self, pen: &mut L) {
+        put_head(&self.path, &self.blob, pen);
+        if let Some(nodes) = &mut self.nodes {
+            nodes.put_lines(&self.path, pen);
+        }
+    }
+
+    /// Puts the member of the devicetree. Requires: nothing is left out of it.
+    pub(super) fn put_member<J: JsonPen>(&self, json: &mut J) {
+        json.put(JsonToken::Name("devicetree"));
+        json.put(JsonToken::BeginObject);
+        put_members_of_blob(&self.blob, json);
+        if let Some(nodes) = &self.nodes {
+            put_root(&nodes.entries, json);
+        }
+        json.put(JsonToken::EndObject);
+    }
+}
+
+/// Returns the nodes that stay once these words are left out, unless the root is left out.
+///
+/// Fails only if memory runs out.
+fn nodes_that_stay<'a>(
+    alloc: Global,
+    payload: &[u8],
+    nodes: &Option<InsideNodes<'a>>,
+    words: &[Ignored],
+) -> Result<Option<InsideNodes<'a>>, AllocError> {
+    let Some(nodes) = nodes else {
+        return Ok(None);
+    };
+    match kept_root(alloc, &nodes.entries, words)? {
+        Some(entries) => Ok(Some(InsideNodes::new(alloc, payload, entries)?)),
+        None => Ok(None),
+    }
+}
+
+/// Returns whether there are two trees with the same entries, or none.
+fn have_same_nodes(one: &Option<InsideNodes>, other: &Option<InsideNodes>) -> bool {
+    match (one, other) {
+        (Some(one), Some(other)) => are_same_entries(&one.entries, &other.entries),
+        (None, None) => true,
+        _ => false,
+    }
+}
+
+/// Puts the lines of the boot processor and of the memory reservations. The payload has this path.
+fn put_head<L: LinePen>(payload: &[u8], blob: &Blob, pen: &mut L) {
+    put_line(
+        &[
+            Field::Text(b"inside"),
+            Field::Text(payload),
+            Field::Text(b"boot-cpu"),
+            Field::Decimal(u64::from(blob.boot_cpu())),
+        ],
+        pen,
+    );
+    for index in 0..blob.reservation_count() {
+        put_reservation(payload, blob.reservation(index).unwrap_or_default(), pen);
+    }
+}
+
+/// Puts the line of a memory reservation. The payload has this path.
+fn put_reservation<L: LinePen>(payload: &[u8], numbers: (u64, u64), pen: &mut L) {
+    let (address, size) = numbers;
+    put_line(
+        &[
+            Field::Text(b"inside"),
+            Field::Text(payload),
+            Field::Text(b"reservation"),
+            Field::Hexadecimal64(address),
+            Field::Hexadecimal64(size),
+        ],
+        pen,
+    );
+}
