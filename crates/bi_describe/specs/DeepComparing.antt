@@ -1,4 +1,4 @@
-use Rattle.std.specs.Prelude.{◌≡◌, ◌≢◌, ◌↔◌, ◌⊎◌, Bool, false, IsTrue, ℕ, List, [], codes}
+use Rattle.std.specs.Prelude.{◌≡◌, ◌≢◌, ◌↔◌, ◌⊎◌, Bool, true, false, IsTrue, ℕ, List, [], codes}
 use Rattle.std.specs.Prelude.{if◌then◌else◌}
 use Rattle.bi_base.specs.Limits.{Limits}
 use Rattle.bi_base.specs.Reading.{too_large}
@@ -13,7 +13,7 @@ use Rattle.bi_describe.specs.Comparing.{kinds_differ}
 use Rattle.bi_describe.specs.ComparingWithout.{AreMeanings, IgnoringOptionsModel, text_without}
 use Rattle.bi_describe.specs.DeepDescribing.{CanBeDescribedDeep, IsTooLongToDescribeDeep}
 use Rattle.bi_describe.specs.DeepDescriptions.{deep_lines}
-use Rattle.bi_describe.specs.Devicetrees.{AreInside, DeepMeaning, Insides, MeansWithInside}
+use Rattle.bi_describe.specs.Devicetrees.{AreInside, DeepMeaning, Insides}
 use Rattle.bi_describe.specs.Differences.{SignedLine, text_of_differences}
 use Rattle.bi_describe.specs.Ignoring.{Ignored}
 use Rattle.bi_describe.specs.OpenedPayloads.{AreSameDeep, deep_lines_without, is_opened}
@@ -21,58 +21,75 @@ use Rattle.bi_describe.specs.OpenedPayloads.{AreSameDeep, deep_lines_without, is
 -- Comparing what two boot images mean, with the devicetrees inside their payloads (profile of this
 -- project).
 
--- What two files mean, with what is inside.
-pub record AreDeepMeanings (limits : Limits) (one other : List ℕ) : Type 0 where
-  pub deep : DeepMeaning
-  pub other_deep : DeepMeaning
-  pub means : MeansWithInside limits one deep
-  pub other_means : MeansWithInside limits other other_deep
-
--- Both can be described.
-pub record CanBothBeDescribed (limits : Limits) (one other : DeepMeaning) : Type 0 where
-  pub described : CanBeDescribedDeep Lines limits one
-  pub other_described : CanBeDescribedDeep Lines limits other
-
 -- What differs between two meanings, whose lines to compare are these. If they are of different
 -- kinds, that is all, and nothing is left out.
-abbrev pub comparison_of_lines : (one other : Meaning) → (lines other_lines : List Line)
+abbrev pub comparison_by_lines : (one other : Meaning) → (lines other_lines : List Line)
     → List SignedLine
-comparison_of_lines (OfLegacy one) (OfFit other) lines other_lines =
+comparison_by_lines (OfLegacy one) (OfFit other) lines other_lines =
     kinds_differ (codes "kind legacy") (codes "kind fit")
-comparison_of_lines (OfFit one) (OfLegacy other) lines other_lines =
+comparison_by_lines (OfFit one) (OfLegacy other) lines other_lines =
     kinds_differ (codes "kind fit") (codes "kind legacy")
-comparison_of_lines one other lines other_lines = differences_or_reason lines other_lines
+comparison_by_lines one other lines other_lines = differences_or_reason lines other_lines
 
 -- ---- if nothing is left out
 
 -- What differs between two meanings that are not the same.
 abbrev pub deep_comparison : (one other : DeepMeaning) → List SignedLine
 deep_comparison one other =
-    comparison_of_lines one.meaning other.meaning (deep_lines one) (deep_lines other)
+    comparison_by_lines one.meaning other.meaning (deep_lines one) (deep_lines other)
 
--- The lines that differ: none if the meanings are the same.
-abbrev pub deep_differences : (one other : DeepMeaning) → (same : Bool) → List SignedLine
-deep_differences one other same = if same then [] else deep_comparison one other
+-- What two meanings are with what is inside, if both can be described.
+pub record AreDescribedDeep (limits : Limits) (one other : Meaning) : Type 0 where
+  pub insides : Insides
+  pub other_insides : Insides
+  pub are_inside : AreInside limits one insides
+  pub are_inside_other : AreInside limits other other_insides
+  pub described : CanBeDescribedDeep Lines limits (record { meaning = one; insides = insides })
+  pub other_described : CanBeDescribedDeep Lines limits
+      (record { meaning = other; insides = other_insides })
+
+-- They, with what is inside.
+abbrev pub deep_one : {limits : Limits} {one other : Meaning} → AreDescribedDeep limits one other
+    → DeepMeaning
+deep_one {one = one} are = record { meaning = one; insides = are.insides }
+
+abbrev pub deep_other : {limits : Limits} {one other : Meaning}
+    → AreDescribedDeep limits one other → DeepMeaning
+deep_other {other = other} are = record { meaning = other; insides = are.other_insides }
+
+-- The lines that differ: none if the meanings are the same. If they are not, both can be described.
+pub data AreDeepDifferences (limits : Limits) (one other : Meaning) (lines : List SignedLine)
+    : (same : Bool) → Type 0
+  where
+    AreTheSame : lines ≡ [] → AreDeepDifferences limits one other lines true
+    AreDifferent : (are : AreDescribedDeep limits one other)
+        → lines ≡ deep_comparison (deep_one are) (deep_other are)
+        → AreDeepDifferences limits one other lines false
+
+-- The text is what differs between two meanings, in a form, and `same` is whether they are the same.
+-- There are differences if and only if they are not. Then both can be described.
+pub record IsDeepComparisonOf (format : Format) (limits : Limits) (one other : Meaning)
+    (same : Bool) (text : List ℕ) : Type 0
+  where
+    pub is_same : IsTrue same ↔ (one ≡ other)
+    pub lines : List SignedLine
+    pub are_lines : AreDeepDifferences limits one other lines same
+    pub empty : (text_of_differences lines ≡ []) ↔ IsTrue same
+    pub is_text : text ≡ comparison_text format same lines
 
 -- The text is what differs between two files, in a form, and `same` is whether they mean the same.
--- There are differences if and only if they do not. Then both can be described.
 pub record IsDeepComparison (format : Format) (limits : Limits) (one other : List ℕ) (same : Bool)
     (text : List ℕ) : Type 0
   where
-    pub are : AreDeepMeanings limits one other
-    pub is_same : IsTrue same ↔ (are.deep.meaning ≡ are.other_deep.meaning)
-    pub described : same ≡ false → CanBothBeDescribed limits are.deep are.other_deep
-    pub lines : List SignedLine
-    pub are_lines : lines ≡ deep_differences are.deep are.other_deep same
-    pub empty : (text_of_differences lines ≡ []) ↔ IsTrue same
-    pub is_text : text ≡ comparison_text format same lines
+    pub are : AreMeanings limits one other
+    pub differs : IsDeepComparisonOf format limits are.meaning are.other_meaning same text
 
 -- ---- if something is left out
 
 -- What differs between two meanings that are not the same without what the words leave out.
 abbrev pub deep_comparison_without : List Ignored → (one other : DeepMeaning) → List SignedLine
 deep_comparison_without words one other =
-    comparison_of_lines one.meaning other.meaning
+    comparison_by_lines one.meaning other.meaning
     (deep_lines_without words (is_opened words one.insides other.insides) one)
     (deep_lines_without words (is_opened words one.insides other.insides) other)
 
@@ -82,19 +99,26 @@ abbrev pub deep_differences_without : List Ignored → (one other : DeepMeaning)
 deep_differences_without words one other same =
     if same then [] else deep_comparison_without words one other
 
+-- The text is what differs between two meanings without what is left out, and `same` is whether they
+-- are the same without it. Both can be described, even if nothing differs or is written.
+pub record IsDeepComparisonWithout (options : IgnoringOptionsModel) (limits : Limits)
+    (one other : Meaning) (same : Bool) (text : List ℕ) : Type 0
+  where
+    pub are : AreDescribedDeep limits one other
+    pub is_same : IsTrue same ↔ AreSameDeep options.words (deep_one are) (deep_other are)
+    pub lines : List SignedLine
+    pub are_lines : lines
+        ≡ deep_differences_without options.words (deep_one are) (deep_other are) same
+    pub empty : (text_of_differences lines ≡ []) ↔ IsTrue same
+    pub is_text : text ≡ text_without options same lines
+
 -- The text is what differs between two files without what is left out, and `same` is whether they
--- mean the same without it. Both can be described, even if nothing differs or is written.
+-- mean the same without it.
 pub record AreComparedDeepWithout (options : IgnoringOptionsModel) (limits : Limits)
     (one other : List ℕ) (same : Bool) (text : List ℕ) : Type 0
   where
-    pub are : AreDeepMeanings limits one other
-    pub described : CanBothBeDescribed limits are.deep are.other_deep
-    pub is_same : IsTrue same ↔ AreSameDeep options.words are.deep are.other_deep
-    pub lines : List SignedLine
-    pub are_lines : lines
-        ≡ deep_differences_without options.words are.deep are.other_deep same
-    pub empty : (text_of_differences lines ≡ []) ↔ IsTrue same
-    pub is_text : text ≡ text_without options same lines
+    pub are : AreMeanings limits one other
+    pub differs : IsDeepComparisonWithout options limits are.meaning are.other_meaning same text
 
 -- ---- errors
 

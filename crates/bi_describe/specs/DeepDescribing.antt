@@ -34,6 +34,15 @@ pub record IsDeepDescription (format : Format) (limits : Limits) (file text : Li
   pub within : CanBeDescribedDeep format limits deep
   pub is_text : text ≡ deep_text format deep
 
+-- The text is the deep description of this meaning, in a form.
+pub record IsDeepTextOf (format : Format) (limits : Limits) (meaning : Meaning) (text : List ℕ)
+    : Type 0
+  where
+    pub insides : Insides
+    pub are_inside : AreInside limits meaning insides
+    pub within : CanBeDescribedDeep format limits (record { meaning = meaning; insides = insides })
+    pub is_text : text ≡ deep_text format (record { meaning = meaning; insides = insides })
+
 -- The deep description of a meaning is longer than the limit.
 pub record HasLongDeepText (format : Format) (limits : Limits) (meaning : Meaning) : Type 0 where
   pub insides : Insides

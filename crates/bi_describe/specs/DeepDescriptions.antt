@@ -18,8 +18,8 @@ use Rattle.bi_describe.specs.ReducedMeanings.{ReducedTree, reduced_root_lines}
 -- ---- a devicetree
 
 -- A devicetree as it is described, if nothing is left out of it.
-abbrev pub whole_tree : Devicetree → ReducedTree
-whole_tree tree = record {
+abbrev pub whole_devicetree : Devicetree → ReducedTree
+whole_devicetree tree = record {
   cpu = tree.cpu;
   reservations = tree.reservations;
   root = Some (with_each_node plain_compared tree.root);
@@ -52,15 +52,15 @@ inside_lines payload tree =
 -- ---- descriptions
 
 -- The last of these names. The root has none.
-abbrev pub last_name : List (List ℕ) → List ℕ
-last_name [] = []
-last_name (name ∷ []) = name
-last_name (name ∷ next ∷ later) = last_name (next ∷ later)
+abbrev pub name_of_last : List (List ℕ) → List ℕ
+name_of_last [] = []
+name_of_last (name ∷ []) = name
+name_of_last (name ∷ next ∷ later) = name_of_last (next ∷ later)
 
 -- The place of the payload that a line is about: a line `payload` or `part` is about one.
 abbrev pub place_of_line : Line → Option PayloadPlace
 place_of_line (Text word ∷ Path names ∷ later) =
-    if bytes_eq word (codes "payload") then Some (OfImageNamed (last_name names)) else None
+    if bytes_eq word (codes "payload") then Some (OfImageNamed (name_of_last names)) else None
 place_of_line (Text word ∷ Decimal index ∷ later) =
     if bytes_eq word (codes "part") then Some (OfPart index) else None
 place_of_line line = None
@@ -71,9 +71,9 @@ pub record InsidesShown : Type 0 where
   pub is_left_out : PayloadPlace → Bool
 
 -- All of them, and every payload has its line.
-abbrev pub all_shown : Insides → InsidesShown
-all_shown insides = record {
-  tree_at = λ place. option_map whole_tree (insides place);
+abbrev pub insides_shown : Insides → InsidesShown
+insides_shown insides = record {
+  tree_at = λ place. option_map whole_devicetree (insides place);
   is_left_out = λ place. false;
 }
 
@@ -94,7 +94,7 @@ lines_with_inside shown lines = flat_map (λ line. line_at shown (place_of_line 
 
 -- The lines of a deep description.
 abbrev pub deep_lines : DeepMeaning → List Line
-deep_lines deep = lines_with_inside (all_shown deep.insides) (description_lines deep.meaning)
+deep_lines deep = lines_with_inside (insides_shown deep.insides) (description_lines deep.meaning)
 
 -- The deep description: its lines, each ended by a newline.
 abbrev pub deep_description : DeepMeaning → List ℕ

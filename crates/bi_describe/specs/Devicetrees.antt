@@ -34,12 +34,12 @@ HasInside limits payload None = (tree : Devicetree) → ¬ (IsDevicetree limits 
 HasInside limits payload (Some tree) = IsDevicetree limits payload tree
 
 -- The payloads of images with these names, each with its place. Not every image has one.
-abbrev pub payloads_of_images : (names : List (List ℕ)) → List (Option (List ℕ))
+abbrev pub image_payloads_at : (names : List (List ℕ)) → List (Option (List ℕ))
     → List (PayloadPlace × List ℕ)
-payloads_of_images (name ∷ names) (Some payload ∷ later) =
-    (OfImageNamed name, payload) ∷ payloads_of_images names later
-payloads_of_images (name ∷ names) (None ∷ later) = payloads_of_images names later
-payloads_of_images names payloads = []
+image_payloads_at (name ∷ names) (Some payload ∷ later) =
+    (OfImageNamed name, payload) ∷ image_payloads_at names later
+image_payloads_at (name ∷ names) (None ∷ later) = image_payloads_at names later
+image_payloads_at names payloads = []
 
 -- Parts, the first of which has this index, each with its place.
 abbrev pub payloads_of_parts : (index : ℕ) → List (List ℕ) → List (PayloadPlace × List ℕ)
@@ -47,10 +47,10 @@ payloads_of_parts index [] = []
 payloads_of_parts index (part ∷ later) = (OfPart index, part) ∷ payloads_of_parts (index + 1) later
 
 -- The payloads of a meaning, each with its place.
-abbrev pub placed_payloads : Meaning → List (PayloadPlace × List ℕ)
-placed_payloads (OfLegacy image) = payloads_of_parts 0 image.parts
-placed_payloads (OfFit tree) =
-    payloads_of_images (names (nodes_or_none (image_nodes tree.root))) tree.payloads
+abbrev pub payloads_at_places : Meaning → List (PayloadPlace × List ℕ)
+payloads_at_places (OfLegacy image) = payloads_of_parts 0 image.parts
+payloads_at_places (OfFit tree) =
+    image_payloads_at (names (nodes_or_none (image_nodes tree.root))) tree.payloads
 
 -- What is inside the payload at each place.
 abbrev pub Insides : Type 0
@@ -63,10 +63,10 @@ nothing_inside place = None
 -- This is what is inside the payloads of a meaning, within the limits.
 pub record AreInside (limits : Limits) (meaning : Meaning) (insides : Insides) : Type 0 where
   pub each : (place : PayloadPlace) (payload : List ℕ)
-      → Contains (placed_payloads meaning) (place, payload)
+      → Contains (payloads_at_places meaning) (place, payload)
       → HasInside limits payload (insides place)
   pub other : (place : PayloadPlace)
-      → ((payload : List ℕ) → ¬ (Contains (placed_payloads meaning) (place, payload)))
+      → ((payload : List ℕ) → ¬ (Contains (payloads_at_places meaning) (place, payload)))
       → insides place ≡ None
 
 -- What a boot image means, and what is inside its payloads.

@@ -24,9 +24,9 @@ words_of_key (Text word) = words_of_key_named word
 words_of_key word = 1
 
 -- The first words of a line that is not `inside` something.
-abbrev pub first_words : Line → Line
-first_words [] = []
-first_words (first ∷ later) = take (words_of_key first) (first ∷ later)
+abbrev pub plain_key : Line → Line
+plain_key [] = []
+plain_key (first ∷ later) = take (words_of_key first) (first ∷ later)
 
 -- The line is about what is inside a payload, by its first word.
 abbrev pub is_inside_word : (first : Field) → Bool
@@ -40,8 +40,8 @@ is_inside_word word = false
 abbrev pub key_of_line : Line → Line
 key_of_line [] = []
 key_of_line (first ∷ later) =
-    if is_inside_word first then first ∷ (take 1 later ++ first_words (drop 1 later))
-    else first_words (first ∷ later)
+    if is_inside_word first then first ∷ (take 1 later ++ plain_key (drop 1 later))
+    else plain_key (first ∷ later)
 
 -- A line as it is compared: its text without the newline, and that of its key.
 pub record ComparedLine : Type 0 where

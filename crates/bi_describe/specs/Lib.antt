@@ -3,9 +3,11 @@ pub mod ComparedNodes
 pub mod Comparing
 pub mod ComparingWithout
 pub mod ComparisonJson
+pub mod DeepAscii
 pub mod DeepComparing
 pub mod DeepDescribing
 pub mod DeepDescriptions
+pub mod DeepEntries
 pub mod DeepJson
 pub mod DeepLaws
 pub mod DescribedImages
@@ -24,6 +26,7 @@ pub mod ImagePayloads
 pub mod InsidePens
 pub mod InsideTrees
 pub mod JsonLaws
+pub mod KeptDeep
 pub mod KeptEntries
 pub mod KeptLines
 pub mod KnownComparedWithout
@@ -38,10 +41,12 @@ pub mod LineMarks
 pub mod LineSets
 pub mod MadeDigests
 pub mod MadeEntries
+pub mod MadeInsides
 pub mod MadeLines
 pub mod MadeOptions
 pub mod MadeParts
 pub mod MadeWords
+pub mod OpenedEntries
 pub mod OpenedPayloads
 pub mod PropertyOrders
 pub mod ReadDescription

@@ -50,9 +50,11 @@ as_own_word (IgnoredProperty place name) = IgnoredProperty (own_place place) nam
 as_own_word word = word
 
 -- What words leave out of the tree inside the payload at this place.
+abbrev pub word_inside : PayloadPlace → Ignored → List Ignored
+word_inside payload word = if is_word_inside payload word then as_own_word word ∷ [] else []
+
 abbrev pub words_inside : PayloadPlace → List Ignored → List Ignored
-words_inside payload words =
-    flat_map (λ word. if is_word_inside payload word then as_own_word word ∷ [] else []) words
+words_inside payload words = flat_map (word_inside payload) words
 
 -- What stays of it. The boot processor and the memory reservations stay.
 abbrev pub tree_without : List Ignored → PayloadPlace → Devicetree → ReducedTree

@@ -10,7 +10,10 @@ ghost use Rattle.bi_common.specs.HeldImages.{IsHeldImage};
 ghost use Rattle.bi_common.specs.LineTokens.{tokens_of_lines};
 ghost use Rattle.bi_common.specs.PayloadBounds.{IsOverPayloadBound};
 ghost use Rattle.bi_describe.specs.DeepDescribing.{IsDeepDescribeError, IsDeepDescription};
-ghost use Rattle.bi_describe.specs.DeepDescribing.{IsDeepImageError, deep_laws, deep_promise};
+ghost use Rattle.bi_describe.specs.DeepDescribing.{IsDeepImageError, IsDeepTextOf, deep_laws};
+ghost use Rattle.bi_describe.specs.DeepDescribing.{deep_promise, deep_text};
+ghost use Rattle.bi_describe.specs.Devicetrees.{AreInside, Insides as Trees};
+ghost use Rattle.bi_describe.specs.MadeInsides.{IsDeepOf};
 ghost use Rattle.bi_describe.specs.DescribedImages.{IsDescribed, IsDescriptionOf};
 ghost use Rattle.bi_describe.specs.DescribedImages.{described_lines, described_tokens};
 ghost use Rattle.bi_describe.specs.Describing.{CanBeDescribed, IsImageError, description_text};
@@ -339,12 +342,40 @@ pub fn describe_deep(
     ensures failed { IfErr result (IsDeepDescribeError format limits file.now) }
 {
     let image = BootImage::read(alloc, file, limits)?;
-    let mut deep = deep_image(alloc, &image, limits, format)?;
+    deep_text_of_image(alloc, &image, limits, format)
+}
+
+/// Returns the deep description of a boot image, in a form. Requires: the image was read.
+fn deep_text_of_image(
+    alloc: Global,
+    image: &BootImage,
+    limits: Limits,
+    format: Format,
+) -> Result<String, Error>
+    requires held { IsHeldImage image.now }
+    ensures described { IfOk result (λ text. IsDeepTextOf format limits (meaning_of image.now)
+        (string_bytes text)) }
+    ensures failed { IfErr result (IsDeepImageError format limits (meaning_of image.now)) }
+{
+    let mut deep = deep_image(alloc, image, limits, format)?;
     let mut pen = MemoryPen::new(alloc);
     deep.put(format, &mut pen);
+    deep_is_ascii(image, limits, format);
     match String::from_utf8(pen.into_vec()?) {
         Ok(text) => Ok(text),
         Err(_) => unreachable!(),
+    }
+}
+
+/// Does nothing. Its contract states that the deep description of an image is ASCII, in each form.
+/// Requires: the image was read.
+pub(crate) fn deep_is_ascii(image: &BootImage, limits: Limits, format: Format)
+    requires held { IsHeldImage image.now }
+    ensures { (insides : Trees) → AreInside limits (meaning_of image.now) insides → IsAscii
+        (deep_text format (record { meaning = meaning_of image.now; insides = insides })) }
+{
+    if let BootImage::Legacy(image) = image {
+        are_bytes(image.fields().name);
     }
 }
 
@@ -374,15 +405,35 @@ impl Command for DeepDescriber {
         sink: &mut S,
     ) -> Result<(), Error> {
         let image = BootImage::read(alloc, input, limits)?;
-        let mut deep = deep_image(alloc, &image, limits, self.format)?;
-        let mut pen = SinkPen::new(sink);
-        deep.put(self.format, &mut pen);
-        pen.result()
+        describe_deep_into(alloc, &image, limits, self.format, sink)?;
+        Ok(())
     }
 
     ghost wraps_from = { λ _ _ _ _ same. same };
 
     ghost laws = { λ describer. deep_laws describer.format };
+}
+
+/// Appends the deep description of what a boot image means, in a form. Each refusal and each
+/// allocation comes before the first byte. Requires: the image was read.
+fn describe_deep_into<S: Sink>(
+    alloc: Global,
+    image: &BootImage,
+    limits: Limits,
+    format: Format,
+    sink: &mut S,
+) -> Result<(), Error>
+    requires held { IsHeldImage image.now }
+    ensures appended { OnOk result (Appended S.appends
+        (IsDeepTextOf format limits (meaning_of image.now)) sink.old sink.new) }
+    ensures failed { IfErr result (AppendFailed S.fails
+        (IsDeepTextOf format limits (meaning_of image.now))
+        (IsDeepImageError format limits (meaning_of image.now)) sink.old sink.new) }
+{
+    let mut deep = deep_image(alloc, image, limits, format)?;
+    let mut pen = SinkPen::new(sink);
+    deep.put(format, &mut pen);
+    pen.result()
 }
 
 /// Reads a boot image to its end, writes its deep description in a form, and flushes: `pipe_to`
@@ -413,6 +464,7 @@ pub(crate) fn deep_image<'a, 'b>(
     format: Format,
 ) -> Result<DeepImage<'a, 'b>, Error>
     requires held { IsHeldImage image.now }
+    ensures described { IfOk result (IsDeepOf format limits (meaning_of image.entry.now)) }
     ensures failed { IfErr result (IsDeepImageError format limits (meaning_of image.now)) }
 {
     let insides = Insides::read(alloc, image, limits)?;

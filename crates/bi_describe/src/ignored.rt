@@ -16,7 +16,7 @@ ghost use Rattle.bi_describe.specs.MadeWords.{ignored_word, ignored_words};
 
 use bi_base::Error;
 pub(crate) use inside::{
-    Opened, is_payload_ignored, is_payload_of_one, payload_of_word, words_inside,
+    has_image, has_part, is_payload_ignored, is_payload_of_one, payload_of_word, words_inside,
 };
 pub(crate) use matching::{is_node_ignored, is_part_ignored, is_property_ignored, is_time_ignored};
 use path_words::path_word;

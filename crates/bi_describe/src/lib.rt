@@ -6,6 +6,7 @@ pub mod compare;
 mod deep_tests;
 pub mod describe;
 pub mod ignored;
+pub mod known_deep;
 pub mod known_ignored;
 pub mod known_refusals;
 pub mod known_texts;

@@ -1,5 +1,33 @@
 //! What a deep description is made from.
 
+ghost use Rattle.std.specs.Prelude.{◌≡◌, ◌≤◌, [], Option, Some, length, map};
+ghost use Rattle.bi_legacy.specs.Meaning.{image_of};
+ghost use Rattle.bi_fit.specs.ImageTree.{ImageTree};
+ghost use Rattle.bi_norm.specs.Meaning.{OfFit, OfLegacy};
+ghost use Rattle.bi_common.specs.JsonTokens.{json_tokens, value_tokens};
+ghost use Rattle.bi_common.specs.LineTokens.{tokens_of_lines};
+ghost use Rattle.bi_common.specs.MadeFields.{bytes_of_names};
+ghost use Rattle.bi_describe.specs.DeepDescribing.{deep_text};
+ghost use Rattle.bi_describe.specs.DeepDescriptions.{deep_lines, line_at};
+ghost use Rattle.bi_describe.specs.DeepDescriptions.{lines_with_inside};
+ghost use Rattle.bi_describe.specs.DeepEntries.{deep_entry_tokens, entry_tokens_with};
+ghost use Rattle.bi_describe.specs.DeepEntries.{last_begun};
+ghost use Rattle.bi_describe.specs.DeepJson.{deep_object, deep_part_objects, inside_members};
+ghost use Rattle.bi_describe.specs.DeepJson.{object_with_inside};
+ghost use Rattle.bi_describe.specs.DescriptionJson.{digest_object_with};
+ghost use Rattle.bi_describe.specs.DescribedImages.{HoldsDescribedTree};
+ghost use Rattle.bi_describe.specs.Descriptions.{description_lines, part_line};
+ghost use Rattle.bi_describe.specs.Devicetrees.{DeepMeaning, Insides as Trees};
+ghost use Rattle.bi_describe.specs.Ignoring.{OfPart, PayloadPlace as Place};
+ghost use Rattle.bi_describe.specs.DeepDescriptions.{insides_shown};
+ghost use Rattle.bi_describe.specs.MadeInsides.{HoldInsides, HoldsDeep, shown_by, whole_devicetrees};
+ghost use Rattle.bi_describe.specs.MadeParts.{bytes_of_parts, digest_of_part};
+ghost use Rattle.bi_describe.specs.ReadDescription.{root_lines};
+ghost use Rattle.bi_describe.specs.ReducedMeanings.{ReducedTree};
+ghost use Rattle.bi_describe.specs.ImagePayloads.{bytes_of_payload};
+ghost use Rattle.bi_describe.specs.TreeEntries.{PayloadEntry, as_entry, lines_of_entry};
+ghost use Rattle.bi_describe.specs.TreeEntries.{most_open as most_open_of};
+
 use super::DescribedImage;
 use super::entries::Entry;
 use super::fit::{DescribedFit, put_head};
@@ -9,7 +37,7 @@ use super::json::{self, put_digest_members, put_processor_members, put_reservati
 use super::legacy::{DescribedLegacy, put_part};
 use super::lines::{open_after, put_entry, put_node};
 use super::part::DescribedPart;
-use crate::ignored::Opened;
+use crate::ignored::{PayloadPlace, has_image, has_part};
 use bi_base::Pen;
 use bi_common::common_lines::{put_header_lines, put_header_members, put_reservation_lines};
 use bi_common::format::Format;
@@ -25,7 +53,11 @@ pub(crate) struct DeepImage<'a, 'b> {
 
 impl<'a, 'b> DeepImage<'a, 'b> {
     /// Puts the lines.
-    pub(crate) fn put_lines<L: LinePen>(&mut self, pen: &mut L) {
+    pub(crate) fn put_lines<L: LinePen>(&mut self, pen: &mut L)
+        ensures put { (deep : DeepMeaning) → HoldsDeep deep self.old
+            → L.puts pen.old (tokens_of_lines (deep_lines deep)) pen.new }
+        ensures same { (deep : DeepMeaning) → HoldsDeep deep self.old → HoldsDeep deep self.new }
+    {
         match &mut self.described {
             DescribedImage::Legacy(image) => put_legacy_lines(image, &mut self.insides, pen),
             DescribedImage::Fit(fit) => put_fit_lines(fit, &mut self.insides, pen),
@@ -33,7 +65,10 @@ impl<'a, 'b> DeepImage<'a, 'b> {
     }
 
     /// Puts the object.
-    fn put_object<J: JsonPen>(&self, json: &mut J) {
+    fn put_object<J: JsonPen>(&self, json: &mut J)
+        ensures { (deep : DeepMeaning) → HoldsDeep deep self.now
+            → J.puts json.old (json_tokens (deep_object deep)) json.new }
+    {
         match &self.described {
             DescribedImage::Legacy(image) => put_legacy_object(image, &self.insides, json),
             DescribedImage::Fit(fit) => put_fit_object(fit, &self.insides, json),
@@ -41,7 +76,11 @@ impl<'a, 'b> DeepImage<'a, 'b> {
     }
 
     /// Puts the deep description, in a form.
-    pub(super) fn put<P: Pen>(&mut self, format: Format, pen: &mut P) {
+    pub(super) fn put<P: Pen>(&mut self, format: Format, pen: &mut P)
+        ensures put { (deep : DeepMeaning) → HoldsDeep deep self.old
+            → P.puts pen.old (deep_text format deep) pen.new }
+        ensures same { (deep : DeepMeaning) → HoldsDeep deep self.old → HoldsDeep deep self.new }
+    {
         match format {
             Format::Lines => self.put_lines(&mut LineWriter::new(pen)),
             Format::Json => {
@@ -55,10 +94,16 @@ impl<'a, 'b> DeepImage<'a, 'b> {
 // ---- lines
 
 /// Puts the lines of a legacy image.
-fn put_legacy_lines<L: LinePen>(image: &DescribedLegacy, insides: &mut Insides, pen: &mut L) {
+fn put_legacy_lines<L: LinePen>(image: &DescribedLegacy, insides: &mut Insides, pen: &mut L)
+    ensures put { (trees : Trees) → HoldInsides (whole_devicetrees trees) insides.old → L.puts pen.old
+        (tokens_of_lines (lines_with_inside (insides_shown trees) (description_lines
+        (OfLegacy (image_of image.now.fields (bytes_of_parts image.now.parts.items)))))) pen.new }
+    ensures same { (trees : Place → Option ReducedTree) → HoldInsides trees insides.old
+        → HoldInsides trees insides.new }
+{
     put_header_lines(image.fields, pen);
     for index in 0..image.parts.len() {
-        put_part_with_inside(index, image.parts[index], insides, &Opened::none(), pen);
+        put_part_with_inside(index, image.parts[index], insides, &[], pen);
     }
 }
 
@@ -67,20 +112,34 @@ pub(super) fn put_part_with_inside<L: LinePen>(
     index: usize,
     part: DescribedPart,
     insides: &mut Insides,
-    opened: &Opened,
+    opened: &[&PayloadPlace],
     pen: &mut L,
-) {
-    if !opened.has_part(index) {
+)
+    ensures put { (trees : Place → Option ReducedTree) → HoldInsides trees insides.old → L.puts pen.old
+        (tokens_of_lines (line_at (shown_by trees opened.now) (Some (OfPart index))
+        (part_line index (digest_of_part part.entry)))) pen.new }
+    ensures same { (trees : Place → Option ReducedTree) → HoldInsides trees insides.old
+        → HoldInsides trees insides.new }
+{
+    if !has_part(opened, index) {
         put_part(index, part, pen);
     }
-    insides.put_lines(index, pen);
+    insides.put_lines_of_part(index, pen);
 }
 
 /// Puts the lines of a flattened image tree.
-fn put_fit_lines<L: LinePen>(fit: &mut DescribedFit, insides: &mut Insides, pen: &mut L) {
+fn put_fit_lines<L: LinePen>(fit: &mut DescribedFit, insides: &mut Insides, pen: &mut L)
+    ensures put { (tree : ImageTree) (trees : Trees) → HoldsDescribedTree tree fit.old
+        → HoldInsides (whole_devicetrees trees) insides.old → L.puts pen.old (tokens_of_lines
+        (lines_with_inside (insides_shown trees) (description_lines (OfFit tree)))) pen.new }
+    ensures same { (tree : ImageTree) → HoldsDescribedTree tree fit.old
+        → HoldsDescribedTree tree fit.new }
+    ensures same_insides { (trees : Place → Option ReducedTree) → HoldInsides trees insides.old
+        → HoldInsides trees insides.new }
+{
     put_head(fit.blob.boot_cpu(), pen);
     put_reservation_lines(fit.blob, pen);
-    put_tree_with_inside(&fit.entries, &mut fit.names, insides, &Opened::none(), pen);
+    put_tree_with_inside(&fit.entries, &mut fit.names, insides, &[], pen);
 }
 
 /// Puts the lines of a tree with these entries, but for those of these payloads, and those of what
@@ -90,9 +149,17 @@ pub(super) fn put_tree_with_inside<'a, L: LinePen>(
     entries: &[Entry<'a>],
     names: &mut [&'a [u8]],
     insides: &mut Insides,
-    opened: &Opened,
+    opened: &[&PayloadPlace],
     pen: &mut L,
-) {
+)
+    requires { most_open_of 0 (map as_entry entries.now) ≤ length names.old }
+    ensures put { (trees : Place → Option ReducedTree) → HoldInsides trees insides.old → L.puts pen.old
+        (tokens_of_lines (lines_with_inside (shown_by trees opened.now)
+        (root_lines (map as_entry entries.now)))) pen.new }
+    ensures same { (trees : Place → Option ReducedTree) → HoldInsides trees insides.old
+        → HoldInsides trees insides.new }
+    ensures room { length names.new ≡ length names.old }
+{
     put_node(&[], pen);
     let mut open = 0;
     for entry in entries {
@@ -107,12 +174,18 @@ fn put_entry_with_inside<'a, L: LinePen>(
     entry: Entry<'a>,
     names: &[&'a [u8]],
     insides: &mut Insides,
-    opened: &Opened,
+    opened: &[&PayloadPlace],
     pen: &mut L,
-) {
+)
+    ensures put { (trees : Place → Option ReducedTree) → HoldInsides trees insides.old → L.puts pen.old
+        (tokens_of_lines (lines_with_inside (shown_by trees opened.now)
+        (lines_of_entry (bytes_of_names names.now) (as_entry entry.entry)))) pen.new }
+    ensures same { (trees : Place → Option ReducedTree) → HoldInsides trees insides.old
+        → HoldInsides trees insides.new }
+{
     match (entry, names) {
         (Entry::Payload(_), [.., name]) => {
-            if !opened.has_image(name) {
+            if !has_image(opened, name) {
                 put_entry(entry, names, pen);
             }
             insides.put_lines_of_image(name, pen);
@@ -124,23 +197,48 @@ fn put_entry_with_inside<'a, L: LinePen>(
 // ---- JSON
 
 /// Puts the object of a legacy image.
-fn put_legacy_object<J: JsonPen>(image: &DescribedLegacy, insides: &Insides, json: &mut J) {
+fn put_legacy_object<J: JsonPen>(image: &DescribedLegacy, insides: &Insides, json: &mut J)
+    ensures { (trees : Trees) → HoldInsides (whole_devicetrees trees) insides.now → J.puts json.old
+        (json_tokens (object_with_inside trees
+        (OfLegacy (image_of image.now.fields (bytes_of_parts image.now.parts.items))))) json.new }
+{
     json.put(JsonToken::BeginObject);
     put_header_members(image.fields, json);
     json.put(JsonToken::Name("parts"));
     json.put(JsonToken::BeginArray);
-    for index in 0..image.parts.len() {
-        json.put(JsonToken::BeginObject);
-        put_digest_members(image.parts[index].digest, json);
-        insides.put_member(index, json);
-        json.put(JsonToken::EndObject);
-    }
+    put_part_objects(&image.parts, insides, json);
     json.put(JsonToken::EndArray);
     json.put(JsonToken::EndObject);
 }
 
+/// Puts an object for each part, as the values of an array.
+fn put_part_objects<J: JsonPen>(parts: &[DescribedPart], insides: &Insides, json: &mut J)
+    ensures { (trees : Trees) → HoldInsides (whole_devicetrees trees) insides.now → J.puts json.old
+        (value_tokens (deep_part_objects trees 0 (bytes_of_parts parts.now))) json.new }
+{
+    for index in 0..parts.len() {
+        put_part_object(index, parts[index], insides, json);
+    }
+}
+
+/// Puts the object of a part.
+fn put_part_object<J: JsonPen>(index: usize, part: DescribedPart, insides: &Insides, json: &mut J)
+    ensures { (trees : Trees) → HoldInsides (whole_devicetrees trees) insides.now → J.puts json.old
+        (json_tokens (digest_object_with (inside_members (trees (OfPart index)))
+        (digest_of_part part.entry))) json.new }
+{
+    json.put(JsonToken::BeginObject);
+    put_digest_members(part.digest, json);
+    insides.put_member_of_part(index, json);
+    json.put(JsonToken::EndObject);
+}
+
 /// Puts the object of a flattened image tree.
-fn put_fit_object<J: JsonPen>(fit: &DescribedFit, insides: &Insides, json: &mut J) {
+fn put_fit_object<J: JsonPen>(fit: &DescribedFit, insides: &Insides, json: &mut J)
+    ensures { (tree : ImageTree) (trees : Trees) → HoldsDescribedTree tree fit.now
+        → HoldInsides (whole_devicetrees trees) insides.now
+        → J.puts json.old (json_tokens (object_with_inside trees (OfFit tree))) json.new }
+{
     json.put(JsonToken::BeginObject);
     put_processor_members(fit.blob, json);
     put_reservations_member(fit.blob, json);
@@ -152,7 +250,10 @@ fn put_fit_object<J: JsonPen>(fit: &DescribedFit, insides: &Insides, json: &mut 
 }
 
 /// Puts the tokens of these entries, and of what is inside the payloads.
-fn put_entries<J: JsonPen>(entries: &[Entry], insides: &Insides, json: &mut J) {
+fn put_entries<J: JsonPen>(entries: &[Entry], insides: &Insides, json: &mut J)
+    ensures { (trees : Trees) → HoldInsides (whole_devicetrees trees) insides.now → J.puts json.old
+        (deep_entry_tokens trees [] (map as_entry entries.now)) json.new }
+{
     let mut last: &[u8] = b"";
     for entry in entries {
         last = put_entry_object(*entry, last, insides, json);
@@ -166,7 +267,11 @@ fn put_entry_object<'a, J: JsonPen>(
     last: &'a [u8],
     insides: &Insides,
     json: &mut J,
-) -> &'a [u8] {
+) -> &'a [u8]
+    ensures put { (trees : Trees) → HoldInsides (whole_devicetrees trees) insides.now → J.puts json.old
+        (entry_tokens_with trees last.now (as_entry entry.entry)) json.new }
+    ensures last { result.now ≡ last_begun last.entry.now (as_entry entry.entry) }
+{
     match entry {
         Entry::Payload(payload) => {
             put_payload(payload, last, insides, json);
@@ -184,7 +289,11 @@ fn put_entry_object<'a, J: JsonPen>(
 }
 
 /// Puts the member of the payload of the image with this name, if it has one.
-fn put_payload<J: JsonPen>(payload: ImagePayload, name: &[u8], insides: &Insides, json: &mut J) {
+fn put_payload<J: JsonPen>(payload: ImagePayload, name: &[u8], insides: &Insides, json: &mut J)
+    ensures { (trees : Trees) → HoldInsides (whole_devicetrees trees) insides.now → J.puts json.old
+        (entry_tokens_with trees name.now (PayloadEntry (bytes_of_payload payload.entry)))
+        json.new }
+{
     json.put(JsonToken::Name("payload"));
     match payload.digest {
         Some(digest) => {

@@ -1,6 +1,7 @@
 //! What stays of a legacy image.
 
-ghost use Rattle.std.specs.Prelude.{◌≡◌, ◌↔◌, ◌++◌, ◌∷◌, [], IfOk, IsTrue, OnOk, flat_map, map};
+ghost use Rattle.std.specs.Prelude.{◌≡◌, ◌↔◌, ◌++◌, ◌∷◌, [], IfOk, IsTrue, OnOk, Option};
+ghost use Rattle.std.specs.Prelude.{flat_map, map};
 ghost use Rattle.std.specs.Option.{option_map};
 ghost use Rattle.bi_legacy.specs.Meaning.{image_of};
 ghost use Rattle.bi_common.specs.CommonLines.{header_code_lines, named_field};
@@ -9,6 +10,11 @@ ghost use Rattle.bi_common.specs.LineTokens.{line_tokens, tokens_of_lines};
 ghost use Rattle.bi_describe.specs.MadeParts.{bytes_of_parts};
 ghost use Rattle.bi_describe.specs.MadeWords.{ignored_words};
 ghost use Rattle.bi_describe.specs.KeptImages.{IsKeptLegacy, numbered_part};
+ghost use Rattle.bi_describe.specs.DeepDescriptions.{lines_with_inside};
+ghost use Rattle.bi_describe.specs.Ignoring.{PayloadPlace as Place};
+ghost use Rattle.bi_describe.specs.MadeInsides.{HoldInsides, is_one_of_places, shown_by};
+ghost use Rattle.bi_describe.specs.OpenedPayloads.{part_unless_opened, unless_opened};
+ghost use Rattle.bi_describe.specs.ReducedMeanings.{OfReducedLegacy, ReducedTree};
 ghost use Rattle.bi_describe.specs.ReducedMeanings.{ReducedLegacy, fields_alone, kept_part};
 ghost use Rattle.bi_describe.specs.ReducedMeanings.{kept_time, numbered_parts, reduced_legacy};
 ghost use Rattle.bi_describe.specs.ReducedMeanings.{reduced_header_lines, reduced_part_lines};
@@ -18,7 +24,7 @@ use crate::describe::deep::put_part_with_inside;
 use crate::describe::insides::Insides;
 use crate::describe::legacy::{DescribedLegacy, put_part};
 use crate::describe::part::DescribedPart;
-use crate::ignored::{Ignored, Opened, is_part_ignored, is_time_ignored};
+use crate::ignored::{Ignored, PayloadPlace, has_part, is_part_ignored, is_time_ignored};
 use bi_common::fields::Field;
 use bi_common::lines::{LinePen, put_line, put_lines};
 use bi_legacy::Fields;
@@ -75,9 +81,14 @@ impl<'a> KeptLegacy<'a> {
     pub(super) fn put_deep_lines<L: LinePen>(
         &self,
         insides: &mut Insides,
-        opened: &Opened,
+        opened: &[&PayloadPlace],
         pen: &mut L,
-    ) {
+    )
+        ensures { (image : ReducedLegacy) (trees : Place → Option ReducedTree)
+            → IsKeptLegacy image self.now → HoldInsides trees insides.old
+            → L.puts pen.old (tokens_of_lines (lines_with_inside (shown_by trees opened.now)
+            (reduced_legacy_lines image))) pen.new }
+    {
         put_header(self.fields, self.time, pen);
         for part in &self.parts {
             put_part_with_inside(part.index, part.part, insides, opened, pen);
@@ -85,7 +96,16 @@ impl<'a> KeptLegacy<'a> {
     }
 
     /// Returns whether what stays of two images is the same but for the bytes of these parts.
-    pub(super) fn is_same_unless_opened(&self, other: &KeptLegacy<'_>, opened: &Opened) -> bool {
+    pub(super) fn is_same_unless_opened(
+        &self,
+        other: &KeptLegacy<'_>,
+        opened: &[&PayloadPlace],
+    ) -> bool
+        ensures { (image others : ReducedLegacy) → IsKeptLegacy image self.now
+            → IsKeptLegacy others other.now → IsTrue result
+            ↔ (unless_opened (is_one_of_places opened.now) (OfReducedLegacy image)
+            ≡ unless_opened (is_one_of_places opened.now) (OfReducedLegacy others)) }
+    {
         are_same_fields(self.fields, other.fields)
             && self.time == other.time
             && are_same_unless_opened(&self.parts, &other.parts, opened)
@@ -254,7 +274,11 @@ fn are_same_parts(one: &[KeptPart], other: &[KeptPart]) -> bool
 }
 
 /// Returns whether these are the same parts with the same indices, but for the bytes of these.
-fn are_same_unless_opened(one: &[KeptPart], other: &[KeptPart], opened: &Opened) -> bool {
+fn are_same_unless_opened(one: &[KeptPart], other: &[KeptPart], opened: &[&PayloadPlace]) -> bool
+    ensures { IsTrue result
+        ↔ (map (part_unless_opened (is_one_of_places opened.now)) (map numbered_part one.now)
+        ≡ map (part_unless_opened (is_one_of_places opened.now)) (map numbered_part other.now)) }
+{
     if one.len() != other.len() {
         return false;
     }
@@ -267,8 +291,12 @@ fn are_same_unless_opened(one: &[KeptPart], other: &[KeptPart], opened: &Opened)
 }
 
 /// Returns whether two parts have the same index and, unless this is one of these, the same bytes.
-fn is_same_unless_opened(one: KeptPart, other: KeptPart, opened: &Opened) -> bool {
-    one.index == other.index && (opened.has_part(one.index) || one.part.bytes == other.part.bytes)
+fn is_same_unless_opened(one: KeptPart, other: KeptPart, opened: &[&PayloadPlace]) -> bool
+    ensures { IsTrue result
+        ↔ (part_unless_opened (is_one_of_places opened.now) (numbered_part one.entry)
+        ≡ part_unless_opened (is_one_of_places opened.now) (numbered_part other.entry)) }
+{
+    one.index == other.index && (has_part(opened, one.index) || one.part.bytes == other.part.bytes)
 }
 
 /// Returns whether two parts have the same index and the same bytes.

@@ -1,7 +1,7 @@
 //! What stays of a flattened image tree.
 
-ghost use Rattle.std.specs.Prelude.{◌≡◌, ◌↔◌, IfOk, IsTrue, None, OnOk, Some, [], map};
-ghost use Rattle.std.specs.Prelude.{if◌then◌else◌};
+ghost use Rattle.std.specs.Prelude.{◌≡◌, ◌↔◌, IfOk, IsTrue, None, OnOk, Option, Some, []};
+ghost use Rattle.std.specs.Prelude.{if◌then◌else◌, map};
 ghost use Rattle.std.specs.Option.{option_map};
 ghost use Rattle.bi_fit.specs.ImageTree.{ImageTree};
 ghost use Rattle.bi_common.specs.LineTokens.{tokens_of_lines};
@@ -11,7 +11,11 @@ ghost use Rattle.bi_describe.specs.KeptEntries.{kept_entries as kept_of};
 ghost use Rattle.bi_describe.specs.MadeWords.{ignored_words};
 ghost use Rattle.bi_describe.specs.ReadDescription.{root_lines};
 ghost use Rattle.bi_describe.specs.KeptImages.{IsKeptTree};
-ghost use Rattle.bi_describe.specs.ReducedMeanings.{ReducedTree, reduced_tree};
+ghost use Rattle.bi_describe.specs.DeepDescriptions.{lines_with_inside};
+ghost use Rattle.bi_describe.specs.Ignoring.{PayloadPlace as Place};
+ghost use Rattle.bi_describe.specs.MadeInsides.{HoldInsides, is_one_of_places, shown_by};
+ghost use Rattle.bi_describe.specs.OpenedPayloads.{unless_opened};
+ghost use Rattle.bi_describe.specs.ReducedMeanings.{OfReducedTree, ReducedTree, reduced_tree};
 ghost use Rattle.bi_describe.specs.ReducedMeanings.{reduced_tree_lines};
 ghost use Rattle.bi_describe.specs.TreeEntries.{as_entry};
 
@@ -21,7 +25,7 @@ use crate::describe::entries::Entry;
 use crate::describe::fit::{DescribedFit, put_head};
 use crate::describe::insides::Insides;
 use crate::describe::lines::{most_open, put_tree};
-use crate::ignored::{Ignored, Opened, is_node_ignored};
+use crate::ignored::{Ignored, PayloadPlace, is_node_ignored};
 use bi_common::common_lines::put_reservation_lines;
 use bi_common::lines::LinePen;
 use bi_fdt::Blob;
@@ -79,9 +83,14 @@ impl<'a, 'b> KeptFit<'a, 'b> {
         &self,
         alloc: Global,
         insides: &mut Insides,
-        opened: &Opened,
+        opened: &[&PayloadPlace],
         pen: &mut L,
-    ) -> Result<(), AllocError> {
+    ) -> Result<(), AllocError>
+        ensures { OnOk result ((tree : ReducedTree) (trees : Place → Option ReducedTree)
+            → IsKeptTree tree self.now → HoldInsides trees insides.old
+            → L.puts pen.old (tokens_of_lines (lines_with_inside (shown_by trees opened.now)
+            (reduced_tree_lines tree))) pen.new) }
+    {
         put_head(self.blob.boot_cpu(), pen);
         put_reservation_lines(self.blob, pen);
         if let Some(entries) = &self.entries {
@@ -93,7 +102,16 @@ impl<'a, 'b> KeptFit<'a, 'b> {
 
     /// Returns whether what stays of two trees is the same but for these payloads. The others are
     /// compared byte by byte.
-    pub(super) fn is_same_unless_opened(&self, other: &KeptFit<'_, '_>, opened: &Opened) -> bool {
+    pub(super) fn is_same_unless_opened(
+        &self,
+        other: &KeptFit<'_, '_>,
+        opened: &[&PayloadPlace],
+    ) -> bool
+        ensures { (tree others : ReducedTree) → IsKeptTree tree self.now
+            → IsKeptTree others other.now → IsTrue result
+            ↔ (unless_opened (is_one_of_places opened.now) (OfReducedTree tree)
+            ≡ unless_opened (is_one_of_places opened.now) (OfReducedTree others)) }
+    {
         have_same_heads(self.blob, other.blob)
             && match (&self.entries, &other.entries) {
                 (Some(one), Some(other)) => are_same_unless_opened(one, other, opened),
