@@ -3,7 +3,7 @@ use Rattle.std.specs.Prelude.{codes, flat_map, map, option_map, if◌then◌else
 use Rattle.bi_blob.specs.Blob.{Reservation}
 use Rattle.bi_blob.specs.Tree.{with_each_node}
 use Rattle.bi_common.specs.CommonLines.{reservation_line}
-use Rattle.bi_common.specs.Lines.{Line, Text, Decimal, Path, text_of_lines}
+use Rattle.bi_common.specs.Lines.{Field, Line, Text, Decimal, Path, text_of_lines}
 use Rattle.bi_describe.specs.ComparedNodes.{plain_compared}
 use Rattle.bi_describe.specs.Descriptions.{description_lines}
 use Rattle.bi_describe.specs.Devicetrees.{DeepMeaning, Devicetree, Insides}
@@ -35,11 +35,14 @@ abbrev pub inside_reservation_line : (payload : List ℕ) → Reservation → Li
 inside_reservation_line payload reservation =
     Text (codes "inside") ∷ Text payload ∷ reservation_line reservation
 
--- The line of a node or a property, if its tree is inside the payload with this path.
+-- A word of a line, if its tree is inside the payload with this path: the path of a node is then a
+-- path inside the payload.
+abbrev pub word_of_inside : (payload : List ℕ) → Field → Field
+word_of_inside payload (Path names) = Text (inside_path payload names)
+word_of_inside payload word = word
+
 abbrev pub line_inside : (payload : List ℕ) → Line → Line
-line_inside payload (first ∷ Path names ∷ later) =
-    first ∷ Text (inside_path payload names) ∷ later
-line_inside payload line = line
+line_inside payload words = map (word_of_inside payload) words
 
 -- The lines of a devicetree inside the payload with this path. Those of the tree are none if its
 -- root is left out.

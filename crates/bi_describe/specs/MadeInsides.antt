@@ -16,6 +16,7 @@ use Rattle.bi_describe.specs.declared.describe.inside.InsideTree.{InsideTree}
 use Rattle.bi_describe.specs.declared.describe.insides.Insides.{Insides as MadeInsides}
 use Rattle.bi_describe.specs.declared.describe.insides.PayloadIndex.{PayloadIndex}
 use Rattle.bi_describe.specs.declared.describe.insides.PayloadIndex.TheVariants as by
+use Rattle.bi_describe.specs.declared.describe.kept.legacy.KeptPart.{KeptPart}
 use Rattle.bi_describe.specs.declared.ignored.PayloadPlace.{PayloadPlace as MadePlace}
 use Rattle.bi_common.specs.declared.format.Format.{Format}
 use Rattle.bi_describe.specs.DeepDescribing.{CanBeDescribedDeep}
@@ -28,8 +29,9 @@ use Rattle.bi_describe.specs.Ignoring.{is_node_ignored}
 use Rattle.bi_describe.specs.InsidePens.{longest_in}
 use Rattle.bi_describe.specs.InsideTrees.{IsBlobInside, devicetree_of}
 use Rattle.bi_describe.specs.KeptEntries.{kept_entries, root_entries}
+use Rattle.bi_describe.specs.KeptImages.{numbered_part}
 use Rattle.bi_describe.specs.MadeWords.{place_of_payload}
-use Rattle.bi_describe.specs.OpenedPayloads.{is_same_payload}
+use Rattle.bi_describe.specs.OpenedPayloads.{is_same_payload, part_unless_opened}
 use Rattle.bi_describe.specs.ReadDescription.{root_lines}
 use Rattle.bi_describe.specs.ReducedMeanings.{ReducedTree}
 use Rattle.bi_describe.specs.TreeEntries.{EntryModel, as_entry}
@@ -153,3 +155,8 @@ shown_by tree_at places = record { tree_at = tree_at; is_left_out = is_one_of_pl
 abbrev pub has_place : PayloadPlace → Option (Bor MadePlace) → Bool
 has_place payload None = false
 has_place payload (Some place) = is_same_payload payload (place_of_payload place.now)
+
+-- A part that stays, without its bytes if it is among those at these places.
+abbrev pub kept_part_unless : List (Bor MadePlace) → KeptPart → ℕ × List ℕ
+kept_part_unless places part =
+    part_unless_opened (is_one_of_places places) (numbered_part part)

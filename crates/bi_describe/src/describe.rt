@@ -470,8 +470,8 @@ pub(crate) fn deep_image<'a, 'b>(
     let insides = Insides::read(alloc, image, limits)?;
     let described = DescribedImage::new(alloc, image, limits)?;
     let mut deep = DeepImage { described, insides };
-    let mut room = BoundedPen::new(limits.file());
-    deep.put(format, &mut room);
-    room.check(limits.file())?;
+    let mut counted = BoundedPen::new(limits.file());
+    deep.put(format, &mut counted);
+    counted.check(limits.file())?;
     Ok(deep)
 }

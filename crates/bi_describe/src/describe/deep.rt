@@ -25,7 +25,7 @@ ghost use Rattle.bi_describe.specs.MadeParts.{bytes_of_parts, digest_of_part};
 ghost use Rattle.bi_describe.specs.ReadDescription.{root_lines};
 ghost use Rattle.bi_describe.specs.ReducedMeanings.{ReducedTree};
 ghost use Rattle.bi_describe.specs.ImagePayloads.{bytes_of_payload};
-ghost use Rattle.bi_describe.specs.TreeEntries.{PayloadEntry, as_entry, lines_of_entry};
+ghost use Rattle.bi_describe.specs.TreeEntries.{PayloadEntry, as_entry, entry_lines, lines_of_entry};
 ghost use Rattle.bi_describe.specs.TreeEntries.{most_open as most_open_of};
 
 use super::DescribedImage;
@@ -153,14 +153,34 @@ pub(super) fn put_tree_with_inside<'a, L: LinePen>(
     pen: &mut L,
 )
     requires { most_open_of 0 (map as_entry entries.now) ≤ length names.old }
-    ensures put { (trees : Place → Option ReducedTree) → HoldInsides trees insides.old → L.puts pen.old
-        (tokens_of_lines (lines_with_inside (shown_by trees opened.now)
+    ensures put { (trees : Place → Option ReducedTree) → HoldInsides trees insides.old
+        → L.puts pen.old (tokens_of_lines (lines_with_inside (shown_by trees opened.now)
         (root_lines (map as_entry entries.now)))) pen.new }
     ensures same { (trees : Place → Option ReducedTree) → HoldInsides trees insides.old
         → HoldInsides trees insides.new }
     ensures room { length names.new ≡ length names.old }
 {
     put_node(&[], pen);
+    put_entries_with_inside(entries, names, insides, opened, pen);
+}
+
+/// Puts the lines of these entries, but for those of these payloads, and those of what is inside
+/// the payloads. Requires: `names` has room for the names of all nodes that are open at once.
+fn put_entries_with_inside<'a, L: LinePen>(
+    entries: &[Entry<'a>],
+    names: &mut [&'a [u8]],
+    insides: &mut Insides,
+    opened: &[&PayloadPlace],
+    pen: &mut L,
+)
+    requires { most_open_of 0 (map as_entry entries.now) ≤ length names.old }
+    ensures put { (trees : Place → Option ReducedTree) → HoldInsides trees insides.old
+        → L.puts pen.old (tokens_of_lines (lines_with_inside (shown_by trees opened.now)
+        (entry_lines [] (map as_entry entries.now)))) pen.new }
+    ensures same { (trees : Place → Option ReducedTree) → HoldInsides trees insides.old
+        → HoldInsides trees insides.new }
+    ensures room { length names.new ≡ length names.old }
+{
     let mut open = 0;
     for entry in entries {
         open = open_after(*entry, names, open);

@@ -12,8 +12,9 @@ ghost use Rattle.bi_describe.specs.MadeWords.{ignored_words};
 ghost use Rattle.bi_describe.specs.KeptImages.{IsKeptLegacy, numbered_part};
 ghost use Rattle.bi_describe.specs.DeepDescriptions.{lines_with_inside};
 ghost use Rattle.bi_describe.specs.Ignoring.{PayloadPlace as Place};
-ghost use Rattle.bi_describe.specs.MadeInsides.{HoldInsides, is_one_of_places, shown_by};
-ghost use Rattle.bi_describe.specs.OpenedPayloads.{part_unless_opened, unless_opened};
+ghost use Rattle.bi_describe.specs.MadeInsides.{HoldInsides, is_one_of_places, kept_part_unless};
+ghost use Rattle.bi_describe.specs.MadeInsides.{shown_by};
+ghost use Rattle.bi_describe.specs.OpenedPayloads.{unless_opened};
 ghost use Rattle.bi_describe.specs.ReducedMeanings.{OfReducedLegacy, ReducedTree};
 ghost use Rattle.bi_describe.specs.ReducedMeanings.{ReducedLegacy, fields_alone, kept_part};
 ghost use Rattle.bi_describe.specs.ReducedMeanings.{kept_time, numbered_parts, reduced_legacy};
@@ -275,9 +276,8 @@ fn are_same_parts(one: &[KeptPart], other: &[KeptPart]) -> bool
 
 /// Returns whether these are the same parts with the same indices, but for the bytes of these.
 fn are_same_unless_opened(one: &[KeptPart], other: &[KeptPart], opened: &[&PayloadPlace]) -> bool
-    ensures { IsTrue result
-        ↔ (map (part_unless_opened (is_one_of_places opened.now)) (map numbered_part one.now)
-        ≡ map (part_unless_opened (is_one_of_places opened.now)) (map numbered_part other.now)) }
+    ensures { IsTrue result ↔ (map (kept_part_unless opened.now) one.now
+        ≡ map (kept_part_unless opened.now) other.now) }
 {
     if one.len() != other.len() {
         return false;
@@ -293,8 +293,7 @@ fn are_same_unless_opened(one: &[KeptPart], other: &[KeptPart], opened: &[&Paylo
 /// Returns whether two parts have the same index and, unless this is one of these, the same bytes.
 fn is_same_unless_opened(one: KeptPart, other: KeptPart, opened: &[&PayloadPlace]) -> bool
     ensures { IsTrue result
-        ↔ (part_unless_opened (is_one_of_places opened.now) (numbered_part one.entry)
-        ≡ part_unless_opened (is_one_of_places opened.now) (numbered_part other.entry)) }
+        ↔ (kept_part_unless opened.now one.entry ≡ kept_part_unless opened.now other.entry) }
 {
     one.index == other.index && (has_part(opened, one.index) || one.part.bytes == other.part.bytes)
 }
