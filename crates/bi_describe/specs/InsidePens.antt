@@ -33,7 +33,7 @@ pub record LongestPuts (old : LongestPath) (tokens : List LineToken) (new : Long
 
 longest_in-append : (payload : List ℕ) (xs ys : List LineToken)
     → longest_in payload (xs ++ ys) ≡ max (longest_in payload xs) (longest_in payload ys)
-longest_in-append payload [] ys = refl
+longest_in-append payload [] ys = omega arith
 longest_in-append payload (x ∷ xs) ys = omega (arith, longest_in-append payload xs ys)
 
 pub longest_puts_nothing : PutsNothing LongestPuts

@@ -48,6 +48,7 @@ pub mod MadeParts
 pub mod MadeWords
 pub mod OpenedEntries
 pub mod OpenedPayloads
+pub mod PathRooms
 pub mod PropertyOrders
 pub mod ReadDescription
 pub mod KeptImages

@@ -9,7 +9,6 @@ use Rattle.std.specs.Ordering.{nat_cmp}
 use Rattle.bi_base.specs.Limits.{Limits}
 use Rattle.bi_fdt.specs.Content.{Blob}
 use Rattle.bi_norm.specs.Meaning.{Meaning}
-use Rattle.bi_common.specs.LineTokens.{tokens_of_lines}
 use Rattle.bi_describe.specs.declared.describe.deep.DeepImage.{DeepImage}
 use Rattle.bi_describe.specs.declared.describe.inside.InsideNodes.{InsideNodes}
 use Rattle.bi_describe.specs.declared.describe.inside.InsideTree.{InsideTree}
@@ -26,13 +25,12 @@ use Rattle.bi_describe.specs.Devicetrees.{AreInside, DeepMeaning, HasInside, Ins
 use Rattle.bi_describe.specs.IgnoredWords.{payload_path}
 use Rattle.bi_describe.specs.Ignoring.{Ignored, PayloadPlace, OfImageNamed, OfPart}
 use Rattle.bi_describe.specs.Ignoring.{is_node_ignored}
-use Rattle.bi_describe.specs.InsidePens.{longest_in}
 use Rattle.bi_describe.specs.InsideTrees.{IsBlobInside, devicetree_of}
 use Rattle.bi_describe.specs.KeptEntries.{kept_entries, root_entries}
 use Rattle.bi_describe.specs.KeptImages.{numbered_part}
 use Rattle.bi_describe.specs.MadeWords.{place_of_payload}
 use Rattle.bi_describe.specs.OpenedPayloads.{is_same_payload, part_unless_opened}
-use Rattle.bi_describe.specs.ReadDescription.{root_lines}
+use Rattle.bi_describe.specs.PathRooms.{HasRoomForPaths}
 use Rattle.bi_describe.specs.ReducedMeanings.{ReducedTree}
 use Rattle.bi_describe.specs.TreeEntries.{EntryModel, as_entry}
 
@@ -40,9 +38,7 @@ use Rattle.bi_describe.specs.TreeEntries.{EntryModel, as_entry}
 
 -- The nodes have room for the longest path, inside the payload with this path.
 abbrev pub HasPathRoom : (payload : List ℕ) → InsideNodes → Type 0
-HasPathRoom payload nodes =
-    longest_in payload (tokens_of_lines (root_lines (map as_entry nodes.entries.items)))
-    ≤ length nodes.text.items
+HasPathRoom payload nodes = HasRoomForPaths payload nodes.entries.items nodes.text.items
 
 -- The entries of nodes, if there are nodes.
 abbrev pub entries_inside : Option InsideNodes → Option (List EntryModel)

@@ -2,6 +2,7 @@
 
 mod blobs;
 mod paths;
+mod that_stay;
 
 ghost use Rattle.std.specs.Prelude.{◌≡◌, ◌∷◌, ◌≤◌, ◌↔◌, ⊤, [], IfErr, IfOk, IfSome, IsTrue, List};
 ghost use Rattle.std.specs.Prelude.{None, OnOk, Option, Some, if◌then◌else◌, length, map, ℕ};
@@ -16,16 +17,15 @@ ghost use Rattle.bi_describe.specs.DeepDescriptions.{inside_reservation_line, wh
 ghost use Rattle.bi_describe.specs.DeepJson.{inside_members};
 ghost use Rattle.bi_describe.specs.Devicetrees.{Devicetree};
 ghost use Rattle.bi_describe.specs.InsideTrees.{IsBlobInside, IsInsideError, devicetree_of};
-ghost use Rattle.bi_describe.specs.MadeInsides.{HasPathRoom, HoldsInside, entries_inside};
-ghost use Rattle.bi_describe.specs.MadeInsides.{entries_that_stay};
 ghost use Rattle.bi_describe.specs.MadeWords.{ignored_words};
+ghost use Rattle.bi_describe.specs.PathRooms.{HasRoomForPaths};
 ghost use Rattle.bi_describe.specs.ReadDescription.{root_lines};
 ghost use Rattle.bi_describe.specs.ReducedMeanings.{ReducedTree, kept_root as kept_root_of};
 ghost use Rattle.bi_describe.specs.TreeEntries.{as_entry, most_open as most_open_of};
 
 use super::entries::Entry;
 use super::json::{put_members_of_blob, put_root};
-use super::kept::{are_same_entries, have_same_heads, kept_root};
+use super::kept::have_same_heads;
 use super::lines::{most_open, put_tree};
 use crate::ignored::Ignored;
 use bi_base::{Error, Limits};
@@ -37,6 +37,7 @@ pub(super) use blobs::read_blob;
 use blobs::{check_names, entries_of_blob};
 use paths::{InsidePen, longest_path};
 use std::alloc::{AllocError, Global};
+use that_stay::{have_same_nodes, nodes_that_stay};
 
 /// The nodes of a devicetree, with room for what their lines need.
 #[derive(Drop)]
@@ -51,6 +52,8 @@ struct InsideNodes<'a> {
 }
 
 impl<'a> InsideNodes<'a> {
+    ghost use Rattle.bi_describe.specs.MadeInsides.{HasPathRoom};
+
     /// Returns the nodes with these entries, inside the payload with this path.
     ///
     /// Fails only if memory runs out.
@@ -94,10 +97,13 @@ pub(crate) struct InsideTree<'a> {
     blob: Blob<'a>,
     /// The nodes, unless the root is left out.
     nodes: Option<InsideNodes<'a>>,
-    ghost room: { IfSome nodes (HasPathRoom path.items) },
+    ghost room: { IfSome nodes (λ nodes.
+        HasRoomForPaths path.items nodes.entries.items nodes.text.items) },
 }
 
 impl<'a> InsideTree<'a> {
+    ghost use Rattle.bi_describe.specs.MadeInsides.{HoldsInside};
+
     /// Returns the devicetree that is this blob, inside the payload with this path.
     ///
     /// Errors: TooLarge at the limit, if the names of properties are longer than that; OutOfMemory.
@@ -169,39 +175,6 @@ impl<'a> InsideTree<'a> {
             put_root(&nodes.entries, json);
         }
         json.put(JsonToken::EndObject);
-    }
-}
-
-/// Returns the nodes that stay once these words are left out, unless the root is left out.
-///
-/// Fails only if memory runs out.
-fn nodes_that_stay<'a>(
-    alloc: Global,
-    payload: &[u8],
-    nodes: &Option<InsideNodes<'a>>,
-    words: &[Ignored],
-) -> Result<Option<InsideNodes<'a>>, AllocError>
-    ensures entries { IfOk result (λ kept. entries_inside kept
-        ≡ entries_that_stay (ignored_words words.now) (entries_inside nodes.now)) }
-    ensures room { IfOk result (λ kept. IfSome kept (HasPathRoom payload.now)) }
-{
-    let Some(nodes) = nodes else {
-        return Ok(None);
-    };
-    match kept_root(alloc, &nodes.entries, words)? {
-        Some(entries) => Ok(Some(InsideNodes::new(alloc, payload, entries)?)),
-        None => Ok(None),
-    }
-}
-
-/// Returns whether there are two trees with the same entries, or none.
-fn have_same_nodes(one: &Option<InsideNodes>, other: &Option<InsideNodes>) -> bool
-    ensures { IsTrue result ↔ (entries_inside one.now ≡ entries_inside other.now) }
-{
-    match (one, other) {
-        (Some(one), Some(other)) => are_same_entries(&one.entries, &other.entries),
-        (None, None) => true,
-        _ => false,
     }
 }
 

@@ -114,8 +114,9 @@ impl<'p, 't, 'l, L: LinePen> InsidePen<'p, 't, 'l, L> {
         if length > self.text.len() {
             return;
         }
-        write_path(self.payload, names, &mut self.text[..length]);
-        self.pen.put_word(Field::Text(&self.text[..length]));
+        let text = &mut *self.text;
+        write_path(self.payload, names, &mut text[..length]);
+        self.pen.put_word(Field::Text(&text[..length]));
     }
 }
 
