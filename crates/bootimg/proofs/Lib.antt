@@ -44,3 +44,4 @@ pub mod BuildWorkFacts
 pub mod LastSaid
 pub mod SaidTopics
 pub mod MessageFacts
+pub mod RefusedFacts

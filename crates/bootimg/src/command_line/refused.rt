@@ -1,11 +1,13 @@
 //! The word that an option, an argument or a field of an image word does not take.
 
-ghost use Rattle.std.specs.Prelude.{◌≡◌, IfOk, map, option_map};
-ghost use Rattle.bootimg.specs.CommandLine.{texts_of};
-ghost use Rattle.bootimg.specs.RefusedWords.{FindsRefused, FindsRefusedField, FindsRefusedValue};
-ghost use Rattle.bootimg.specs.RefusedWords.{AddsNear, FindsRefusedWord};
-ghost use Rattle.bootimg.specs.RefusedWords.{FindsRefusedOf, field_given, fields_given, given_word};
-ghost use Rattle.bootimg.specs.RefusedWords.{first_near, near_name};
+ghost use Rattle.std.specs.Prelude.{◌≡◌, IfNone, IfOk, IfSome, map, option_map};
+ghost use Rattle.bootimg.specs.CommandLine.{NoneIs, texts_of};
+ghost use Rattle.bootimg.specs.RefusedWords.{FindsField, FindsFirst, FindsRefused, HasFields};
+ghost use Rattle.bootimg.specs.RefusedWords.{FindsRefusedWord, all_option_words, field_given};
+ghost use Rattle.bootimg.specs.RefusedWords.{fields_given, first_near, given_word, near_name};
+ghost use Rattle.bootimg.specs.RefusedWords.{refused_model, taking_model, words_given};
+ghost use Rattle.bootimg.specs.RefusedWords.{taking_options as all_taking_options};
+ghost use Rattle.bootimg.specs.RefusedWords.{with_near as with_near_of};
 
 use crate::codes::CodeField;
 use crate::command_line::image::{ImageFields, split_image};
@@ -47,7 +49,8 @@ pub fn refused_word<'a>(
     arguments: &'a [&'a str],
     failure: Failure<'static>,
 ) -> Result<Option<RefusedWord<'a>>, AllocError>
-    ensures { IfOk result (FindsRefusedWord (texts_of arguments.entry.now) failure.entry) }
+    ensures { IfOk result (λ refused. FindsRefusedWord (texts_of arguments.entry.now)
+        failure.entry (option_map refused_model refused)) }
 {
     match program(alloc)?.try_get_matches_from(arguments) {
         Ok(matches) => match matches.subcommand() {
@@ -64,7 +67,8 @@ fn refused_by_options<'a>(
     options: &ArgMatches<'a>,
     failure: Failure<'static>,
 ) -> Result<Option<RefusedWord<'a>>, AllocError>
-    ensures { IfOk result (FindsRefused options.now failure.entry) }
+    ensures { IfOk result (λ refused. FindsRefused options.now failure.entry
+        (option_map refused_model refused)) }
 {
     match failure {
         Failure::BadValue => with_near(alloc, refused_value(alloc, options)?),
@@ -78,7 +82,8 @@ fn with_near<'a>(
     alloc: Global,
     given: Option<GivenWord<'a>>,
 ) -> Result<Option<RefusedWord<'a>>, AllocError>
-    ensures { IfOk result (AddsNear given.entry) }
+    ensures { IfOk result (λ refused. option_map refused_model refused
+        ≡ option_map with_near_of (option_map given_word given.entry)) }
 {
     let Some(given) = given else {
         return Ok(None);
@@ -98,18 +103,24 @@ fn refused_value<'a>(
     alloc: Global,
     options: &ArgMatches<'a>,
 ) -> Result<Option<GivenWord<'a>>, AllocError>
-    ensures { IfOk result (FindsRefusedValue options.now) }
+    ensures { IfOk result (λ found. FindsFirst (all_option_words options.now)
+        (option_map given_word found)) }
 {
-    for option in &TAKING_OPTIONS {
-        if let Some(word) = refused_of(alloc, option, all_values(options, option.name))? {
-            return Ok(Some(GivenWord {
-                place: option.place(),
-                takes: option.takes,
-                word,
-            }));
+    for option in taking_options() {
+        let words = all_values(options, option.name);
+        let found = refused_of(alloc, option, words)?;
+        if found.is_some() {
+            return Ok(found);
         }
     }
     Ok(None)
+}
+
+/// Returns the options and arguments whose words can be judged one by one.
+fn taking_options() -> &'static [OptionText]
+    ensures { map taking_model result.now ≡ all_taking_options }
+{
+    &TAKING_OPTIONS
 }
 
 /// Returns the first of these words that an option does not take.
@@ -117,13 +128,18 @@ fn refused_of<'a>(
     alloc: Global,
     option: &OptionText,
     words: &[&'a str],
-) -> Result<Option<&'a str>, AllocError>
-    ensures { IfOk result (λ found. FindsRefusedOf option.now.takes (texts_of words.now)
-        (option_map (λ word. word.now) found)) }
+) -> Result<Option<GivenWord<'a>>, AllocError>
+    ensures { IfOk result (λ found. FindsFirst
+        (words_given (taking_model option.now) (texts_of words.now))
+        (option_map given_word found)) }
 {
     for word in words {
         if !option.takes.takes(alloc, word)? {
-            return Ok(Some(word));
+            return Ok(Some(GivenWord {
+                place: option.place(),
+                takes: option.takes,
+                word,
+            }));
         }
     }
     Ok(None)
@@ -136,15 +152,34 @@ fn refused_field<'a>(
     options: &ArgMatches<'a>,
     index: usize,
 ) -> Result<Option<GivenWord<'a>>, AllocError>
-    ensures { IfOk result (FindsRefusedField options.now index) }
+    ensures { IfOk result (λ found. FindsField options.now index
+        (option_map given_word found)) }
 {
-    let Some(argument) = all_values(options, "images").get(index) else {
-        return Ok(None);
-    };
-    let Some(fields) = split_image(argument) else {
-        return Ok(None);
-    };
-    for given in &given_fields(fields, index) {
+    match image_fields(options, index) {
+        Some(fields) => first_refused(alloc, &given_fields(fields, index)),
+        None => Ok(None),
+    }
+}
+
+/// Returns the fields of the image word at this index. Returns None if there is no such word, or it
+/// does not have the fields of an image.
+fn image_fields<'a>(options: &ArgMatches<'a>, index: usize) -> Option<ImageFields<'a>>
+    ensures some { IfSome result (HasFields options.now index) }
+    ensures none { IfNone result (NoneIs (HasFields options.now index)) }
+{
+    let argument = all_values(options, "images").get(index)?;
+    split_image(argument)
+}
+
+/// Returns the first of these words that is not taken where it stands.
+fn first_refused<'a>(
+    alloc: Global,
+    words: &[GivenWord<'a>],
+) -> Result<Option<GivenWord<'a>>, AllocError>
+    ensures { IfOk result (λ found. FindsFirst (map given_word words.now)
+        (option_map given_word found)) }
+{
+    for given in words {
         if !given.takes.takes(alloc, given.word)? {
             return Ok(Some(*given));
         }

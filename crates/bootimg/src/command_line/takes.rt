@@ -1,9 +1,9 @@
 //! What the words of options and arguments have to be.
 
 ghost use Rattle.std.specs.Prelude.{◌≡◌, ◌↔◌, IfOk, IsTrue, map};
-ghost use Rattle.bootimg.specs.CodeWords.{names_of_field as names_in};
 ghost use Rattle.bootimg.specs.TakenWords.{IsTaken, names_taken};
 ghost use Rattle.bootimg.specs.TakenWords.{words_after_names, words_before_names};
+ghost use Rattle.bootimg.specs.declared.command_line.takes.Takes.TheVariants.{Algorithms};
 
 use crate::codes::{CodeField, names_of_field, parse_code};
 use crate::command_line::NoRequest;
@@ -139,7 +139,7 @@ impl Takes {
             Takes::Limit => "a number from 64 to 2147483647",
             Takes::Alignment => "a power of two from 4 to 1048576",
             Takes::Address => "an address, or - for none",
-            Takes::Part => "a length in bytes, or a file, which is given as @FILE",
+            Takes::Part => "a length in bytes, and a file is given as @",
             Takes::Code(_) | Takes::Key | Takes::ValueForm => "one of ",
             Takes::Kinds => "a comma-separated list of ",
             Takes::Algorithms => "none, or a comma-separated list without repetition of ",
@@ -160,7 +160,7 @@ impl Takes {
 
 /// Returns whether a word gives algorithms of hash nodes.
 fn are_algorithms(alloc: Global, word: &str) -> Result<bool, AllocError>
-    ensures { IfOk result (λ is_taken. IsTrue is_taken ↔ IsTaken Takes.Algorithms word.now) }
+    ensures { IfOk result (λ is_taken. IsTrue is_taken ↔ IsTaken Algorithms word.now) }
 {
     match parse_hashes(alloc, word) {
         Ok(_) => Ok(true),

@@ -1,0 +1,139 @@
+use Rattle.std.proofs.Common.{◌≡◌, ◌<◌, ◌≤◌, ◌∙◌, ◌+◌, ℕ, Bool, true, false, List, [], ◌∷◌, ◌++◌, Option, None, Some, ap, drop, flat_map}
+use Rattle.std.proofs.Common.{append-nil, get_or, length, map, refl, subst, sym, take}
+use Rattle.std.specs.Prelude.{◌↔◌, IfNone, IfSome, IsTrue, is_some}
+use Rattle.std.specs.List.{AllByRecursion}
+use Rattle.std.proofs.lemmas.List.{append_assoc, flat_map-append, map_more, take-append-drop, take_all, take_more}
+use Rattle.std.proofs.lemmas.List.Concat.{flat_map_single}
+use Rattle.bi_base.proofs.ListMembers.{each-append}
+use Rattle.std.specs.Borrow.{Bor}
+use Rattle.clap.specs.declared.parser.matches.ArgMatches.{ArgMatches}
+use Rattle.bootimg.specs.CommandLine.{NoneIs, texts_of}
+use Rattle.bootimg.specs.RefusedWords.{FindsFirst, GivenModel, IsFirstRefused, IsRefused, TakingModel, all_option_words, option_words}
+use Rattle.bootimg.specs.RefusedWords.{taking_model, taking_options, words_given}
+use Rattle.bootimg.specs.declared.command_line.table.OptionText.{OptionText}
+use Rattle.bootimg.specs.TakenWords.{IsTaken}
+
+-- The first word that is not taken, in lists that are looked through one word after another.
+
+-- The word is taken where it stands.
+abbrev pub IsTakenThere : GivenModel → Type 0
+IsTakenThere given = IsTaken given.takes given.word
+
+-- A word that is refused among the first ones is the first of all that is.
+pub found_before : (xs ys : List GivenModel) (found : GivenModel) → IsFirstRefused xs found → IsFirstRefused (xs ++ ys) found
+found_before xs ys found is = record {
+  before = is.before;
+  later = is.later ++ ys;
+  are = ap (λ l. l ++ ys) is.are ∙ append_assoc is.before (found ∷ is.later) ys;
+  taken = is.taken;
+  refused = is.refused;
+}
+
+-- After words that are taken, the first of the later ones that is refused is the first of all.
+pub found_after : (xs ys : List GivenModel) (found : Option GivenModel) → AllByRecursion IsTakenThere xs → FindsFirst ys found
+    → FindsFirst (xs ++ ys) found
+found_after xs ys None taken later = each-append IsTakenThere xs ys taken later
+found_after xs ys (Some found) taken is = record {
+  before = xs ++ is.before;
+  later = is.later;
+  are = ap (λ l. xs ++ l) is.are ∙ sym (append_assoc xs is.before (found ∷ is.later));
+  taken = each-append IsTakenThere xs is.before taken is.taken;
+  refused = is.refused;
+}
+
+-- ---- lists of words for each of several things
+
+-- The words before one thing, those of that thing, and those after it.
+words_at : {X : Type 0} (f : X → List GivenModel) (xs : List X) (i : ℕ) (d : X) → i < length xs
+    → flat_map f xs ≡ (flat_map f (take i xs) ++ f (get_or xs i d)) ++ flat_map f (drop (i + 1) xs)
+words_at f xs i d within =
+    let later = flat_map f (drop (i + 1) xs) in
+    ap (flat_map f) (sym (take-append-drop (i + 1) xs))
+    ∙ flat_map-append f (take (i + 1) xs) (drop (i + 1) xs)
+    ∙ ap (λ l. flat_map f l ++ later) (take_more xs i d within)
+    ∙ ap (λ l. l ++ later) (flat_map-append f (take i xs) (get_or xs i d ∷ [])
+    ∙ ap (λ l. flat_map f (take i xs) ++ l) (append-nil (f (get_or xs i d))))
+
+-- The words of the first things are taken, and so are those of one more.
+pub more_taken : {X : Type 0} (f : X → List GivenModel) (xs : List X) (i : ℕ) (d : X) → i < length xs
+    → AllByRecursion IsTakenThere (flat_map f (take i xs)) → AllByRecursion IsTakenThere (f (get_or xs i d))
+    → AllByRecursion IsTakenThere (flat_map f (take (i + 1) xs))
+more_taken f xs i d within first one =
+    subst (AllByRecursion IsTakenThere)
+    (sym (ap (flat_map f) (take_more xs i d within) ∙ flat_map-append f (take i xs) (get_or xs i d ∷ [])
+    ∙ ap (λ l. flat_map f (take i xs) ++ l) (append-nil (f (get_or xs i d)))))
+    (each-append IsTakenThere (flat_map f (take i xs)) (f (get_or xs i d)) first one)
+
+-- Those of the first things are taken, and one of the next thing is refused.
+pub found_at : {X : Type 0} (f : X → List GivenModel) (xs : List X) (i : ℕ) (d : X) (found : GivenModel) → i < length xs
+    → AllByRecursion IsTakenThere (flat_map f (take i xs)) → IsFirstRefused (f (get_or xs i d)) found
+    → IsFirstRefused (flat_map f xs) found
+found_at f xs i d found within first is =
+    subst (λ l. IsFirstRefused l found) (sym (words_at f xs i d within))
+    (found_before (flat_map f (take i xs) ++ f (get_or xs i d)) (flat_map f (drop (i + 1) xs)) found
+    (found_after (flat_map f (take i xs)) (f (get_or xs i d)) (Some found) first is))
+
+-- Those of all things are taken.
+pub none_found : {X : Type 0} (f : X → List GivenModel) (xs : List X) (i : ℕ) → length xs ≤ i
+    → AllByRecursion IsTakenThere (flat_map f (take i xs)) → FindsFirst (flat_map f xs) None
+none_found f xs i past all = subst (λ l. AllByRecursion IsTakenThere (flat_map f l)) (take_all i xs past) all
+
+-- ---- one word for each
+
+-- A word by itself.
+abbrev pub only : {X : Type 0} → (X → GivenModel) → X → List GivenModel
+only f x = f x ∷ []
+
+-- It is refused.
+pub found_one : (given : GivenModel) → IsRefused given → IsFirstRefused (given ∷ []) given
+found_one given refused = record { before = []; later = []; are = refl; taken = tt; refused = refused }
+
+pub found_in_map : {X : Type 0} (f : X → GivenModel) (xs : List X) (found : Option GivenModel) → FindsFirst (flat_map (only f) xs) found
+    → FindsFirst (map f xs) found
+found_in_map f xs found is = subst (λ l. FindsFirst l found) (flat_map_single f xs) is
+
+-- ---- options
+
+-- A word of an option.
+abbrev pub given_to : TakingModel → Bor (List ℕ) → GivenModel
+given_to option word = record { place = option.place; takes = option.takes; word = word.now }
+
+-- The words that an option of the table has.
+abbrev pub words_of_option : ArgMatches → OptionText → List GivenModel
+words_of_option options option = option_words options (taking_model option)
+
+-- Those of all options of the table.
+pub words_of_all : (options : ArgMatches) (table : List OptionText) → map taking_model table ≡ taking_options
+    → flat_map (words_of_option options) table ≡ all_option_words options
+words_of_all options table same = flat_of_map taking_model (option_words options) table ∙ ap (flat_map (option_words options)) same
+  where
+    flat_of_map : {X Y Z : Type 0} (f : X → Y) (g : Y → List Z) (xs : List X) → flat_map (λ x. g (f x)) xs ≡ flat_map g (map f xs)
+    flat_of_map f g [] = refl
+    flat_of_map f g (x ∷ xs) = ap (λ l. g (f x) ++ l) (flat_of_map f g xs)
+
+-- The words of an option, as they were lent.
+pub given_words_of : (option : TakingModel) (words : List (Bor (List ℕ))) → map (given_to option) words ≡ words_given option (texts_of words)
+given_words_of option [] = refl
+given_words_of option (word ∷ words) = ap (λ l. given_to option word ∷ l) (given_words_of option words)
+
+-- ---- whether a word is taken
+
+pub true_is_taken : (taken : Bool) (Is : Type 0) → IsTrue taken ↔ Is → taken ≡ true → Is
+true_is_taken taken Is says yes = says.0 (rw yes tt)
+
+pub false_is_refused : (taken : Bool) (Is : Type 0) → IsTrue taken ↔ Is → taken ≡ false → ¬ Is
+false_is_refused taken Is says no is = let true_now : IsTrue false = subst IsTrue no (says.1 is) in true_now
+
+-- An option with a value exactly for words that are taken.
+pub taken_if_some : {T : Type 0} (Is : T → Type 0) (given : Option T) (is_given : Bool) → IfSome given Is → IfNone given (NoneIs Is)
+    → is_given ≡ is_some given → IsTrue is_given ↔ ((value : T) × Is value)
+taken_if_some Is None is_given some none same =
+    (λ yes. absurd (subst IsTrue same yes), λ is. absurd (none is.0 is.1))
+taken_if_some Is (Some value) is_given some none same = (λ yes. (value, some), λ is. subst IsTrue (sym same) tt)
+
+-- The same, if the value is known by its word.
+pub taken_if_known : {T : Type 0} (Is : T → Type 0) (given : Option T) (is_given : Bool) → IfSome given Is
+    → ((value : T) → Is value → given ≡ Some value) → is_given ≡ is_some given → IsTrue is_given ↔ ((value : T) × Is value)
+taken_if_known Is None is_given some exactly same =
+    (λ yes. absurd (subst IsTrue same yes), λ is. absurd (let e : None ≡ Some is.0 = exactly is.0 is.1 in cc))
+taken_if_known Is (Some value) is_given some exactly same = (λ yes. (value, some), λ is. subst IsTrue (sym same) tt)
