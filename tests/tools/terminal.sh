@@ -76,7 +76,7 @@ def hints(name, words, line, hint, status=2, input=b""):
 
 for name in ("kernel.uimage", "two-parts.uimage", "board.itb"):
     shutil.copy(f"{EXAMPLES}/{name}", name)
-Path("bad").write_bytes(b"bad")
+Path("bad").write_bytes(b"neither")
 
 # ---- hints: words that are not taken
 BAD_VALUE = "usage: bad value"
@@ -106,7 +106,7 @@ hints("a form", ["get", "--as", "numbr", "-", "load"], BAD_VALUE,
 hints("a part", ["extract", "--part", "one"], BAD_VALUE, f"--part takes {NUMBER}, not 'one'")
 hints("a key", ["extract", "--default", "--key", "fd"], BAD_VALUE,
       "--key takes one of kernel, fdt, ramdisk, firmware, loadables, script, not 'fd': did you mean 'fdt'?")
-hints("an index", ["extract", "--default", "--index", "-0"], BAD_VALUE, f"--index takes {NUMBER}, not '-0'")
+hints("an index", ["extract", "--default", "--index", "first"], BAD_VALUE, f"--index takes {NUMBER}, not 'first'")
 hints("a kind of concerns", ["check", "--allow", "weakhash"], BAD_VALUE,
       "--allow takes a comma-separated list of bad-hash, skipped-hash, unhashed, weak-hash, bad-list, missing, unsigned, no-nodes, no-images, "
       "uncovered, foreign, strings, unit-address, bad-default, trailing, not 'weakhash': did you mean 'weak-hash'?")
@@ -134,7 +134,7 @@ hints("a configuration", ["build-fit", "--config", "a", "k:kernel:arm:linux:none
 
 # ---- hints: refusals and other failures
 hints("a refusal", ["list", "bad"], "bad: BadMagic at 0", "see bootimg explain BadMagic")
-hints("a refusal of standard input", ["list"], "BadMagic at 0", "see bootimg explain BadMagic", input=b"bad")
+hints("a refusal of standard input", ["list"], "BadMagic at 0", "see bootimg explain BadMagic", input=b"neither")
 hints("no file", ["list", "none"], "none: cannot be opened", "see bootimg explain 'cannot be opened'")
 hints("no output file", ["list", "-o", "none/out", "kernel.uimage"], "none/out: write failed", "see bootimg explain 'write failed'")
 hints("no selection", ["extract", "kernel.uimage"], "usage: give one of --part, --image, --config", "see bootimg extract --help")
@@ -153,7 +153,7 @@ judge("several images: each has its hint", (got[0], got[2]) == (2, errors) and g
 got = run(["list", "-o", "none/out", "kernel.uimage", "board.itb"], ["stderr"])
 judge("several images: an output file that cannot be written", got ==
       (2, "", "bootimg: none/out: write failed\nbootimg: hint: see bootimg explain 'write failed'\n"), got)
-got = run(["show", "--json", "--layout"], ["stderr"])
+got = run(["list", "--nothing"], ["stderr"])
 judge("clap's text has no hint", got[0] == 2 and "bootimg: hint: " not in got[2], got)
 got = run(["list", "kernel.uimage"], ["stderr"])
 judge("success has no hint", got == (0, got[1], ""), got)
