@@ -5,8 +5,9 @@ lists.py          writes each list again
 lists.py --check  prints how each list differs from that of the sources, and fails if one does
 
 The commands are those of the table in crates/bootimg/src/command_line/table.rt, in its order, and `help`, and their options those of
-table/options.rt beside it. Values that have names are the strings of the functions in VALUES. Completions also offer MORE_VALUES, and the names in an image that are in NAMES. A
-list stands in its file between a line with `lists.py: begin NAME` and one with `lists.py: end`, where NAME is a function of this module.
+table/options.rt next to it. Values that have names are the strings of the functions in VALUES. Completions also offer MORE_VALUES, and the
+names in an image that are in NAMES. A list stands in its file between a line with `lists.py: begin NAME` and one with `lists.py: end`,
+where NAME is a function of this module.
 """
 
 import difflib

@@ -69,7 +69,8 @@ greatest_status-snoc (first ∷ outcomes) outcome =
 -- ---- the images so far
 
 -- The images so far were done, and the status is the greatest.
-pub record HaveBeenDone (files : KnownFiles) (hints : Bool) (request : ImagesRequest) (is_held : Bool) (sources : List ImageSource) (old new : Streams)
+pub record HaveBeenDone (files : KnownFiles) (hints : Bool) (request : ImagesRequest) (is_held : Bool) (sources : List ImageSource)
+    (old new : Streams)
     (status : ℕ) : Type 0
   where
     pub outcomes : List (Result Done SourceFailure)
@@ -81,12 +82,14 @@ pub none_yet : (files : KnownFiles) (hints : Bool) (request : ImagesRequest) (is
 none_yet files hints request is_held streams status is =
     record { outcomes = []; so_far = none_done (IsImageDone files hints request is_held) is_last streams; is_greatest = is }
 
-pub next_image_done : (files later : KnownFiles) (hints : Bool) (request : ImagesRequest) (is_held : Bool) (sources : List ImageSource) (i : ℕ)
+pub next_image_done : (files later : KnownFiles) (hints : Bool) (request : ImagesRequest) (is_held : Bool) (sources : List ImageSource)
+    (i : ℕ)
     (d : ImageSource) (old middle new : Streams) (status greatest : ℕ) (end : ImageEnd) → i < length sources
     → HaveBeenDone files hints request is_held (take i sources) old middle status → later ≡ files
     → IsImageEnd later hints request is_held (get_or sources i d) middle new end → end.is_last ≡ false → greatest ≡ max status end.status
     → HaveBeenDone files hints request is_held (take (i + 1) sources) old new greatest
-next_image_done files later hints request is_held sources i d old middle new status greatest end within so_far same is more greater = record {
+next_image_done files later hints request is_held sources i d old middle new status greatest end within so_far same is more greater =
+    record {
   outcomes = so_far.outcomes ++ is.outcome ∷ [];
   so_far = one_more_done (IsImageDone files hints request is_held) is_last sources i d so_far.outcomes is.outcome old middle new within
       so_far.so_far (subst (λ f. IsImageDone f hints request is_held (get_or sources i d) is.outcome middle new) same is.done)
@@ -101,17 +104,21 @@ pub up_to_last : (files later : KnownFiles) (hints : Bool) (request : ImagesRequ
     → HaveBeenDone files hints request is_held (take i sources) old middle status → later ≡ files
     → IsImageEnd later hints request is_held (get_or sources i d) middle new end → end.is_last ≡ true → greatest ≡ max status end.status
     → AreDone files hints request is_held old new greatest
-up_to_last files later hints request is_held sources i d old middle new status greatest end names within so_far same is last greater = record {
+up_to_last files later hints request is_held sources i d old middle new status greatest end names within so_far same is last greater =
+    record {
   outcomes = so_far.outcomes ++ is.outcome ∷ [];
-  in_turn = subst (λ all. AreDoneInTurn (IsImageDone files hints request is_held) is_last all (so_far.outcomes ++ is.outcome ∷ []) old new) names
-      (last_done (IsImageDone files hints request is_held) is_last sources i d so_far.outcomes is.outcome old middle new within so_far.so_far
+  in_turn = subst (λ all. AreDoneInTurn (IsImageDone files hints request is_held) is_last all
+    (so_far.outcomes ++ is.outcome ∷ []) old new) names
+      (last_done (IsImageDone files hints request is_held) is_last sources i d so_far.outcomes is.outcome old middle new within
+      so_far.so_far
       (subst (λ f. IsImageDone f hints request is_held (get_or sources i d) is.outcome middle new) same is.done)
       (sym is.last ∙ last));
   is_greatest = greater ∙ ap (λ s. max s end.status) so_far.is_greatest ∙ ap (max (greatest_status so_far.outcomes)) is.status
       ∙ sym (greatest_status-snoc so_far.outcomes is.outcome);
 }
 
-pub all_of_them : (files : KnownFiles) (hints : Bool) (request : ImagesRequest) (is_held : Bool) (sources : List ImageSource) (i : ℕ) (old new : Streams)
+pub all_of_them : (files : KnownFiles) (hints : Bool) (request : ImagesRequest) (is_held : Bool) (sources : List ImageSource) (i : ℕ)
+    (old new : Streams)
     (status : ℕ) → sources ≡ request.sources.items → length sources ≤ i
     → HaveBeenDone files hints request is_held (take i sources) old new status → AreDone files hints request is_held old new status
 all_of_them files hints request is_held sources i old new status names past so_far = record {
@@ -138,7 +145,8 @@ greatest_is_status (outcome ∷ later) =
     let rest = greatest_is_status later in
     omega (arith, first, rest)
 
-pub below_two : (files : KnownFiles) (hints : Bool) (request : ImagesRequest) (before after : Inputs) (errors new_errors : WriteTrace) (status : ℕ)
+pub below_two : (files : KnownFiles) (hints : Bool) (request : ImagesRequest) (before after : Inputs) (errors new_errors : WriteTrace)
+    (status : ℕ)
     (held : Option (List ℕ)) → AreHeld files hints request before after errors new_errors status held → status ≢ 2 → status < 2
 below_two files hints request before after errors new_errors status held are not =
     let most = greatest_is_status are.done.outcomes in
@@ -162,7 +170,8 @@ pub texts_not_saved : (files later : KnownFiles) (hints : Bool) (request : Image
     → other ≢ 2 → later ≡ files → saved ≡ output → IsNotSaved later name.now saved error worked after.steps
     → failure ≡ failure_to_save error → Reports (File name) failure (hint_given hints failure) middle new_errors → status ≡ 2
     → AreSaved files hints request name before after errors new_errors status
-texts_not_saved files later hints request name before after worked errors middle new_errors other status output saved error failure held not same
+texts_not_saved files later hints request name before after worked errors middle new_errors other status output saved error failure held
+    not same
     bytes is why reports two =
     TextsNotSaved output worked middle other held (below_two files hints request _ _ errors middle other _ held not) error
     (subst (λ f. IsNotSaved f name.now output error worked after.steps) same
@@ -180,10 +189,13 @@ one_has_failed files hints request name before after errors new_errors status he
 -- ---- runs
 
 pub images_to_output : (files : KnownFiles) (hints : Bool) (request : ImagesRequest) (run : Run) → request.output ≡ None
-    → AreDone files hints request false (streams_before run) (streams_after run) run.status → IsImagesRun files hints request run request.output
+    → AreDone files hints request false (streams_before run) (streams_after run) run.status
+    → IsImagesRun files hints request run request.output
 images_to_output files hints request run is done = subst (λ o. IsImagesRun files hints request run o) (sym is) (EachToStandardOutput done)
 
-pub images_to_file : (files : KnownFiles) (hints : Bool) (request : ImagesRequest) (run : Run) (name : Bor (List ℕ)) → request.output ≡ Some name
+pub images_to_file : (files : KnownFiles) (hints : Bool) (request : ImagesRequest) (run : Run) (name : Bor (List ℕ))
+    → request.output ≡ Some name
     → AreSaved files hints request name (inputs_before run) (inputs_after run) run.errors run.new_errors run.status
     → run.new_output ≡ run.output → IsImagesRun files hints request run request.output
-images_to_file files hints request run name is saved same = subst (λ o. IsImagesRun files hints request run o) (sym is) (EachToFile name saved same)
+images_to_file files hints request run name is saved same = subst (λ o. IsImagesRun files hints request run o) (sym is)
+    (EachToFile name saved same)

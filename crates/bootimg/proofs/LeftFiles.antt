@@ -165,7 +165,8 @@ failure_leaves : (base names : Names) (arguments : List (List ℕ)) (input : Opt
 failure_leaves base names arguments input status None is left = tt
 failure_leaves base names arguments input status (Some after) is left = HasFailed is left
 
-saved_work_leaves : (base names : Names) (hints : Bool) (arguments : List (List ℕ)) (request : Request) (name : Bor (List ℕ)) (before after : Inputs)
+saved_work_leaves : (base names : Names) (hints : Bool) (arguments : List (List ℕ)) (request : Request) (name : Bor (List ℕ))
+    (before after : Inputs)
     (errors new_errors : WriteTrace) (status : ℕ) (outcome : Result Done SourceFailure) → IsRequest arguments request
     → request.output ≡ Some name → AreNames base names before.steps
     → IsSavedWork (Some names) request.job request.limits name before after outcome → IsEnd hints errors new_errors status outcome
@@ -202,7 +203,8 @@ names_kept : (base names : Names) (old : Option (List FileStep)) (after : List F
     → KeepsNames base old (Some after) → AreSameNames names (after_steps base after)
 names_kept base names old after are keeps q = ap (λ n. n q) (keeps.2 ∙ are keeps.0 keeps.1)
 
-output_run_leaves : (base names : Names) (hints : Bool) (arguments : List (List ℕ)) (request : Request) (run : Run) (outcome : Result Done SourceFailure)
+output_run_leaves : (base names : Names) (hints : Bool) (arguments : List (List ℕ)) (request : Request) (run : Run)
+    (outcome : Result Done SourceFailure)
     (output : Option (Bor (List ℕ))) → IsRequest arguments request → request.output ≡ output → AreNames base names run.steps
     → IsOutputRun (Some names) request.job request.limits run outcome output → IsEnd hints run.errors run.new_errors run.status outcome
     → IfSome run.new_steps HaveContents → RunLeaves base names arguments run.input.remaining run.status run.new_steps
@@ -214,7 +216,8 @@ output_run_leaves base names hints arguments request run outcome output is named
     kept None keeps = tt
     kept (Some after) keeps = NoFileIsNamed request is named (names_kept base names run.steps after are keeps)
 output_run_leaves base names hints arguments request run outcome output is named are (ToFile name saved same) end contents =
-    saved_work_leaves base names hints arguments request name (inputs_before run) (inputs_after run) run.errors run.new_errors run.status outcome
+    saved_work_leaves base names hints arguments request name (inputs_before run)
+    (inputs_after run) run.errors run.new_errors run.status outcome
     is named are saved end contents
 
 -- ---- several images
@@ -225,10 +228,12 @@ image_done_keeps : (base : Names) (files : KnownFiles) (hints : Bool) (request :
 image_done_keeps base files hints request is_held source outcome old new is =
     image_work_keeps base files _ source request.limits _ old.steps new.steps is.work
 
-done_in_turn_keeps_names : (base : Names) (files : KnownFiles) (hints : Bool) (request : ImagesRequest) (is_held : Bool) (sources : List ImageSource)
+done_in_turn_keeps_names : (base : Names) (files : KnownFiles) (hints : Bool) (request : ImagesRequest) (is_held : Bool)
+    (sources : List ImageSource)
     (outcomes : List (Result Done SourceFailure)) (old new : Streams)
     → AreDoneInTurn (IsImageDone files hints request is_held) is_last sources outcomes old new → KeepsNames base old.steps new.steps
-done_in_turn_keeps_names base files hints request is_held sources outcomes old new (AllDone streams) = keeps_same base old.steps new.steps refl
+done_in_turn_keeps_names base files hints request is_held sources outcomes old new
+    (AllDone streams) = keeps_same base old.steps new.steps refl
 done_in_turn_keeps_names base files hints request is_held sources outcomes old new
     (NextDone source later outcome others first middle last done not rest) =
     keeps_in_turn base old.steps middle.steps new.steps (image_done_keeps base files hints request is_held source outcome old middle done)
@@ -236,7 +241,8 @@ done_in_turn_keeps_names base files hints request is_held sources outcomes old n
 done_in_turn_keeps_names base files hints request is_held sources outcomes old new (LastDone source later outcome first last done is) =
     image_done_keeps base files hints request is_held source outcome old new done
 
-held_images_keep : (base : Names) (files : KnownFiles) (hints : Bool) (request : ImagesRequest) (before after : Inputs) (errors new_errors : WriteTrace)
+held_images_keep : (base : Names) (files : KnownFiles) (hints : Bool) (request : ImagesRequest) (before after : Inputs)
+    (errors new_errors : WriteTrace)
     (status : ℕ) (held : Option (List ℕ)) → AreHeld files hints request before after errors new_errors status held
     → KeepsNames base before.steps after.steps
 held_images_keep base files hints request before after errors new_errors status held are =
@@ -251,14 +257,16 @@ saved_images_leave base names hints arguments request name before after errors n
     (TextsSaved output worked held less saved) contents =
     there after.steps
     (saved_leaves base names name.now output worked after.steps
-    (kept_names base names before.steps worked are (held_images_keep base (Some names) hints request _ _ errors new_errors status _ held)) saved
+    (kept_names base names before.steps worked are (held_images_keep base
+    (Some names) hints request _ _ errors new_errors status _ held)) saved
     contents)
   where
     there : (new : Option (List FileStep)) → IfSome new (λ l. HasFile names (after_steps base l) name.now output)
         → RunLeaves base names arguments before.input.remaining status new
     there None has = tt
     there (Some l) has =
-        TextsAreThere hints request name output before (record { input = after.input; steps = worked }) errors new_errors is named refl held less
+        TextsAreThere hints request name output before
+        (record { input = after.input; steps = worked }) errors new_errors is named refl held less
         has
 saved_images_leave base names hints arguments request name before after errors new_errors status is named are
     (TextsNotSaved output worked middle other held less failure not reports ends) contents =
@@ -284,7 +292,8 @@ images_run_leaves base names hints arguments request run output is named are (Ea
     kept None keeps = tt
     kept (Some after) keeps = NoFileIsNamedForEach request is named (names_kept base names run.steps after are keeps)
 images_run_leaves base names hints arguments request run output is named are (EachToFile name saved same) contents =
-    saved_images_leave base names hints arguments request name (inputs_before run) (inputs_after run) run.errors run.new_errors run.status is
+    saved_images_leave base names hints arguments request name (inputs_before run)
+    (inputs_after run) run.errors run.new_errors run.status is
     named are saved contents
 
 all_work_leaves : (base names : Names) (hints : Bool) (arguments : List (List ℕ)) (request : AllRequest) (before after : Inputs)
@@ -324,7 +333,8 @@ all_work_leaves base names hints arguments request before after errors new_error
     (kept_is_left base names before.steps after.steps are
     (image_not_read_keeps base (Some names) request.limits before after failure request.source not))
 
-text_run_keeps_steps : (hints : Bool) (kind : ErrorKind) (text : List ℕ) (run : Run) → IsTextRun hints kind text run → run.new_steps ≡ run.steps
+text_run_keeps_steps : (hints : Bool) (kind : ErrorKind) (text : List ℕ) (run : Run) → IsTextRun hints kind text run
+    → run.new_steps ≡ run.steps
 text_run_keeps_steps hints kind text run (IsWritten asked wrote errors input steps status) = steps
 text_run_keeps_steps hints kind text run (IsNotWritten asked error stopped reports input steps status) = steps
 text_run_keeps_steps hints kind text run (IsUsage why logs output input steps status) = steps
@@ -339,7 +349,8 @@ request_run_leaves base names terminal arguments request run is are (KeptFromTer
     (kept_is_left base names run.steps run.new_steps are (keeps_same base run.steps run.new_steps rejection.no_steps))
 
 -- What a run leaves of files whose names and steps are known.
-pub run_leaves : (terminal : Terminal) (base names : Names) (arguments : List (List ℕ)) (run : Run) → IsRun terminal arguments (Some names) run
+pub run_leaves : (terminal : Terminal) (base names : Names) (arguments : List (List ℕ)) (run : Run) → IsRun terminal arguments
+    (Some names) run
     → AreNames base names run.steps → IfSome run.new_steps HaveContents
     → RunLeaves base names arguments run.input.remaining run.status run.new_steps
 run_leaves terminal base names arguments run (RanJob request is lengths ran) are contents =
@@ -347,7 +358,8 @@ run_leaves terminal base names arguments run (RanJob request is lengths ran) are
 run_leaves terminal base names arguments run (RanEach request is ran) are contents =
     images_run_leaves base names terminal.errors arguments request run request.output is refl are ran contents
 run_leaves terminal base names arguments run (ExtractedAll request is ran) are contents =
-    all_work_leaves base names terminal.errors arguments request (inputs_before run) (inputs_after run) run.errors run.new_errors run.status ran.outcome is
+    all_work_leaves base names terminal.errors arguments request (inputs_before run)
+    (inputs_after run) run.errors run.new_errors run.status ran.outcome is
     are ran.done ran.end contents
 run_leaves terminal base names arguments run (Rejected failure why hint is_hint rejection) are contents =
     failure_leaves base names arguments run.input.remaining run.status run.new_steps rejection.status

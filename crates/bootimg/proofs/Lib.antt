@@ -45,3 +45,4 @@ pub mod LastSaid
 pub mod SaidTopics
 pub mod MessageFacts
 pub mod RefusedFacts
+pub mod HintFacts

@@ -13,7 +13,8 @@ use Rattle.bootimg.proofs.LeftFiles.{run_leaves}
 pub same_steps : (one other : List FileStep) → Some one ≡ Some other → one ≡ other
 same_steps one other same = cc
 
-pub memory_run_leaves : (terminal : Terminal) (old new : KnownFiles) (old_steps new_steps : Option (List FileStep)) (arguments : List (List ℕ)) (run : Run)
+pub memory_run_leaves : (terminal : Terminal) (old new : KnownFiles) (old_steps new_steps : Option (List FileStep)) (arguments : List
+    (List ℕ)) (run : Run)
     (input : Option (List ℕ)) (status : ℕ) → AreRecorded old old_steps → AreRecorded new new_steps → IsRun terminal arguments old run
     → run.input.remaining ≡ input → run.status ≡ status → run.steps ≡ old_steps → run.new_steps ≡ new_steps
     → LeavesKnownFiles arguments input old new new_steps status

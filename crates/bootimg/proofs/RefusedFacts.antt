@@ -8,19 +8,21 @@ use Rattle.bi_base.proofs.ListMembers.{each-append}
 use Rattle.std.specs.Borrow.{Bor}
 use Rattle.clap.specs.declared.parser.matches.ArgMatches.{ArgMatches}
 use Rattle.bootimg.specs.CommandLine.{NoneIs, texts_of}
-use Rattle.bootimg.specs.RefusedWords.{FindsFirst, GivenModel, IsFirstRefused, IsRefused, TakingModel, all_option_words, option_words}
-use Rattle.bootimg.specs.RefusedWords.{taking_model, taking_options, words_given}
+use Rattle.bootimg.specs.RefusedWords.{FindsFirst, GivenWordModel, IsFirstRefusedWord, IsRefused, OptionTextModel, all_option_words,
+    option_words}
+use Rattle.bootimg.specs.RefusedWords.{option_text_model, taking_options, words_given}
 use Rattle.bootimg.specs.declared.command_line.table.OptionText.{OptionText}
 use Rattle.bootimg.specs.TakenWords.{IsTaken}
 
 -- The first word that is not taken, in lists that are looked through one word after another.
 
 -- The word is taken where it stands.
-abbrev pub IsTakenThere : GivenModel → Type 0
+abbrev pub IsTakenThere : GivenWordModel → Type 0
 IsTakenThere given = IsTaken given.takes given.word
 
 -- A word that is refused among the first ones is the first of all that is.
-pub found_before : (xs ys : List GivenModel) (found : GivenModel) → IsFirstRefused xs found → IsFirstRefused (xs ++ ys) found
+pub found_before : (xs ys : List GivenWordModel) (found : GivenWordModel) → IsFirstRefusedWord xs found → IsFirstRefusedWord
+    (xs ++ ys) found
 found_before xs ys found is = record {
   before = is.before;
   later = is.later ++ ys;
@@ -30,7 +32,7 @@ found_before xs ys found is = record {
 }
 
 -- After words that are taken, the first of the later ones that is refused is the first of all.
-pub found_after : (xs ys : List GivenModel) (found : Option GivenModel) → AllByRecursion IsTakenThere xs → FindsFirst ys found
+pub found_after : (xs ys : List GivenWordModel) (found : Option GivenWordModel) → AllByRecursion IsTakenThere xs → FindsFirst ys found
     → FindsFirst (xs ++ ys) found
 found_after xs ys None taken later = each-append IsTakenThere xs ys taken later
 found_after xs ys (Some found) taken is = record {
@@ -44,7 +46,7 @@ found_after xs ys (Some found) taken is = record {
 -- ---- lists of words for each of several things
 
 -- The words before one thing, those of that thing, and those after it.
-words_at : {X : Type 0} (f : X → List GivenModel) (xs : List X) (i : ℕ) (d : X) → i < length xs
+words_at : {X : Type 0} (f : X → List GivenWordModel) (xs : List X) (i : ℕ) (d : X) → i < length xs
     → flat_map f xs ≡ (flat_map f (take i xs) ++ f (get_or xs i d)) ++ flat_map f (drop (i + 1) xs)
 words_at f xs i d within =
     let later = flat_map f (drop (i + 1) xs) in
@@ -55,7 +57,7 @@ words_at f xs i d within =
     ∙ ap (λ l. flat_map f (take i xs) ++ l) (append-nil (f (get_or xs i d))))
 
 -- The words of the first things are taken, and so are those of one more.
-pub more_taken : {X : Type 0} (f : X → List GivenModel) (xs : List X) (i : ℕ) (d : X) → i < length xs
+pub more_taken : {X : Type 0} (f : X → List GivenWordModel) (xs : List X) (i : ℕ) (d : X) → i < length xs
     → AllByRecursion IsTakenThere (flat_map f (take i xs)) → AllByRecursion IsTakenThere (f (get_or xs i d))
     → AllByRecursion IsTakenThere (flat_map f (take (i + 1) xs))
 more_taken f xs i d within first one =
@@ -65,54 +67,56 @@ more_taken f xs i d within first one =
     (each-append IsTakenThere (flat_map f (take i xs)) (f (get_or xs i d)) first one)
 
 -- Those of the first things are taken, and one of the next thing is refused.
-pub found_at : {X : Type 0} (f : X → List GivenModel) (xs : List X) (i : ℕ) (d : X) (found : GivenModel) → i < length xs
-    → AllByRecursion IsTakenThere (flat_map f (take i xs)) → IsFirstRefused (f (get_or xs i d)) found
-    → IsFirstRefused (flat_map f xs) found
-found_at f xs i d found within first is =
-    subst (λ l. IsFirstRefused l found) (sym (words_at f xs i d within))
+pub refused_at : {X : Type 0} (f : X → List GivenWordModel) (xs : List X) (i : ℕ) (d : X) (found : GivenWordModel) → i < length xs
+    → AllByRecursion IsTakenThere (flat_map f (take i xs)) → IsFirstRefusedWord (f (get_or xs i d)) found
+    → IsFirstRefusedWord (flat_map f xs) found
+refused_at f xs i d found within first is =
+    subst (λ l. IsFirstRefusedWord l found) (sym (words_at f xs i d within))
     (found_before (flat_map f (take i xs) ++ f (get_or xs i d)) (flat_map f (drop (i + 1) xs)) found
     (found_after (flat_map f (take i xs)) (f (get_or xs i d)) (Some found) first is))
 
 -- Those of all things are taken.
-pub none_found : {X : Type 0} (f : X → List GivenModel) (xs : List X) (i : ℕ) → length xs ≤ i
+pub none_refused : {X : Type 0} (f : X → List GivenWordModel) (xs : List X) (i : ℕ) → length xs ≤ i
     → AllByRecursion IsTakenThere (flat_map f (take i xs)) → FindsFirst (flat_map f xs) None
-none_found f xs i past all = subst (λ l. AllByRecursion IsTakenThere (flat_map f l)) (take_all i xs past) all
+none_refused f xs i past all = subst (λ l. AllByRecursion IsTakenThere (flat_map f l)) (take_all i xs past) all
 
 -- ---- one word for each
 
 -- A word by itself.
-abbrev pub only : {X : Type 0} → (X → GivenModel) → X → List GivenModel
+abbrev pub only : {X : Type 0} → (X → GivenWordModel) → X → List GivenWordModel
 only f x = f x ∷ []
 
 -- It is refused.
-pub found_one : (given : GivenModel) → IsRefused given → IsFirstRefused (given ∷ []) given
+pub found_one : (given : GivenWordModel) → IsRefused given → IsFirstRefusedWord (given ∷ []) given
 found_one given refused = record { before = []; later = []; are = refl; taken = tt; refused = refused }
 
-pub found_in_map : {X : Type 0} (f : X → GivenModel) (xs : List X) (found : Option GivenModel) → FindsFirst (flat_map (only f) xs) found
+pub found_in_map : {X : Type 0} (f : X → GivenWordModel) (xs : List X) (found : Option GivenWordModel) → FindsFirst (flat_map
+    (only f) xs) found
     → FindsFirst (map f xs) found
 found_in_map f xs found is = subst (λ l. FindsFirst l found) (flat_map_single f xs) is
 
 -- ---- options
 
 -- A word of an option.
-abbrev pub given_to : TakingModel → Bor (List ℕ) → GivenModel
+abbrev pub given_to : OptionTextModel → Bor (List ℕ) → GivenWordModel
 given_to option word = record { place = option.place; takes = option.takes; word = word.now }
 
 -- The words that an option of the table has.
-abbrev pub words_of_option : ArgMatches → OptionText → List GivenModel
-words_of_option options option = option_words options (taking_model option)
+abbrev pub words_of_option : (values : List ℕ → List (List ℕ)) → OptionText → List GivenWordModel
+words_of_option values option = option_words values (option_text_model option)
 
 -- Those of all options of the table.
-pub words_of_all : (options : ArgMatches) (table : List OptionText) → map taking_model table ≡ taking_options
-    → flat_map (words_of_option options) table ≡ all_option_words options
-words_of_all options table same = flat_of_map taking_model (option_words options) table ∙ ap (flat_map (option_words options)) same
+pub words_of_all : (values : List ℕ → List (List ℕ)) (table : List OptionText) → map option_text_model table ≡ taking_options
+    → flat_map (words_of_option values) table ≡ all_option_words values
+words_of_all values table same = flat_of_map option_text_model (option_words values) table ∙ ap (flat_map (option_words values)) same
   where
     flat_of_map : {X Y Z : Type 0} (f : X → Y) (g : Y → List Z) (xs : List X) → flat_map (λ x. g (f x)) xs ≡ flat_map g (map f xs)
     flat_of_map f g [] = refl
     flat_of_map f g (x ∷ xs) = ap (λ l. g (f x) ++ l) (flat_of_map f g xs)
 
 -- The words of an option, as they were lent.
-pub given_words_of : (option : TakingModel) (words : List (Bor (List ℕ))) → map (given_to option) words ≡ words_given option (texts_of words)
+pub given_words_of : (option : OptionTextModel) (words : List (Bor (List ℕ))) → map (given_to option) words ≡ words_given option
+    (texts_of words)
 given_words_of option [] = refl
 given_words_of option (word ∷ words) = ap (λ l. given_to option word ∷ l) (given_words_of option words)
 

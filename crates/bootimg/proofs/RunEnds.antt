@@ -14,13 +14,15 @@ use Rattle.bootimg.specs.declared.tasks.Done.{Done}
 -- Statuses are known, and failures and notes have known lines.
 
 -- After a failure the status is 2.
-status_after_failure : (hints : Bool) (errors new_errors : WriteTrace) (status : ℕ) (failed : SourceFailure) → IsEnd hints errors new_errors status (Err failed)
+status_after_failure : (hints : Bool) (errors new_errors : WriteTrace) (status : ℕ) (failed : SourceFailure)
+    → IsEnd hints errors new_errors status (Err failed)
     → status ≡ 2
 status_after_failure hints errors new_errors status failed (EndsWell done is notes same) = absurd cc
 status_after_failure hints errors new_errors status failed (EndsWithFailure other is reports same) = same
 
 -- After an answer the status is that of the answer.
-status_after_answer : (hints : Bool) (errors new_errors : WriteTrace) (status : ℕ) (done : Done) → IsEnd hints errors new_errors status (Ok done)
+status_after_answer : (hints : Bool) (errors new_errors : WriteTrace) (status : ℕ) (done : Done) → IsEnd hints errors new_errors status
+    (Ok done)
     → status ≡ status_of done.good
 status_after_answer hints errors new_errors status done (EndsWell other is notes same) = cc
 status_after_answer hints errors new_errors status done (EndsWithFailure other is reports same) = absurd cc
@@ -30,8 +32,10 @@ not_asked_for : (kind : ErrorKind) → IsMistake kind → IsAskedFor kind → �
 not_asked_for kind mistake (inl is) = mistake.0 is
 not_asked_for kind mistake (inr is) = mistake.1 is
 
-status_after_mistake : (hints : Bool) (kind : ErrorKind) (text : List ℕ) (run : Run) → IsMistake kind → IsTextRun hints kind text run → run.status ≡ 2
-status_after_mistake hints kind text run mistake (IsWritten asked wrote errors input steps status) = absurd (not_asked_for kind mistake asked)
+status_after_mistake : (hints : Bool) (kind : ErrorKind) (text : List ℕ) (run : Run) → IsMistake kind → IsTextRun hints kind text run
+    → run.status ≡ 2
+status_after_mistake hints kind text run mistake (IsWritten asked wrote errors input steps status) = absurd
+    (not_asked_for kind mistake asked)
 status_after_mistake hints kind text run mistake (IsNotWritten asked error stopped reports input steps status) = status
 status_after_mistake hints kind text run mistake (IsUsage is logs output input steps status) = status
 

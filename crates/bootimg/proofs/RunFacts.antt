@@ -37,7 +37,8 @@ asked_for other is_usage says fails =
     absurd (let none : IsTrue false = subst (λ test. IsTrue test) fails why in cc)
 
 -- A run over traced streams is one over plain streams with what the traces record.
-pub plain_run : (terminal : Terminal) (arguments : List (List ℕ)) (files : KnownFiles) (steps new_steps : Option (List FileStep)) (run : Run)
+pub plain_run : (terminal : Terminal) (arguments : List (List ℕ)) (files : KnownFiles) (steps new_steps : Option (List FileStep))
+    (run : Run)
     (remaining new_remaining contents new_contents errors new_errors : Option (List ℕ)) → IsRun terminal arguments files run
     → ReadsWell run.input → run.input.taken ≡ 0 → WritesWell run.output → WritesWell run.errors
     → run.steps ≡ steps → run.new_steps ≡ new_steps
@@ -45,7 +46,8 @@ pub plain_run : (terminal : Terminal) (arguments : List (List ℕ)) (files : Kno
     → run.output.contents ≡ contents → run.new_output.contents ≡ new_contents
     → run.errors.contents ≡ errors → run.new_errors.contents ≡ new_errors
     → IsPlainRun terminal arguments files steps new_steps remaining new_remaining contents new_contents errors new_errors run.status
-plain_run terminal arguments files steps new_steps run remaining new_remaining contents new_contents errors new_errors is reads taken writes logs
+plain_run terminal arguments files steps new_steps run remaining new_remaining contents new_contents errors new_errors is reads taken
+    writes logs
     ch nch r nr c nc e ne = record {
       run = run;
       is_run = is;
@@ -65,7 +67,8 @@ plain_run terminal arguments files steps new_steps run remaining new_remaining c
     }
 
 -- A failure was reported, and nothing else was done.
-pub run_is_rejected : (source : ImageSource) (failure : Failure) (hint : Option (List ℕ)) (run : Run) → run.new_input ≡ run.input → run.new_output ≡ run.output
+pub run_is_rejected : (source : ImageSource) (failure : Failure) (hint : Option (List ℕ)) (run : Run) → run.new_input ≡ run.input
+    → run.new_output ≡ run.output
     → run.new_steps ≡ run.steps → Reports source failure hint run.errors run.new_errors → run.status ≡ 2
     → IsRejection source failure hint run
 run_is_rejected source failure hint run read written changed reports status = record {

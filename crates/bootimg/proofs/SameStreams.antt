@@ -180,7 +180,8 @@ output_run_keeps files job limits run outcome output (ToStandardOutput work) = j
 output_run_keeps files job limits run outcome output (ToFile name saved same) =
     record { reader = saved_work_keeps _ job limits _ _ _ _ saved; writer = ap (λ trace. trace.writer) same }
 
-end_keeps : (hints : Bool) (errors new_errors : WriteTrace) (status : ℕ) (outcome : Result Done SourceFailure) → IsEnd hints errors new_errors status outcome
+end_keeps : (hints : Bool) (errors new_errors : WriteTrace) (status : ℕ) (outcome : Result Done SourceFailure)
+    → IsEnd hints errors new_errors status outcome
     → new_errors.writer ≡ errors.writer
 end_keeps hints errors new_errors status outcome (EndsWell done same notes is) = notes_keep _ _ _ notes
 end_keeps hints errors new_errors status outcome (EndsWithFailure failed same reports is) = logs_keep _ _ _ reports
@@ -244,15 +245,18 @@ pub done_in_turn_keeps : (files : KnownFiles) (hints : Bool) (request : ImagesRe
     (outcomes : List (Result Done SourceFailure)) (old new : Streams)
     → AreDoneInTurn (IsImageDone files hints request in_memory) is_last sources outcomes old new
     → AreSameStreams old new
-done_in_turn_keeps files hints request in_memory sources outcomes old new (AllDone streams) = record { reader = refl; writer = refl; log = refl }
-done_in_turn_keeps files hints request in_memory sources outcomes old new (NextDone source later outcome others first middle last done not rest) =
+done_in_turn_keeps files hints request in_memory sources outcomes old new
+    (AllDone streams) = record { reader = refl; writer = refl; log = refl }
+done_in_turn_keeps files hints request in_memory sources outcomes old new
+    (NextDone source later outcome others first middle last done not rest) =
     let one = image_done_keeps files hints request in_memory source outcome old middle done in
     let others = done_in_turn_keeps files hints request in_memory later others middle new rest in
     record { reader = others.reader ∙ one.reader; writer = others.writer ∙ one.writer; log = others.log ∙ one.log }
 done_in_turn_keeps files hints request in_memory sources outcomes old new (LastDone source later outcome first last done is) =
     image_done_keeps files hints request in_memory source outcome old new done
 
-held_images_keep : (files : KnownFiles) (hints : Bool) (request : ImagesRequest) (before after : Inputs) (errors new_errors : WriteTrace) (status : ℕ)
+held_images_keep : (files : KnownFiles) (hints : Bool) (request : ImagesRequest) (before after : Inputs)
+    (errors new_errors : WriteTrace) (status : ℕ)
     (held : Option (List ℕ)) → AreHeld files hints request before after errors new_errors status held
     → (after.input.reader ≡ before.input.reader) × (new_errors.writer ≡ errors.writer)
 held_images_keep files hints request before after errors new_errors status held are =

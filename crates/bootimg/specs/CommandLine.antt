@@ -836,7 +836,7 @@ pub record IsRequest (arguments : List (List ℕ)) (request : Request) : Type 0 
   pub job : IsJob name options request.job
   pub limits : IsLimits (limit_of options) request.limits
   pub output : option_map (λ name. name.now) request.output ≡ option_of options (codes "output")
-  pub writes_image : request.writes_image ≡ writes_image name
+  pub is_image : request.writes_image ≡ writes_image name
 
 -- The arguments request that all payloads of an image are extracted.
 pub record IsAllRequested (arguments : List (List ℕ)) (request : AllRequest) : Type 0 where

@@ -8,7 +8,7 @@ use Rattle.bi_base.specs.declared.fault.Error.TheVariants.{WriteFailed}
 use Rattle.bi_common.specs.Shown.{shown_text}
 use Rattle.bootimg.specs.Explanations.{name_of_message}
 use Rattle.bootimg.specs.RefusedWords.{AtArgument, AtField, AtOption, FindsRefusedWord}
-use Rattle.bootimg.specs.RefusedWords.{PlaceModel, RefusedModel, refused_model}
+use Rattle.bootimg.specs.RefusedWords.{PlaceModel, RefusedWordModel, refused_model}
 use Rattle.bootimg.specs.TakenWords.{names_taken, words_after_names, words_before_names}
 use Rattle.bootimg.specs.declared.command_line.takes.Takes.{Takes}
 use Rattle.bootimg.specs.declared.command_line.takes.Takes.TheVariants.{Part}
@@ -42,14 +42,14 @@ place_text (AtField index name) = codes "image " ++ (decimal index ++ (codes ": 
 abbrev pub after_comma : List ℕ → List ℕ
 after_comma name = codes ", " ++ name
 
-abbrev pub listed_names : List (List ℕ) → List ℕ
-listed_names [] = []
-listed_names (name ∷ later) = name ++ flat_map after_comma later
+abbrev pub names_with_commas : List (List ℕ) → List ℕ
+names_with_commas [] = []
+names_with_commas (name ∷ later) = name ++ flat_map after_comma later
 
 -- Which words are taken.
 abbrev pub taken_text : Takes → List ℕ
 taken_text takes =
-    words_before_names takes ++ (listed_names (names_taken takes) ++ words_after_names takes)
+    words_before_names takes ++ (names_with_commas (names_taken takes) ++ words_after_names takes)
 
 -- The word: as the name of a file if a file may be given, and else that it is not taken.
 abbrev pub word_text : Takes → (word : List ℕ) → List ℕ
@@ -62,7 +62,7 @@ near_text None = []
 near_text (Some name) = codes ": did you mean '" ++ (name ++ codes "'?")
 
 -- What is taken where a word stands that is not.
-abbrev pub refused_text : RefusedModel → List ℕ
+abbrev pub refused_text : RefusedWordModel → List ℕ
 refused_text refused =
     place_text refused.given.place
     ++ (codes " takes " ++ (taken_text refused.given.takes
@@ -119,14 +119,14 @@ is_about_word (BadImage index) = true
 is_about_word other = false
 
 -- The hint: what is taken in the place of the refused word, or else that for the failure.
-abbrev pub reason_hint : Failure → Option RefusedModel → List ℕ
+abbrev pub reason_hint : Failure → Option RefusedWordModel → List ℕ
 reason_hint failure None = failure_hint failure
 reason_hint failure (Some refused) = refused_text refused
 
 -- The hint for a failure of these arguments.
 pub data IsUsageHint (arguments : List (List ℕ)) (failure : Failure) (sentence : List ℕ) : Type 0
   where
-    OfWord : (refused : Option RefusedModel) → FindsRefusedWord arguments failure refused
+    OfWord : (refused : Option RefusedWordModel) → FindsRefusedWord arguments failure refused
         → sentence ≡ reason_hint failure refused → IsUsageHint arguments failure sentence
     OfFailure : is_about_word failure ≡ false → sentence ≡ failure_hint failure
         → IsUsageHint arguments failure sentence

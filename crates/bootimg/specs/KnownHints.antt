@@ -1,9 +1,9 @@
 use Rattle.std.specs.Prelude.{◌≡◌, ◌++◌, ℕ, false, true, List, None, Some, codes}
 use Rattle.bi_base.specs.declared.fault.Cause.TheVariants.{NoImages}
 use Rattle.bi_base.specs.declared.fault.Error.TheVariants.{OutOfMemory, Refused}
-use Rattle.bootimg.specs.Hints.{failure_hint, hint_given, hint_line, listed_names, refused_text}
+use Rattle.bootimg.specs.Hints.{failure_hint, hint_given, hint_line, names_with_commas, refused_text}
 use Rattle.bootimg.specs.Program.{writes_image}
-use Rattle.bootimg.specs.RefusedWords.{AtArgument, AtField, AtOption, GivenModel, near_name}
+use Rattle.bootimg.specs.RefusedWords.{AtArgument, AtField, AtOption, GivenWordModel, near_name}
 use Rattle.bootimg.specs.RefusedWords.{with_near}
 use Rattle.bootimg.specs.TakenWords.{names_taken}
 use Rattle.bootimg.specs.declared.codes.CodeField.TheVariants.{Arch, Compression}
@@ -19,7 +19,7 @@ abbrev pub no_terminal : Terminal
 no_terminal = record { output = false; errors = false }
 
 -- The hint for a word that is not taken.
-abbrev pub hint_for : GivenModel → List ℕ
+abbrev pub hint_for : GivenWordModel → List ℕ
 hint_for given = refused_text (with_near given)
 
 -- Words that are not taken have known hints, with a name that is near if there is one.

@@ -37,12 +37,12 @@ place_model (place.Argument name) = AtArgument name.now
 place_model (place.Field index name) = AtField index name.now
 
 -- A word with its place, and what is taken there.
-pub record GivenModel : Type 0 where
+pub record GivenWordModel : Type 0 where
   pub place : PlaceModel
   pub takes : Takes
   pub word : List ℕ
 
-abbrev pub given_word : GivenWord → GivenModel
+abbrev pub given_word : GivenWord → GivenWordModel
 given_word given = record {
   place = place_model given.place;
   takes = given.takes;
@@ -50,36 +50,36 @@ given_word given = record {
 }
 
 -- The word is not taken where it stands.
-abbrev pub IsRefused : GivenModel → Type 0
+abbrev pub IsRefused : GivenWordModel → Type 0
 IsRefused given = ¬ IsTaken given.takes given.word
 
 -- This is the first of these words that is not taken where it stands.
-pub record IsFirstRefused (all : List GivenModel) (found : GivenModel) : Type 0 where
-  pub before : List GivenModel
-  pub later : List GivenModel
+pub record IsFirstRefusedWord (all : List GivenWordModel) (found : GivenWordModel) : Type 0 where
+  pub before : List GivenWordModel
+  pub later : List GivenWordModel
   pub are : all ≡ before ++ found ∷ later
   pub taken : AllByRecursion (λ given. IsTaken given.takes given.word) before
   pub refused : IsRefused found
 
 -- This is the first, or all are taken.
-abbrev pub FindsFirst : List GivenModel → Option GivenModel → Type 0
+abbrev pub FindsFirst : List GivenWordModel → Option GivenWordModel → Type 0
 FindsFirst all None = AllByRecursion (λ given. IsTaken given.takes given.word) all
-FindsFirst all (Some found) = IsFirstRefused all found
+FindsFirst all (Some found) = IsFirstRefusedWord all found
 
 -- ---- options and arguments
 
 -- An option or an argument: its name for clap, where its words stand, and which it takes.
-pub record TakingModel : Type 0 where
+pub record OptionTextModel : Type 0 where
   pub id : List ℕ
   pub place : PlaceModel
   pub takes : Takes
 
 -- `--NAME`.
-abbrev taking : (name : List ℕ) → Takes → TakingModel
+abbrev taking : (name : List ℕ) → Takes → OptionTextModel
 taking name takes = record { id = name; place = AtOption name; takes = takes }
 
 -- The options and arguments whose words can be judged one by one, whichever command has them.
-abbrev pub taking_options : List TakingModel
+abbrev pub taking_options : List OptionTextModel
 taking_options =
     taking (codes "os") (takes.Code Os) ∷ taking (codes "arch") (takes.Code Arch)
     ∷ taking (codes "type") (takes.Code ImageType)
@@ -94,34 +94,34 @@ taking_options =
     ∷ taking (codes "limit") takes.Limit ∷ []
 
 -- An option of the program.
-abbrev pub taking_model : OptionText → TakingModel
-taking_model option = record {
+abbrev pub option_text_model : OptionText → OptionTextModel
+option_text_model option = record {
   id = option.name.now;
   place = place_model (place_of_option option);
   takes = option.takes;
 }
 
 -- These words of an option or an argument.
-abbrev pub words_given : TakingModel → List (List ℕ) → List GivenModel
+abbrev pub words_given : OptionTextModel → List (List ℕ) → List GivenWordModel
 words_given option words =
     map (λ word. record { place = option.place; takes = option.takes; word = word }) words
 
--- The words that options have.
-abbrev pub option_words : ArgMatches → TakingModel → List GivenModel
-option_words options option = words_given option (values_of options option.id)
+-- The words that an option has, and those that all options have, by the values of each name.
+abbrev pub option_words : (values : List ℕ → List (List ℕ)) → OptionTextModel → List GivenWordModel
+option_words values option = words_given option (values option.id)
 
-abbrev pub all_option_words : ArgMatches → List GivenModel
-all_option_words options = flat_map (option_words options) taking_options
+abbrev pub all_option_words : (values : List ℕ → List (List ℕ)) → List GivenWordModel
+all_option_words values = flat_map (option_words values) taking_options
 
 -- ---- fields of image words
 
 -- The field of this name, of the image word at this index.
-abbrev pub field_given : (index : ℕ) → (name : List ℕ) → Takes → (word : List ℕ) → GivenModel
+abbrev pub field_given : (index : ℕ) → (name : List ℕ) → Takes → (word : List ℕ) → GivenWordModel
 field_given index name takes word =
     record { place = AtField index name; takes = takes; word = word }
 
 -- The fields of an image word but its name, which may be any word.
-abbrev pub fields_given : ImageFields → (index : ℕ) → List GivenModel
+abbrev pub fields_given : ImageFields → (index : ℕ) → List GivenWordModel
 fields_given fields index =
     field_given index (codes "TYPE") (takes.Code ImageType) fields.image_type.now
     ∷ field_given index (codes "ARCH") (takes.Code Arch) fields.arch.now
@@ -139,7 +139,7 @@ pub record HasFields (options : ArgMatches) (index : ℕ) (fields : ImageFields)
 
 -- What is found for the image word at this index: its first field that is not taken, or none if all
 -- are taken, or if it does not have the fields of an image.
-pub data FindsField (options : ArgMatches) (index : ℕ) (found : Option GivenModel) : Type 0 where
+pub data FindsField (options : ArgMatches) (index : ℕ) (found : Option GivenWordModel) : Type 0 where
   OfFields : (fields : ImageFields) → HasFields options index fields
       → FindsFirst (fields_given fields index) found → FindsField options index found
   NoFields : NoneIs (HasFields options index) → found ≡ None
@@ -148,8 +148,8 @@ pub data FindsField (options : ArgMatches) (index : ℕ) (found : Option GivenMo
 -- ---- the reason for a failure
 
 -- What is found for a failure of these options.
-abbrev pub FindsReason : ArgMatches → Failure → Option GivenModel → Type 0
-FindsReason options BadValue found = FindsFirst (all_option_words options) found
+abbrev pub FindsReason : ArgMatches → Failure → Option GivenWordModel → Type 0
+FindsReason options BadValue found = FindsFirst (all_option_words (values_of options)) found
 FindsReason options (BadImage index) found = FindsField options index found
 FindsReason options failure found = found ≡ None
 
@@ -176,11 +176,11 @@ near_name names word = else_this (first_near 1 names word) (first_near 2 names w
 -- ---- the refused word
 
 -- A refused word, and the name that is near it.
-pub record RefusedModel : Type 0 where
-  pub given : GivenModel
+pub record RefusedWordModel : Type 0 where
+  pub given : GivenWordModel
   pub near : Option (List ℕ)
 
-abbrev pub refused_model : RefusedWord → RefusedModel
+abbrev pub refused_model : RefusedWord → RefusedWordModel
 refused_model refused = record {
   given = record {
     place = place_model refused.place;
@@ -191,17 +191,17 @@ refused_model refused = record {
 }
 
 -- The word, with the name that is near it.
-abbrev pub with_near : GivenModel → RefusedModel
+abbrev pub with_near : GivenWordModel → RefusedWordModel
 with_near given = record { given = given; near = near_name (names_taken given.takes) given.word }
 
 -- The refused word that is the reason for a failure of these options, if there is one.
-abbrev pub FindsRefused : ArgMatches → Failure → Option RefusedModel → Type 0
+abbrev pub FindsRefused : ArgMatches → Failure → Option RefusedWordModel → Type 0
 FindsRefused options failure refused =
-    (found : Option GivenModel) × FindsReason options failure found
+    (found : Option GivenWordModel) × FindsReason options failure found
     × (refused ≡ option_map with_near found)
 
 -- The same, of arguments that clap accepts.
-abbrev pub FindsRefusedWord : List (List ℕ) → Failure → Option RefusedModel → Type 0
+abbrev pub FindsRefusedWord : List (List ℕ) → Failure → Option RefusedWordModel → Type 0
 FindsRefusedWord arguments failure refused =
     (name : List ℕ) × (options : ArgMatches) × Gives arguments name options
     × FindsRefused options failure refused

@@ -1,6 +1,5 @@
 use Rattle.std.specs.Prelude.{◌≡◌, ◌≢◌, ◌⊎◌, ◌++◌, ◌<◌, ℕ, Bool, true, false, List, []}
-use Rattle.std.specs.Prelude.{◌∷◌, ◌&&◌}
-use Rattle.std.specs.Option.{option_map_or}
+use Rattle.std.specs.Prelude.{◌∷◌, ◌&&◌, is_some, not}
 use Rattle.std.specs.Prelude.{Option, None, Some, option_map}
 use Rattle.std.specs.Prelude.{Result, Ok, Err, codes}
 use Rattle.std.specs.Borrow.{Bor}
@@ -567,7 +566,7 @@ pub data IsEnd (hints : Bool) (errors new_errors : WriteTrace) (status : ℕ)
 -- Whether the output of a request would be an image or a payload on a terminal.
 abbrev pub is_for_terminal : Terminal → Request → Bool
 is_for_terminal terminal request =
-    (terminal.output && request.writes_image) && option_map_or (λ name. false) request.output true
+    (terminal.output && request.writes_image) && not (is_some request.output)
 
 -- The job that is requested was done with the output that is requested; or it would write an image
 -- or a payload to a terminal, and this was reported.

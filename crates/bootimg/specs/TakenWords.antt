@@ -1,12 +1,10 @@
 use Rattle.std.specs.Prelude.{◌≡◌, ⊤, ℕ, List, [], ◌∷◌, Option, Some, codes, map}
 use Rattle.bi_base.specs.Limits.{Limits}
 use Rattle.bi_base.specs.declared.align.Align.{Align}
-use Rattle.bi_fit.specs.Names.{key_name}
+use Rattle.bi_fit.specs.Names.{all_keys, key_name}
 use Rattle.bi_fit.specs.declared.key.Key.{Key}
-use Rattle.bi_fit.specs.declared.key.Key.TheVariants as key
-use Rattle.bi_hash.specs.Algos.{algorithm_name}
+use Rattle.bi_hash.specs.Algos.{algorithm_name, all_algorithms}
 use Rattle.bi_hash.specs.declared.algo.Algo.{Algo}
-use Rattle.bi_hash.specs.declared.algo.Algo.TheVariants as algo
 use Rattle.bi_report.specs.Checking.{kind_word}
 use Rattle.bi_report.specs.declared.check.Allowed.{Allowed}
 use Rattle.bi_values.specs.declared.value_form.ValueForm.{ValueForm}
@@ -39,17 +37,9 @@ IsTaken takes.Kinds word = (allowed : Allowed) × IsAllowed (listed_words word) 
 IsTaken takes.Algorithms word = (algorithms : List Algo) × AreHashesOf word algorithms
 IsTaken takes.Topic word = (topic : Topic) × IsAbout word topic
 
--- The names of the keys, the forms of values and the algorithms.
-abbrev all_keys : List Key
-all_keys =
-    key.Kernel ∷ key.Fdt ∷ key.Ramdisk ∷ key.Firmware ∷ key.Loadables ∷ key.Script ∷ []
-
+-- The names of the forms of values.
 abbrev form_names : List (List ℕ)
 form_names = codes "text" ∷ codes "number" ∷ codes "raw" ∷ []
-
-abbrev all_algorithms : List Algo
-all_algorithms =
-    algo.Crc32 ∷ algo.Md5 ∷ algo.Sha1 ∷ algo.Sha256 ∷ algo.Sha384 ∷ algo.Sha512 ∷ []
 
 -- The names that are taken, or with a comma between each two.
 abbrev pub names_taken : Takes → List (List ℕ)

@@ -3,7 +3,7 @@
 ghost use Rattle.std.specs.Prelude.{◌≡◌, flat_map, option_map};
 ghost use Rattle.bootimg.specs.CommandLine.{texts_of};
 ghost use Rattle.bootimg.specs.ErrorLines.{Extends, line_of};
-ghost use Rattle.bootimg.specs.Hints.{IsHintAt, after_comma, hint_text, listed_names};
+ghost use Rattle.bootimg.specs.Hints.{IsHintAt, after_comma, hint_text, names_with_commas};
 ghost use Rattle.bootimg.specs.Hints.{near_text, place_text, refused_text, taken_text, word_text};
 
 use crate::command_line::{Place, RefusedWord, Takes, refused_word};
@@ -92,7 +92,7 @@ fn put_taken<T: TracedWrite>(takes: Takes, line: &mut ErrorLine<'_, T>)
 
 /// Appends names, with a comma between each two.
 fn put_names<T: TracedWrite>(names: &[&str], line: &mut ErrorLine<'_, T>)
-    ensures { Extends (line_of T.trace line.old) (listed_names (texts_of names.now))
+    ensures { Extends (line_of T.trace line.old) (names_with_commas (texts_of names.now))
         (line_of T.trace line.new) }
 {
     if let [first, later @ ..] = names {

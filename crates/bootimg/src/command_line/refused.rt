@@ -1,11 +1,11 @@
 //! The word that an option, an argument or a field of an image word does not take.
 
 ghost use Rattle.std.specs.Prelude.{◌≡◌, IfNone, IfOk, IfSome, map, option_map};
-ghost use Rattle.bootimg.specs.CommandLine.{NoneIs, texts_of};
+ghost use Rattle.bootimg.specs.CommandLine.{NoneIs, texts_of, values_of};
 ghost use Rattle.bootimg.specs.RefusedWords.{FindsField, FindsFirst, FindsRefused, HasFields};
 ghost use Rattle.bootimg.specs.RefusedWords.{FindsRefusedWord, all_option_words, field_given};
 ghost use Rattle.bootimg.specs.RefusedWords.{fields_given, first_near, given_word, near_name};
-ghost use Rattle.bootimg.specs.RefusedWords.{refused_model, taking_model, words_given};
+ghost use Rattle.bootimg.specs.RefusedWords.{refused_model, option_text_model, words_given};
 ghost use Rattle.bootimg.specs.RefusedWords.{taking_options as all_taking_options};
 ghost use Rattle.bootimg.specs.RefusedWords.{with_near as with_near_of};
 
@@ -103,7 +103,7 @@ fn refused_value<'a>(
     alloc: Global,
     options: &ArgMatches<'a>,
 ) -> Result<Option<GivenWord<'a>>, AllocError>
-    ensures { IfOk result (λ found. FindsFirst (all_option_words options.now)
+    ensures { IfOk result (λ found. FindsFirst (all_option_words (values_of options.now))
         (option_map given_word found)) }
 {
     for option in taking_options() {
@@ -118,7 +118,7 @@ fn refused_value<'a>(
 
 /// Returns the options and arguments whose words can be judged one by one.
 fn taking_options() -> &'static [OptionText]
-    ensures { map taking_model result.now ≡ all_taking_options }
+    ensures { map option_text_model result.now ≡ all_taking_options }
 {
     &TAKING_OPTIONS
 }
@@ -130,7 +130,7 @@ fn refused_of<'a>(
     words: &[&'a str],
 ) -> Result<Option<GivenWord<'a>>, AllocError>
     ensures { IfOk result (λ found. FindsFirst
-        (words_given (taking_model option.now) (texts_of words.now))
+        (words_given (option_text_model option.now) (texts_of words.now))
         (option_map given_word found)) }
 {
     for word in words {
