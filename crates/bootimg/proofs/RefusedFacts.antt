@@ -1,17 +1,24 @@
 use Rattle.std.proofs.Common.{◌≡◌, ◌<◌, ◌≤◌, ◌∙◌, ◌+◌, ℕ, Bool, true, false, List, [], ◌∷◌, ◌++◌, Option, None, Some, ap, drop, flat_map}
 use Rattle.std.proofs.Common.{append-nil, get_or, length, map, refl, subst, sym, take}
-use Rattle.std.specs.Prelude.{◌↔◌, IfNone, IfSome, IsTrue, is_some}
-use Rattle.std.specs.List.{AllByRecursion}
-use Rattle.std.proofs.lemmas.List.{append_assoc, flat_map-append, map_more, take-append-drop, take_all, take_more}
+use Rattle.std.specs.Prelude.{◌↔◌, IfNone, IfSome, IsTrue, is_some, nat_le, option_map}
+use Rattle.std.specs.Option.{option_or}
+use Rattle.std.specs.List.{AllByRecursion, find}
+use Rattle.std.proofs.lemmas.List.Folds.{find-append}
+use Rattle.std.proofs.lemmas.List.{append_assoc, flat_map-append, map-append, map_more, take-append-drop, take_all, take_more}
+use Rattle.std.proofs.lemmas.Bool.{le-leb, lt-leb}
 use Rattle.std.proofs.lemmas.List.Concat.{flat_map_single}
 use Rattle.bi_base.proofs.ListMembers.{each-append}
 use Rattle.std.specs.Borrow.{Bor}
-use Rattle.clap.specs.declared.parser.matches.ArgMatches.{ArgMatches}
 use Rattle.bootimg.specs.CommandLine.{NoneIs, texts_of}
-use Rattle.bootimg.specs.RefusedWords.{FindsFirst, GivenWordModel, IsFirstRefusedWord, IsRefused, OptionTextModel, all_option_words,
-    option_words}
+use Rattle.bootimg.specs.RefusedWords.{FindsFirst, GivenWordModel, IsFirstRefusedWord, IsRefused, OptionTextModel, all_option_words}
+use Rattle.bootimg.specs.RefusedWords.{option_words}
 use Rattle.bootimg.specs.RefusedWords.{option_text_model, taking_options, words_given}
+use Rattle.bootimg.specs.RefusedWords.{edits_between, first_near, given_word}
+use Rattle.bootimg.specs.declared.command_line.refused.GivenWord.{GivenWord}
+use Rattle.bootimg.specs.declared.command_line.table.OptionForm.TheVariants as form
 use Rattle.bootimg.specs.declared.command_line.table.OptionText.{OptionText}
+use Rattle.bootimg.specs.declared.command_line.takes.Place.TheVariants as place
+use Rattle.bootimg.specs.declared.command_line.takes.Takes.TheVariants as takes
 use Rattle.bootimg.specs.TakenWords.{IsTaken}
 
 -- The first word that is not taken, in lists that are looked through one word after another.
@@ -80,6 +87,17 @@ pub none_refused : {X : Type 0} (f : X → List GivenWordModel) (xs : List X) (i
     → AllByRecursion IsTakenThere (flat_map f (take i xs)) → FindsFirst (flat_map f xs) None
 none_refused f xs i past all = subst (λ l. AllByRecursion IsTakenThere (flat_map f l)) (take_all i xs past) all
 
+-- What a list of words gives past its end.
+abbrev pub no_word : Bor (List ℕ)
+no_word = record { ref_ptr = (0, 0); now = [] }
+
+-- What lists give past their ends.
+abbrev pub no_given : GivenWord
+no_given = record { place = place.Option no_word; takes = takes.Anything; word = no_word }
+
+abbrev pub no_option : OptionText
+no_option = record { name = no_word; value_name = no_word; help = no_word; form = form.Flag; takes = takes.Anything }
+
 -- ---- one word for each
 
 -- A word by itself.
@@ -119,6 +137,61 @@ pub given_words_of : (option : OptionTextModel) (words : List (Bor (List ℕ))) 
     (texts_of words)
 given_words_of option [] = refl
 given_words_of option (word ∷ words) = ap (λ l. given_to option word ∷ l) (given_words_of option words)
+
+-- A word of an option of the table is refused, and is the first one, or all its words are taken.
+pub first_of_options : (values : List ℕ → List (List ℕ)) (table : List OptionText) (i : ℕ) (d : OptionText) (found : Option GivenWord)
+    (texts : List (List ℕ)) → map option_text_model table ≡ taking_options → i < length table → texts ≡ values (get_or table i d).name.now
+    → AllByRecursion IsTakenThere (flat_map (words_of_option values) (take i table))
+    → FindsFirst (words_given (option_text_model (get_or table i d)) texts) (option_map given_word found) → is_some found ≡ true
+    → FindsFirst (all_option_words values) (option_map given_word found)
+first_of_options values table i d None texts same within named first is some = absurd (let e : false ≡ true = some in cc)
+first_of_options values table i d (Some given) texts same within named first is some =
+    subst (λ l. IsFirstRefusedWord l (given_word given)) (words_of_all values table same)
+    (refused_at (words_of_option values) table i d (given_word given) within first
+    (subst (λ t. IsFirstRefusedWord (words_given (option_text_model (get_or table i d)) t) (given_word given)) named is))
+
+pub more_options : (values : List ℕ → List (List ℕ)) (table : List OptionText) (i : ℕ) (d : OptionText) (found : Option GivenWord)
+    (texts : List (List ℕ)) → i < length table → texts ≡ values (get_or table i d).name.now
+    → AllByRecursion IsTakenThere (flat_map (words_of_option values) (take i table))
+    → FindsFirst (words_given (option_text_model (get_or table i d)) texts) (option_map given_word found) → is_some found ≡ false
+    → AllByRecursion IsTakenThere (flat_map (words_of_option values) (take (i + 1) table))
+more_options values table i d None texts within named first is none =
+    more_taken (words_of_option values) table i d within first
+    (subst (λ t. AllByRecursion IsTakenThere (words_given (option_text_model (get_or table i d)) t)) named is)
+more_options values table i d (Some given) texts within named first is none = absurd (let e : true ≡ false = none in cc)
+
+-- ---- names that are near
+
+near_at : (most : ℕ) (names : List (Bor (List ℕ))) (word : List ℕ) (i : ℕ) → i < length names
+    → first_near most (texts_of (take i names)) word ≡ None
+    → first_near most (texts_of (take (i + 1) names)) word ≡ first_near most ((get_or names i no_word).now ∷ []) word
+near_at most names word i within none =
+    let near = λ name. nat_le (edits_between word name) most in
+    let one = (get_or names i no_word).now in
+    ap (find near) (map_more (λ name. name.now) names i no_word within)
+    ∙ find-append near (texts_of (take i names)) (one ∷ [])
+    ∙ ap (λ first. option_or first (find near (one ∷ []))) none
+
+-- A name is near, and none before it is.
+pub near_found : (most : ℕ) (names : List (Bor (List ℕ))) (word : List ℕ) (i : ℕ) → i < length names
+    → first_near most (texts_of (take i names)) word ≡ None → edits_between word (get_or names i no_word).now ≤ most
+    → first_near most (texts_of names) word ≡ Some (get_or names i no_word).now
+near_found most names word i within none few =
+    let near = λ name. nat_le (edits_between word name) most in
+    let one = (get_or names i no_word).now in
+    ap (find near) (sym (map-append (λ name. name.now) (take (i + 1) names) (drop (i + 1) names)
+    ∙ ap (map (λ name. name.now)) (take-append-drop (i + 1) names)))
+    ∙ find-append near (texts_of (take (i + 1) names)) (texts_of (drop (i + 1) names))
+    ∙ ap (λ first. option_or first (find near (texts_of (drop (i + 1) names))))
+    (near_at most names word i within none ∙ rw (le-leb (edits_between word one) most few) refl)
+
+-- It is not.
+pub near_not_yet : (most : ℕ) (names : List (Bor (List ℕ))) (word : List ℕ) (i : ℕ) → i < length names
+    → first_near most (texts_of (take i names)) word ≡ None → most < edits_between word (get_or names i no_word).now
+    → first_near most (texts_of (take (i + 1) names)) word ≡ None
+near_not_yet most names word i within none many =
+    let one = (get_or names i no_word).now in
+    near_at most names word i within none ∙ rw (lt-leb (edits_between word one) most many) refl
 
 -- ---- whether a word is taken
 

@@ -106,7 +106,8 @@ fn refused_value<'a>(
     ensures { IfOk result (λ found. FindsFirst (all_option_words (values_of options.now))
         (option_map given_word found)) }
 {
-    for option in taking_options() {
+    let table = taking_options();
+    for option in table {
         let words = all_values(options, option.name);
         let found = refused_of(alloc, option, words)?;
         if found.is_some() {

@@ -99,20 +99,20 @@ impl Takes {
     pub fn takes(self, alloc: Global, word: &str) -> Result<bool, AllocError>
         ensures { IfOk result (λ is_taken. IsTrue is_taken ↔ IsTaken self word.now) }
     {
-        Ok(match self {
-            Takes::Anything => true,
-            Takes::Number => parse_number(word).is_some(),
-            Takes::Limit => parse_limits(word).is_some(),
-            Takes::Alignment => parse_align(word).is_some(),
-            Takes::Address => parse_address(word).is_some(),
-            Takes::Part => parse_part(word).is_some(),
-            Takes::Code(field) => parse_code(field, word).is_some(),
-            Takes::Key => parse_key(word).is_some(),
-            Takes::ValueForm => parse_form(Some(word)).is_some(),
-            Takes::Kinds => parse_allowed(word).is_some(),
-            Takes::Algorithms => return are_algorithms(alloc, word),
-            Takes::Topic => parse_topic(word).is_some(),
-        })
+        match self {
+            Takes::Anything => Ok(true),
+            Takes::Number => Ok(parse_number(word).is_some()),
+            Takes::Limit => Ok(parse_limits(word).is_some()),
+            Takes::Alignment => Ok(parse_align(word).is_some()),
+            Takes::Address => Ok(parse_address(word).is_some()),
+            Takes::Part => Ok(parse_part(word).is_some()),
+            Takes::Code(field) => Ok(parse_code(field, word).is_some()),
+            Takes::Key => Ok(parse_key(word).is_some()),
+            Takes::ValueForm => Ok(parse_form(Some(word)).is_some()),
+            Takes::Kinds => Ok(parse_allowed(word).is_some()),
+            Takes::Algorithms => are_algorithms(alloc, word),
+            Takes::Topic => Ok(parse_topic(word).is_some()),
+        }
     }
 
     /// Returns the names that are taken, if only names are, or names among other words.
