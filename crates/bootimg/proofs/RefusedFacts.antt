@@ -1,5 +1,5 @@
 use Rattle.std.proofs.Common.{◌≡◌, ◌<◌, ◌≤◌, ◌∙◌, ◌+◌, ℕ, Bool, true, false, List, [], ◌∷◌, ◌++◌, Option, None, Some, ap, drop, flat_map}
-use Rattle.std.proofs.Common.{append-nil, get_or, length, map, refl, subst, sym, take}
+use Rattle.std.proofs.Common.{append-nil, get_or, length, map, refl, subst, sym, take, true≢false}
 use Rattle.std.specs.Prelude.{◌↔◌, IfNone, IfSome, IsTrue, is_some, nat_le, option_map}
 use Rattle.std.specs.Option.{option_or}
 use Rattle.std.specs.List.{AllByRecursion, find}
@@ -196,21 +196,20 @@ near_not_yet most names word i within none many =
 -- ---- whether a word is taken
 
 pub true_is_taken : (taken : Bool) (Is : Type 0) → IsTrue taken ↔ Is → taken ≡ true → Is
-true_is_taken taken Is says yes = says.0 (rw yes tt)
+true_is_taken taken Is says yes = says.0 yes
 
 pub false_is_refused : (taken : Bool) (Is : Type 0) → IsTrue taken ↔ Is → taken ≡ false → ¬ Is
-false_is_refused taken Is says no is = let true_now : IsTrue false = subst IsTrue no (says.1 is) in true_now
+false_is_refused taken Is says no is = true≢false (sym (says.1 is) ∙ no)
 
 -- An option with a value exactly for words that are taken.
 pub taken_if_some : {T : Type 0} (Is : T → Type 0) (given : Option T) (is_given : Bool) → IfSome given Is → IfNone given (NoneIs Is)
     → is_given ≡ is_some given → IsTrue is_given ↔ ((value : T) × Is value)
-taken_if_some Is None is_given some none same =
-    (λ yes. absurd (subst IsTrue same yes), λ is. absurd (none is.0 is.1))
-taken_if_some Is (Some value) is_given some none same = (λ yes. (value, some), λ is. subst IsTrue (sym same) tt)
+taken_if_some Is None is_given some none same = (λ yes. absurd (true≢false (sym yes ∙ same)), λ is. absurd (none is.0 is.1))
+taken_if_some Is (Some value) is_given some none same = (λ yes. (value, some), λ is. same)
 
 -- The same, if the value is known by its word.
 pub taken_if_known : {T : Type 0} (Is : T → Type 0) (given : Option T) (is_given : Bool) → IfSome given Is
     → ((value : T) → Is value → given ≡ Some value) → is_given ≡ is_some given → IsTrue is_given ↔ ((value : T) × Is value)
 taken_if_known Is None is_given some exactly same =
-    (λ yes. absurd (subst IsTrue same yes), λ is. absurd (let e : None ≡ Some is.0 = exactly is.0 is.1 in cc))
-taken_if_known Is (Some value) is_given some exactly same = (λ yes. (value, some), λ is. subst IsTrue (sym same) tt)
+    (λ yes. absurd (true≢false (sym yes ∙ same)), λ is. absurd (let e : None ≡ Some is.0 = exactly is.0 is.1 in cc))
+taken_if_known Is (Some value) is_given some exactly same = (λ yes. (value, some), λ is. same)

@@ -270,9 +270,9 @@ fn run_fit_builder<S: TracedRead, T: TracedWrite>(
     output: &mut T,
 ) -> Result<(), Error>
     requires one_each { length payloads.now ≡ length plan.now.images.items }
-    requires lent { configuration_spec_models made.entry.configurations.now
+    requires lent { configuration_spec_models made.configurations.now
         ≡ planned_configurations plan.now.own_texts plan.now.configurations.items }
-    requires described { descriptions_models made.entry.descriptions.now
+    requires described { descriptions_models made.descriptions.now
         ≡ planned_descriptions plan.now.own_texts plan.now.images.items }
     ensures { IsTracedPipe (fit_promise plan.now payloads.now limits) limits (S.trace input.old)
         (S.trace input.new) (T.trace output.old) (T.trace output.new) result }

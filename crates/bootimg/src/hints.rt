@@ -5,6 +5,7 @@ ghost use Rattle.bootimg.specs.CommandLine.{texts_of};
 ghost use Rattle.bootimg.specs.ErrorLines.{Extends, line_of};
 ghost use Rattle.bootimg.specs.Hints.{IsHintAt, after_comma, hint_text, names_with_commas};
 ghost use Rattle.bootimg.specs.Hints.{near_text, place_text, refused_text, taken_text, word_text};
+ghost use Rattle.bootimg.specs.RefusedWords.{place_model, refused_model};
 
 use crate::command_line::{Place, RefusedWord, Takes, refused_word};
 use crate::error_line::ErrorLine;
@@ -51,7 +52,7 @@ impl<'a> Hint<'a> {
 /// Appends what is taken where a word stands that is not taken, and a name that is near it, if
 /// there is one.
 fn put_refused<T: TracedWrite>(refused: RefusedWord<'_>, line: &mut ErrorLine<'_, T>)
-    ensures { Extends (line_of T.trace line.old) (refused_text refused.entry)
+    ensures { Extends (line_of T.trace line.old) (refused_text (refused_model refused.entry))
         (line_of T.trace line.new) }
 {
     put_place(refused.place, line);
@@ -63,7 +64,7 @@ fn put_refused<T: TracedWrite>(refused: RefusedWord<'_>, line: &mut ErrorLine<'_
 
 /// Appends where a word stands.
 fn put_place<T: TracedWrite>(place: Place, line: &mut ErrorLine<'_, T>)
-    ensures { Extends (line_of T.trace line.old) (place_text place.entry)
+    ensures { Extends (line_of T.trace line.old) (place_text (place_model place))
         (line_of T.trace line.new) }
 {
     match place {
