@@ -90,13 +90,13 @@ pub next_image_done : (files later : KnownFiles) (hints : Bool) (request : Image
     → HaveBeenDone files hints request is_held (take (i + 1) sources) old new greatest
 next_image_done files later hints request is_held sources i d old middle new status greatest end within so_far same is more greater =
     record {
-  outcomes = so_far.outcomes ++ is.outcome ∷ [];
-  so_far = one_more_done (IsImageDone files hints request is_held) is_last sources i d so_far.outcomes is.outcome old middle new within
-      so_far.so_far (subst (λ f. IsImageDone f hints request is_held (get_or sources i d) is.outcome middle new) same is.done)
-      (sym is.last ∙ more);
-  is_greatest = greater ∙ ap (λ s. max s end.status) so_far.is_greatest ∙ ap (max (greatest_status so_far.outcomes)) is.status
-      ∙ sym (greatest_status-snoc so_far.outcomes is.outcome);
-}
+      outcomes = so_far.outcomes ++ is.outcome ∷ [];
+      so_far = one_more_done (IsImageDone files hints request is_held) is_last sources i d so_far.outcomes is.outcome old middle new within
+          so_far.so_far (subst (λ f. IsImageDone f hints request is_held (get_or sources i d) is.outcome middle new) same is.done)
+          (sym is.last ∙ more);
+      is_greatest = greater ∙ ap (λ s. max s end.status) so_far.is_greatest ∙ ap (max (greatest_status so_far.outcomes)) is.status
+          ∙ sym (greatest_status-snoc so_far.outcomes is.outcome);
+    }
 
 pub up_to_last : (files later : KnownFiles) (hints : Bool) (request : ImagesRequest) (is_held : Bool) (sources : List ImageSource) (i : ℕ)
     (d : ImageSource) (old middle new : Streams) (status greatest : ℕ) (end : ImageEnd) → sources ≡ request.sources.items
@@ -106,16 +106,16 @@ pub up_to_last : (files later : KnownFiles) (hints : Bool) (request : ImagesRequ
     → AreDone files hints request is_held old new greatest
 up_to_last files later hints request is_held sources i d old middle new status greatest end names within so_far same is last greater =
     record {
-  outcomes = so_far.outcomes ++ is.outcome ∷ [];
-  in_turn = subst (λ all. AreDoneInTurn (IsImageDone files hints request is_held) is_last all
-    (so_far.outcomes ++ is.outcome ∷ []) old new) names
-      (last_done (IsImageDone files hints request is_held) is_last sources i d so_far.outcomes is.outcome old middle new within
-      so_far.so_far
-      (subst (λ f. IsImageDone f hints request is_held (get_or sources i d) is.outcome middle new) same is.done)
-      (sym is.last ∙ last));
-  is_greatest = greater ∙ ap (λ s. max s end.status) so_far.is_greatest ∙ ap (max (greatest_status so_far.outcomes)) is.status
-      ∙ sym (greatest_status-snoc so_far.outcomes is.outcome);
-}
+      outcomes = so_far.outcomes ++ is.outcome ∷ [];
+      in_turn = subst (λ all. AreDoneInTurn (IsImageDone files hints request is_held) is_last all
+          (so_far.outcomes ++ is.outcome ∷ []) old new) names
+          (last_done (IsImageDone files hints request is_held) is_last sources i d so_far.outcomes is.outcome old middle new within
+          so_far.so_far
+          (subst (λ f. IsImageDone f hints request is_held (get_or sources i d) is.outcome middle new) same is.done)
+          (sym is.last ∙ last));
+      is_greatest = greater ∙ ap (λ s. max s end.status) so_far.is_greatest ∙ ap (max (greatest_status so_far.outcomes)) is.status
+          ∙ sym (greatest_status-snoc so_far.outcomes is.outcome);
+    }
 
 pub all_of_them : (files : KnownFiles) (hints : Bool) (request : ImagesRequest) (is_held : Bool) (sources : List ImageSource) (i : ℕ)
     (old new : Streams)

@@ -25,29 +25,29 @@ hint_for given = refused_text (with_near given)
 -- Words that are not taken have known hints, with a name that is near if there is one.
 pub record RefusedWordsAreKnown : Type 0 where
   pub compression : hint_for (record {
-        place = AtOption (codes "compression");
-        takes = takes.Code Compression;
-        word = codes "gz";
-      })
+    place = AtOption (codes "compression");
+    takes = takes.Code Compression;
+    word = codes "gz";
+  })
       ≡ codes "--compression takes one of none, gzip, bzip2, lzma, lzo, lz4, zstd, or a number of "
       ++ codes "at most 255, not 'gz': did you mean 'gzip'?"
   pub number : hint_for (record {
-        place = AtOption (codes "time");
-        takes = takes.Number;
-        word = codes "now";
-      })
+    place = AtOption (codes "time");
+    takes = takes.Number;
+    word = codes "now";
+  })
       ≡ codes "--time takes a number below 2^32: decimal, or hexadecimal with 0x, not 'now'"
   pub file : hint_for (record {
-        place = AtField 0 (codes "LEN");
-        takes = takes.Part;
-        word = codes "Image.gz";
-      })
+    place = AtField 0 (codes "LEN");
+    takes = takes.Part;
+    word = codes "Image.gz";
+  })
       ≡ codes "image 0: LEN takes a length in bytes, and a file is given as @Image.gz"
   pub argument : hint_for (record {
-        place = AtArgument (codes "NAME");
-        takes = takes.Topic;
-        word = codes "x y";
-      })
+    place = AtArgument (codes "NAME");
+    takes = takes.Topic;
+    word = codes "x y";
+  })
       ≡ codes "NAME takes a name that bootimg explain prints, or a line of bootimg, not 'x%20y'"
   pub near : near_name (names_taken (takes.Code Arch)) (codes "amd64") ≡ Some (codes "arm64")
   pub nearer : near_name (names_taken takes.Key) (codes "fd") ≡ Some (codes "fdt")

@@ -535,11 +535,11 @@ inputs_after run = record { input = run.new_input; steps = run.new_steps }
 pub record IsRejection (source : ImageSource) (failure : Failure) (hint : Option (List ℕ))
     (run : Run) : Type 0
   where
-  pub nothing_read : run.new_input ≡ run.input
-  pub nothing_written : run.new_output ≡ run.output
-  pub no_steps : run.new_steps ≡ run.steps
-  pub reports : Reports source failure hint run.errors run.new_errors
-  pub status : run.status ≡ 2
+    pub nothing_read : run.new_input ≡ run.input
+    pub nothing_written : run.new_output ≡ run.output
+    pub no_steps : run.new_steps ≡ run.steps
+    pub reports : Reports source failure hint run.errors run.new_errors
+    pub status : run.status ≡ 2
 
 -- A job was done with this output: standard output if no file is named, or else the file of this
 -- name, and then nothing was written to standard output.
@@ -585,10 +585,10 @@ pub data IsRequestRun (terminal : Terminal) (files : KnownFiles) (request : Requ
 -- output.
 pub record IsAllRun (hints : Bool) (files : KnownFiles) (request : AllRequest) (run : Run) : Type 0
   where
-  pub outcome : Result Done SourceFailure
-  pub done : IsAllWork files request (inputs_before run) (inputs_after run) outcome
-  pub nothing_written : run.new_output ≡ run.output
-  pub end : IsEnd hints run.errors run.new_errors run.status outcome
+    pub outcome : Result Done SourceFailure
+    pub done : IsAllWork files request (inputs_before run) (inputs_after run) outcome
+    pub nothing_written : run.new_output ≡ run.output
+    pub end : IsEnd hints run.errors run.new_errors run.status outcome
 
 -- A text of this kind is what the arguments ask for: help or the version.
 abbrev pub IsAskedFor : ErrorKind → Type 0

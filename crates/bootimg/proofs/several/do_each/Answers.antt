@@ -18,7 +18,7 @@ returns-then-end-clause-done g c =
 pub loop-source-preserved : goal.loop-source-preserved
 loop-source-preserved g c = (
   next_image_done _ _ c.args.plan.hints c.args.plan.request.now c.args.plan.is_held c.as_slice-sources.result.now
-    c.loop-source.source-index Standard _ _ _
+      c.loop-source.source-index Standard _ _ _
       c.loop-source.status
       c.max-status.result c.do_image-end.result (omega (arith, c.loop-source-test.true)) c.loop-source.invariant.0 c.loop-source.invariant.1
       c.do_image-end.ensures.end c.if-end.false c.max-status.ensures,
