@@ -52,12 +52,12 @@ words_text words =
     ∙ text_of_tokens (words ∷ []) ∙ append-nil (line_text words))
 
 -- How many words the key of a line has.
-inside_count : Line → ℕ
+abbrev inside_count : Line → ℕ
 inside_count [] = 0
 inside_count (path ∷ []) = 1
 inside_count (path ∷ second ∷ later) = suc (words_of_key second)
 
-key_count : Line → ℕ
+abbrev key_count : Line → ℕ
 key_count [] = 0
 key_count (first ∷ later) = if is_inside_word first then suc (inside_count later) else words_of_key first
 
