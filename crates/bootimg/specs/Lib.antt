@@ -4,10 +4,12 @@ pub mod ValueWords
 pub mod CommandLine
 pub mod ConfigurationWords
 pub mod OwnTexts
+pub mod EditOptions
 pub mod Words
 pub mod Program
 pub mod Table
 pub mod ComparedFiles
+pub mod EditedImages
 pub mod Failures
 pub mod Numbers
 pub mod Offsets

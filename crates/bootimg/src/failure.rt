@@ -47,6 +47,8 @@ pub enum Failure<'a> {
     NoText(ValueWords<'a>),
     /// The value that these words name is not a number.
     NoNumber(ValueWords<'a>),
+    /// There is nothing to remove of what this word names.
+    NothingToRemove(&'a str),
     /// `extract` needs exactly one selection.
     NoSelection,
     /// `update` needs a change.
@@ -100,6 +102,10 @@ impl<'a> Failure<'a> {
             Failure::NoProperty(words) => put_value(b"no such property ", words, line),
             Failure::NoText(words) => put_value(b"no text ", words, line),
             Failure::NoNumber(words) => put_value(b"no number ", words, line),
+            Failure::NothingToRemove(word) => {
+                line.put(b"nothing to remove ");
+                line.put(word.as_bytes());
+            }
             Failure::NoSelection => line.put(b"usage: give one of --part, --image, --config"),
             Failure::NoChange => line.put(b"usage: give --time or --hashes"),
             Failure::BadValue => line.put(b"usage: bad value"),

@@ -138,17 +138,17 @@ pub fn run_traced<'a, S: TracedRead, T: TracedWrite, E: TracedWrite, F: FileSyst
     }) }
 {
     match parse_arguments(alloc, arguments) {
-        Ok(Order::Do(request)) => match &request.output {
+        Ok(Order::Do(request)) => match request.output {
             None => {
-                let outcome = do_job(alloc, &request.job, request.limits, files, input, output);
+                let outcome = do_job(alloc, request.job, request.limits, files, input, output);
                 conclude(outcome, errors)
             }
             Some(name) => {
                 let outcome = do_job_to_file(
                     alloc,
-                    &request.job,
+                    request.job,
                     request.limits,
-                    *name,
+                    name,
                     files,
                     input,
                 );

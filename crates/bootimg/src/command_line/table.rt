@@ -322,6 +322,40 @@ const SIGNED: OptionText = OptionText {
     form: OptionForm::Flag,
 };
 
+const REMOVE: OptionText = OptionText {
+    name: "remove",
+    value_name: "WORD",
+    help: "Remove the node at a PATH with all below it, or a property: 'PATH NAME', as describe \
+         prints them; may be given any number of times",
+    form: OptionForm::Repeated,
+};
+
+const SET: OptionText = OptionText {
+    name: "set",
+    value_name: "WORD",
+    help: "Set a property: 'PATH NAME VALUE' as describe prints it, or 0x and digits as VALUE, or \
+         'PATH NAME' for an empty value. Nodes that are not there are added. Or a field of a \
+         legacy image: 'FIELD VALUE', FIELD one of name, time, load, entry, os, arch, compression; \
+         may be given any number of times",
+    form: OptionForm::Repeated,
+};
+
+const PAYLOAD: OptionText = OptionText {
+    name: "payload",
+    value_name: "IMAGE=@FILE",
+    help: "Take the payload of an image of a FIT, or of part IMAGE of a legacy image, from the \
+         file FILE; may be given any number of times",
+    form: OptionForm::Repeated,
+};
+
+const KEEP_FORM: OptionText = OptionText {
+    name: "keep-form",
+    value_name: "",
+    help: "Leave the payloads of a FIT where they are: inside the blob, or after it with the \
+         alignment that they have",
+    form: OptionForm::Flag,
+};
+
 const NEW_TIME: OptionText = OptionText {
     name: "time",
     value_name: "N",
@@ -711,20 +745,29 @@ static CHANGING_COMMANDS: [CommandText; 4] = [
     CommandText {
         name: "update",
         aliases: &[],
-        about: "Set the time of an image, or compute its digests again",
+        about: "Edit an image: its properties and payloads, its time, its digests",
         usage: "bootimg update [OPTIONS] [IMAGE]",
         after_help: "\
                  Reads an image, and writes to standard output its normal form with the changes\n\
-                 that the options request. At least one of --time and --hashes must be given.\n\
+                 that the options request. At least one of --remove, --set, --payload, --time,\n\
+                 --hashes and --keep-form must be given. They are made in this order, whatever\n\
+                 their order on the command line. Nothing is written if there is nothing to\n\
+                 remove, or no image or part for a payload.\n\n\
                  Hash nodes with an unknown algorithm, and those of images without a payload, are\n\
                  kept as they are. A legacy image has no hash nodes, and its checksums are always\n\
                  computed. With --hashes, --limit also bounds the payloads of a FIT together.\n\
                  Signature nodes are kept, and not checked: a note on standard error has their\n\
                  number, if there are any.\n\n\
-                 Example: bootimg update --hashes --time 1700000000 kernel.itb > new.itb",
+                 Example: bootimg update --hashes --time 1700000000 kernel.itb > new.itb\n\
+                 Example: bootimg update --set '/images/kernel-1 load 0x80200000' kernel.itb\n\
+                 Example: bootimg update --keep-form --payload kernel-1=@Image --hashes kernel.itb",
         options: &[
+            REMOVE,
+            SET,
+            PAYLOAD,
             NEW_TIME,
             HASHES,
+            KEEP_FORM,
             EXTERNAL_NORMAL,
             ALIGN,
             OFFSET,
