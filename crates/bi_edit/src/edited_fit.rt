@@ -40,7 +40,7 @@ use std::alloc::Global;
 /// one computes digests and the payloads after the edits are together longer than that, each
 /// counted for each image that has it; TooLarge at `limits.file()`, if the text is longer.
 /// OutOfMemory may come instead of any of these. Nothing is hashed before the payloads are measured.
-pub(crate) fn edit_fit<'a>(
+pub fn edit_fit<'a>(
     alloc: Global,
     fit: &Fit<'a>,
     edits: &'a [Edit<'a>],

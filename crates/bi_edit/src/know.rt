@@ -45,7 +45,10 @@ fn know_edit(edit: &Edit<'_>)
             are_bytes(payload);
         }
         Edit::SetField(value) => know_value(value),
-        Edit::SetTime(_) | Edit::SetDigests => {}
+        Edit::SetTime(time) => {
+            let _ = *time;
+        }
+        Edit::SetDigests => {}
     }
 }
 

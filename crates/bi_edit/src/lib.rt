@@ -22,5 +22,6 @@ pub use edit::{Edit, FieldValue};
 pub use edit_error::EditError;
 pub use edit_file::{Editor, edit_file, edit_file_into, edit_file_to};
 pub use edit_notes::EditNotes;
+pub use edited_fit::edit_fit;
 pub use form_choice::FormChoice;
 pub use places::{ImageName, NodePath, NodePlace, PropertyPlace};
