@@ -19,14 +19,14 @@ use Rattle.bootimg.specs.declared.codes.CodeField.TheVariants.{Os, Arch, Compres
 -- ---- new values
 
 -- The word for a field of a legacy header.
-abbrev pub field_word : FieldValue → List ℕ
-field_word (field.Name name) = codes "name"
-field_word (field.Time time) = codes "time"
-field_word (field.Load load) = codes "load"
-field_word (field.Entry entry) = codes "entry"
-field_word (field.Os code) = codes "os"
-field_word (field.Arch code) = codes "arch"
-field_word (field.Compression code) = codes "compression"
+abbrev pub field_to_set : FieldValue → List ℕ
+field_to_set (field.Name name) = codes "name"
+field_to_set (field.Time time) = codes "time"
+field_to_set (field.Load load) = codes "load"
+field_to_set (field.Entry entry) = codes "entry"
+field_to_set (field.Os code) = codes "os"
+field_to_set (field.Arch code) = codes "arch"
+field_to_set (field.Compression code) = codes "compression"
 
 -- The text is that for a value of a field: how a name is printed, a number, or a code, as
 -- `build-legacy` takes them.
@@ -42,7 +42,7 @@ IsFieldText text (field.Compression code) = IsCode Compression text code
 -- The word for a new value of a field: the word for the field, a space, and the text for the value.
 pub record IsFieldWord (word : List ℕ) (value : FieldValue) : Type 0 where
   pub text : List ℕ
-  pub is : word ≡ field_word value ++ (codes " " ++ text)
+  pub is : word ≡ field_to_set value ++ (codes " " ++ text)
   pub is_text : IsFieldText text value
 
 -- The word for a new value, of a property or of a field.
@@ -55,7 +55,7 @@ IsSetWord word edit = ⊥
 -- with a space between them, or the word for a field.
 abbrev pub set_place : Edit → List ℕ
 set_place (SetProperty place value) = join_with_byte 32 (place_words place)
-set_place (SetField value) = field_word value
+set_place (SetField value) = field_to_set value
 set_place edit = []
 
 -- The words for new values, no two of which are of one place.
@@ -66,12 +66,12 @@ pub record AreSetWords (words : List (List ℕ)) (edits : List Edit) : Type 0 wh
 -- ---- new payloads
 
 -- The word is for this payload.
-abbrev pub IsPayload : List ℕ → PayloadWord → Type 0
-IsPayload word payload = IsPayloadWord word payload.image payload.file.now
+abbrev pub IsNewPayload : List ℕ → PayloadWord → Type 0
+IsNewPayload word payload = IsPayloadWord word payload.image payload.file.now
 
 -- The words for new payloads, no two of which are of one image or part.
 pub record ArePayloadWords (words : List (List ℕ)) (payloads : List PayloadWord) : Type 0 where
-  pub each : AllZip IsPayload words payloads
+  pub each : AllZip IsNewPayload words payloads
   pub distinct : AreDistinct (map (λ payload. payload.image) payloads)
 
 -- ---- all edits but those of payloads

@@ -9,7 +9,7 @@ ghost use Rattle.bi_edit.specs.EditWords.{IsRemovalWord};
 ghost use Rattle.bootimg.specs.CommandLine.{AsksForEdits, AsksForNoEdit, IsBadValue, IsEditPlan};
 ghost use Rattle.bootimg.specs.CommandLine.{IsFailureOutcome, IsFormChoice, IsNewTime};
 ghost use Rattle.bootimg.specs.CommandLine.{texts_of};
-ghost use Rattle.bootimg.specs.EditOptions.{ArePayloadWords, IsPayload, changing_edits};
+ghost use Rattle.bootimg.specs.EditOptions.{ArePayloadWords, IsNewPayload, changing_edits};
 
 mod settings;
 
@@ -170,9 +170,9 @@ fn parse_each_payload<'a>(
     words: &[&'a str],
 ) -> Result<Vec<PayloadWord<'a>>, NoRequest>
     ensures payloads { IfOk result (λ payloads.
-        AllZip IsPayload (texts_of words.now) payloads.items) }
+        AllZip IsNewPayload (texts_of words.now) payloads.items) }
     ensures failure { IfErr result (IsFailureOutcome
-        (IsBadValue (AllZip IsPayload (texts_of words.now)))) }
+        (IsBadValue (AllZip IsNewPayload (texts_of words.now)))) }
 {
     let mut payloads = Vec::with_capacity(alloc, words.len())?;
     for word in words {
