@@ -1,17 +1,21 @@
-use Rattle.std.specs.Prelude.{◌≡◌, ◌^◌, ◌<◌, ◌≤◌, ⊤, List}
+use Rattle.std.specs.Prelude.{◌≡◌, ℕ, ◌^◌, ◌<◌, ◌≤◌, true, List, [], ◌∷◌, ◌++◌, Some, Vec}
+use Rattle.std.specs.declared.alloc.Global.{Global}
 use Rattle.std.specs.List.{AllByRecursion}
 use Rattle.bi_base.specs.Cells.{AreBytes}
 use Rattle.bi_base.specs.Limits.{Limits}
 use Rattle.bi_blob.specs.Tree.{Root, PropertyMap, depth_of}
 use Rattle.bi_fit.specs.ImageTree.{ImageTree, IsImageTree}
+use Rattle.bi_fit.specs.Names.{data_name, images_name, is_hash_name, timestamp_name, value_name}
 use Rattle.bi_plain.specs.Plain.{IsPlainTree, plain_root}
+use Rattle.bi_tree.specs.Trees.{value_by_path}
 use Rattle.bi_edit.specs.declared.edit.Edit.{Edit}
 use Rattle.bi_edit.specs.declared.edit.Edit.TheVariants.{RemoveNode, RemoveProperty, SetProperty}
 use Rattle.bi_edit.specs.declared.edit.Edit.TheVariants.{SetField, SetPayload, SetTime, SetDigests}
 use Rattle.bi_edit.specs.declared.edit.FieldValue.{FieldValue}
 use Rattle.bi_edit.specs.declared.edit.FieldValue.TheVariants as field
-use Rattle.bi_edit.specs.Edits.{IsTooDeep, edited_tree, in_edit_order, root_after}
-use Rattle.bi_edit.specs.Places.{IsChildNameOfBytes, IsPlace, IsRemovable}
+use Rattle.bi_edit.specs.Edits.{IsTooDeep, edited_root, edited_tree, in_edit_order, root_after}
+use Rattle.bi_edit.specs.Places.{IsChildNameOfBytes, IsPlace, IsRemovable, PropertyPlaceModel}
+use Rattle.bi_edit.specs.Places.{image_path}
 
 -- Laws of edits (profile of this project).
 
@@ -58,3 +62,59 @@ abbrev pub EditsKeepImageTrees : Type 0
 EditsKeepImageTrees =
     (tree : ImageTree) (edits : List Edit) → IsImageTree tree → AllByRecursion IsEditOfBytes edits
     → EditsKeepImageTree tree edits
+
+-- ---- what no edit names stays
+
+-- A path leads to the node of another one, or to a node above it.
+abbrev pub BeginsPath : (path other : List (List ℕ)) → Type 0
+BeginsPath path other = (rest : List (List ℕ)) × (other ≡ path ++ rest)
+
+-- The path of a child of an image node whose name is that of a hash node.
+pub record IsHashPath (path : List (List ℕ)) : Type 0 where
+  pub image : List ℕ
+  pub hash : List ℕ
+  pub is : path ≡ images_name ∷ image ∷ hash ∷ []
+  pub is_hash : is_hash_name hash ≡ true
+
+-- An edit names a property of a plain tree: it sets or removes it, or removes its node or one above
+-- that; or the property holds the payload, the time or a digest that it sets.
+abbrev pub IsNamedBy : Edit → (path : List (List ℕ)) → (name : List ℕ) → Type 0
+IsNamedBy (RemoveNode removed) path name = BeginsPath removed path
+IsNamedBy (RemoveProperty place) path name = (path ≡ place.path) × (name ≡ place.name)
+IsNamedBy (SetProperty place value) path name = (path ≡ place.path) × (name ≡ place.name)
+IsNamedBy (SetField value) path name = ⊥
+IsNamedBy (SetPayload image payload) path name = (path ≡ image_path image) × (name ≡ data_name)
+IsNamedBy (SetTime time) path name = (path ≡ []) × (name ≡ timestamp_name)
+IsNamedBy SetDigests path name = IsHashPath path × (name ≡ value_name)
+
+-- The value of a property that no edit names stays, or there is none before and after.
+abbrev pub OthersStay : Type 0
+OthersStay =
+    (root : Root PropertyMap) (edits : List Edit) (path : List (List ℕ)) (name : List ℕ)
+    → AllByRecursion (λ edit. ¬ (IsNamedBy edit path name)) edits
+    → value_by_path (root_after root edits) path name ≡ value_by_path root path name
+
+-- ---- what is set
+
+-- A property that was set has this value, after later edits that do not name it, too.
+abbrev pub SetValuesAreThere : Type 0
+SetValuesAreThere =
+    (root : Root PropertyMap) (place : PropertyPlaceModel) (value : Vec ℕ Global)
+    (later : List Edit)
+    → AllByRecursion (λ edit. ¬ (IsNamedBy edit place.path place.name)) later
+    → value_by_path (root_after root (SetProperty place value ∷ later)) place.path place.name
+    ≡ Some value.items
+
+-- To set the value that a property has changes nothing.
+abbrev pub SettingWhatIsThere : Type 0
+SettingWhatIsThere =
+    (root : Root PropertyMap) (place : PropertyPlaceModel) (value : Vec ℕ Global)
+    → value_by_path root place.path place.name ≡ Some value.items
+    → edited_root root (SetProperty place value) ≡ root
+
+-- Edits that change nothing of the plain tree of a flattened image tree change nothing of it.
+abbrev pub NothingChanges : Type 0
+NothingChanges =
+    (tree : ImageTree) (edits : List Edit) → IsImageTree tree
+    → root_after (plain_root tree) (in_edit_order edits) ≡ plain_root tree
+    → edited_tree edits tree ≡ tree

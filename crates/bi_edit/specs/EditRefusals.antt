@@ -1,11 +1,13 @@
 use Rattle.std.specs.Prelude.{◌≡◌, ℕ, ⊤, List, Some, slice_get, Contains}
 use Rattle.std.specs.List.{AllByRecursion}
 use Rattle.bi_base.specs.declared.fault.Cause.TheVariants.{TooDeep}
+use Rattle.bi_base.specs.declared.fault.Error.TheVariants.{OutOfMemory}
 use Rattle.bi_base.specs.declared.fault.Fault.{Fault}
 use Rattle.bi_base.specs.Errors.{IsFaultOrNoMemory}
 use Rattle.bi_base.specs.Limits.{Limits}
 use Rattle.bi_base.specs.Reading.{too_large}
 use Rattle.bi_fit.specs.declared.form.Form.{Form}
+use Rattle.bi_fit.specs.declared.form.Form.TheVariants.{Embedded}
 use Rattle.bi_fit.specs.Documents.{IsTextFault}
 use Rattle.bi_legacy.specs.Emitting.{IsEmitFault}
 use Rattle.bi_norm.specs.Meaning.{Meaning, OfLegacy, OfFit}
@@ -27,11 +29,17 @@ AreOfKind meaning edits = AllByRecursion (IsOfKind meaning) edits
 abbrev pub AreShallow : Limits → List Edit → Type 0
 AreShallow limits edits = AllByRecursion (λ edit. ¬ (IsTooDeep limits edit)) edits
 
--- One of these edits is of the other kind of boot image.
-pub record HasOtherKind (meaning : Meaning) (edits : List Edit) : Type 0 where
+-- One of these edits is not of a kind.
+pub record HasOther (IsOf : Edit → Type 0) (edits : List Edit) : Type 0 where
   pub edit : Edit
   pub there : Contains edits edit
-  pub of_other_kind : ¬ (IsOfKind meaning edit)
+  pub is_other : ¬ (IsOf edit)
+
+-- The error of finding whether edits are of a kind: one is not, or memory ran out.
+abbrev pub IsKindError : (IsOf : Edit → Type 0) → List Edit → EditError → Type 0
+IsKindError IsOf edits error.WrongKind = HasOther IsOf edits
+IsKindError IsOf edits (error.FindsNothing index) = ⊥
+IsKindError IsOf edits (error.Failed failure) = failure ≡ OutOfMemory
 
 -- One of these edits adds nodes at a depth over the limit, or would if they were not there.
 pub record HasTooDeep (limits : Limits) (edits : List Edit) : Type 0 where
@@ -66,7 +74,8 @@ IsNormalTextFault limits form (OfLegacy image) fault = IsEmitFault limits image 
 IsNormalTextFault limits form (OfFit tree) fault = IsTextFault limits form tree fault
 
 -- The fault of edits of this kind of boot image: one of them is too deep; they can be made, but the
--- payloads are over the payload bound; or the text of the edited meaning has a fault.
+-- payloads are over the payload bound; or the text of the edited meaning has a fault, in this form or
+-- in the form Embedded.
 pub data IsEditFault (limits : Limits) (form : Form) (meaning : Meaning) (edits : List Edit)
     (fault : Fault) : Type 0 where
   OfDepth : AreOfKind meaning edits → HasTooDeep limits edits
@@ -74,6 +83,9 @@ pub data IsEditFault (limits : Limits) (form : Form) (meaning : Meaning) (edits 
       → IsEditFault limits form meaning edits fault
   OfPayloads : CanBeMade limits meaning edits → NeedsTooMuch limits meaning edits
       → fault ≡ too_large limits.file → IsEditFault limits form meaning edits fault
+  OfEmbeddedText : CanBeMade limits meaning edits
+      → IsNormalTextFault limits Embedded (meaning_after edits meaning) fault
+      → IsEditFault limits form meaning edits fault
   OfText : CanBeMade limits meaning edits
       → IsNormalTextFault limits form (meaning_after edits meaning) fault
       → IsEditFault limits form meaning edits fault
@@ -81,7 +93,7 @@ pub data IsEditFault (limits : Limits) (form : Form) (meaning : Meaning) (edits 
 -- The error of edits: one of them is of the other kind of boot image; one of them finds nothing;
 -- their fault; or memory ran out.
 abbrev pub IsEditError : Limits → Form → Meaning → List Edit → EditError → Type 0
-IsEditError limits form meaning edits error.WrongKind = HasOtherKind meaning edits
+IsEditError limits form meaning edits error.WrongKind = HasOther (IsOfKind meaning) edits
 IsEditError limits form meaning edits (error.FindsNothing index) =
     IsRefusedAt limits meaning edits index
 IsEditError limits form meaning edits (error.Failed failure) =

@@ -158,15 +158,23 @@ has_part index name [] = false
 has_part index name (part ∷ later) =
     if bytes_eq name (decimal index) then true else has_part (index + 1) name later
 
+-- An edit is of a flattened image tree.
+abbrev pub IsOfTree : Edit → Type 0
+IsOfTree (SetField value) = ⊥
+IsOfTree edit = ⊤
+
+-- An edit is of a legacy image.
+abbrev pub IsOfLegacy : Edit → Type 0
+IsOfLegacy (RemoveNode path) = ⊥
+IsOfLegacy (RemoveProperty place) = ⊥
+IsOfLegacy (SetProperty place value) = ⊥
+IsOfLegacy (SetPayload part bytes) = IsPartNumber part
+IsOfLegacy edit = ⊤
+
 -- An edit is of a boot image of the kind that means this.
 abbrev pub IsOfKind : Meaning → Edit → Type 0
-IsOfKind (OfFit tree) (SetField value) = ⊥
-IsOfKind (OfFit tree) edit = ⊤
-IsOfKind (OfLegacy image) (RemoveNode path) = ⊥
-IsOfKind (OfLegacy image) (RemoveProperty place) = ⊥
-IsOfKind (OfLegacy image) (SetProperty place value) = ⊥
-IsOfKind (OfLegacy image) (SetPayload part bytes) = IsPartNumber part
-IsOfKind (OfLegacy image) edit = ⊤
+IsOfKind (OfFit tree) edit = IsOfTree edit
+IsOfKind (OfLegacy image) edit = IsOfLegacy edit
 
 -- An edit adds nodes at a depth over a limit, or would if they were not there.
 abbrev pub IsTooDeep : Limits → Edit → Type 0

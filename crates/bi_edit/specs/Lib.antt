@@ -16,3 +16,4 @@ pub mod EditNotes
 pub mod OldImages
 pub mod PlacedPayloads
 pub mod EditedFiles
+pub mod KnownEditedFiles

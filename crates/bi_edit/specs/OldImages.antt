@@ -38,5 +38,5 @@ still_placed_from old base end [] = []
 still_placed_from old base end (image ∷ later) =
     let before = model_named image.name.now old in
     payload_if_placed (place_or_absent before) (payload_or_none before)
-    (option_map (λ payload. base + up_to 4 end) image.payload)
+    (option_map (λ payload. base + up_to 4 end) (image_model image).payload)
     ++ still_placed_from old base (end_after 4 end (image_model image).payload) later

@@ -12,7 +12,7 @@ ghost use Rattle.bi_edit.specs.declared.edit.Edit.TheVariants.{SetPayload};
 
 mod digests;
 
-use crate::edit::{Edit, TURN_OF_DIGESTS};
+use crate::edit::{Edit, TURN_OF_DIGESTS, TURNS};
 use crate::places::{ImageName, NodePlace, PropertyPlace};
 use bi_tree::Tree;
 use digests::set_digests;
@@ -55,8 +55,10 @@ pub fn apply<'a>(
     ensures failed { IfErr result (IsApplyError
         (IsFirstRefused tree.old (in_edit_order edits.entry.now)) edits.entry.now) }
 {
-    apply_before_digests(alloc, tree, edits)?;
-    apply_digests(alloc, tree, edits)
+    for turn in 0..TURNS {
+        apply_turn(alloc, tree, edits, turn)?;
+    }
+    Ok(())
 }
 
 /// Makes all of these edits but those of digests, as `apply` does.

@@ -1,5 +1,7 @@
 //! Why a boot image cannot be edited.
 
+ghost use Rattle.std.specs.Prelude.{◌≡◌};
+
 use crate::applying::ApplyError;
 use bi_base::{Error, Fault};
 use std::alloc::AllocError;

@@ -1,13 +1,14 @@
 //! What a user should know after an edit.
 
-ghost use Rattle.std.specs.Prelude.{◌≡◌, ◌+◌, ◌≤◌, ◌++◌, ℕ, List, [], ◌∷◌, length, filter};
-ghost use Rattle.std.specs.Prelude.{IfOk, OnOk};
+ghost use Rattle.std.specs.Prelude.{◌≡◌, ◌↔◌, ◌+◌, ◌-◌, ◌≤◌, ◌++◌, ℕ, List, [], ◌∷◌, length};
+ghost use Rattle.std.specs.Prelude.{Some, filter, IfOk, OnOk};
 ghost use Rattle.std.specs.Option.{option_map};
 ghost use Rattle.bi_base.specs.Limits.{Limits};
 ghost use Rattle.bi_blob.specs.Layout.{longest_text};
 ghost use Rattle.bi_fit.specs.declared.form.Form.{Form};
 ghost use Rattle.bi_fit.specs.declared.form.Form.TheVariants.{External};
-ghost use Rattle.bi_fit.specs.Content.{image_model, tree_of};
+ghost use Rattle.bi_fit.specs.Content.{IsHeld, image_model, tree_of};
+ghost use Rattle.bi_fit.specs.Kept.{LosesAlignment};
 ghost use Rattle.bi_fit.specs.NormalNodes.{payloads_of};
 ghost use Rattle.bi_fit.specs.Reading.{IsReadFit};
 ghost use Rattle.bi_fit.specs.Text.{end_after as end_after_of, fit_text, payloads_end};
@@ -38,8 +39,9 @@ pub struct EditNotes {
 }
 
 /// Returns the notes after a file was edited. `new` was read from the edited blob, and `size` is
-/// the length of its text in the form of the choice. Fails if memory runs out. Requires: if the
-/// form External was given, the text in this form is that long, and no longer than the longest.
+/// the length of its text in the form of the choice. Fails if memory runs out. Requires: the images
+/// of `new` are those of its blob; and if the form External was given, the text in this form is
+/// that long, and no longer than the longest.
 pub(crate) fn notes_of(
     alloc: Global,
     choice: FormChoice,
@@ -47,6 +49,7 @@ pub(crate) fn notes_of(
     new: &Fit<'_>,
     size: u32,
 ) -> Result<EditNotes, AllocError>
+    requires held { IsHeld new.now }
     requires size { choice ≡ Given External
         → (length (fit_text External (tree_of new.now)) ≡ size) × (size ≤ longest_text) }
     ensures { IfOk result (λ notes. (limits : Limits) (file : List ℕ)
@@ -56,24 +59,61 @@ pub(crate) fn notes_of(
     let signatures = new.signature_count();
     let nothing = Kept {
         signatures,
-        ..Kept::default()
-    };
-    let mut notes = EditNotes {
-        kept: nothing,
-        inside: 0,
+        lost_alignment: None,
+        lost_positions: 0,
     };
     match choice {
-        FormChoice::Given(Form::Embedded) => notes.inside = inside_count(old, new.images()),
+        FormChoice::Given(Form::Embedded) => Ok(EditNotes {
+            kept: nothing,
+            inside: inside_count(old, new.images()),
+        }),
         FormChoice::Given(Form::External) => {
-            let base = size - external_end(new.images());
-            let placed = still_placed(alloc, old, new.images(), base)?;
-            notes.kept.lost_alignment = lost_alignment(&placed);
-            notes.kept.lost_positions = position_count(old, new.images());
+            external_notes(alloc, old, new.images(), size, signatures)
         }
-        FormChoice::Given(Form::Aligned(_)) => {}
-        FormChoice::Keep => notes.kept.lost_positions = position_count(old, new.images()),
+        FormChoice::Given(Form::Aligned(_)) => Ok(EditNotes {
+            kept: nothing,
+            inside: 0,
+        }),
+        FormChoice::Keep => Ok(EditNotes {
+            kept: Kept {
+                lost_positions: position_count(old, new.images()),
+                ..nothing
+            },
+            inside: 0,
+        }),
     }
-    Ok(notes)
+}
+
+/// Returns the notes if the form External was given. The new tree has these images and so many
+/// signature nodes, and its text has `size` bytes. Fails if memory runs out. Requires: the payloads
+/// are within the text, and that is no longer than the longest.
+fn external_notes(
+    alloc: Global,
+    old: &Fit<'_>,
+    images: &[Image<'_>],
+    size: u32,
+    signatures: usize,
+) -> Result<EditNotes, AllocError>
+    requires within { payloads_end 4 0 (payloads_of images.now) ≤ size }
+    requires small { size ≤ longest_text }
+    ensures signatures { IfOk result (λ notes. notes.kept.signatures ≡ signatures) }
+    ensures alignment { let end = payloads_end 4 0 (payloads_of images.now) in
+        let placed = still_placed_from old.now.images (size - end) 0 images.now in
+        IfOk result (λ notes. (bytes : ℕ)
+        → (notes.kept.lost_alignment ≡ Some bytes) ↔ LosesAlignment placed bytes) }
+    ensures positions { IfOk result (λ notes. notes.kept.lost_positions ≡ length (filter
+        (λ image. loses_position_from old.now.images (image_model image)) images.now)) }
+    ensures inside { IfOk result (λ notes. notes.inside ≡ 0) }
+{
+    let placed = still_placed(alloc, old, images, size - external_end(images))?;
+    Ok(EditNotes {
+        kept: Kept {
+            signatures,
+            lost_alignment: lost_alignment(&placed),
+            lost_positions: position_count(old, images),
+        },
+        inside: 0,
+    })
 }
 
 /// Returns the image with this name. Returns None if there is none.
@@ -81,7 +121,10 @@ fn image_of<'b, 'a>(old: &'b Fit<'a>, name: &[u8]) -> Option<&'b Image<'a>>
     ensures { option_map (λ image. image_model image.now) result
         ≡ model_named name.now old.entry.now.images }
 {
-    old.images().get(old.image(name)?)
+    match old.image(name) {
+        Some(index) => old.images().get(index),
+        None => None,
+    }
 }
 
 /// Returns how many of these images have a payload that is not empty, and that was not empty in the

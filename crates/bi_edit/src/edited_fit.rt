@@ -14,7 +14,7 @@ ghost use Rattle.bi_plain.specs.Plain.{plain_payloads};
 ghost use Rattle.bi_plain.specs.PlainNodes.{models_by_name};
 ghost use Rattle.bi_edit.specs.declared.edit.Edit.TheVariants.{SetDigests};
 ghost use Rattle.bi_edit.specs.EditedFits.{HasLongPayloads, IsEditedText, WasReadWithin};
-ghost use Rattle.bi_edit.specs.EditRefusals.{AreShallow, IsEditError};
+ghost use Rattle.bi_edit.specs.EditRefusals.{AreShallow, HasTooDeep, IsEditError};
 ghost use Rattle.bi_edit.specs.Edits.{IsTooDeep};
 
 use crate::applying::{apply_before_digests, apply_digests};

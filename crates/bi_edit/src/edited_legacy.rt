@@ -173,11 +173,9 @@ fn set_part<'a>(
     let Some(number) = part_number(alloc, digits)? else {
         return Ok(false);
     };
-    match parts.get_mut(number as usize) {
-        Some(part) => {
-            *part = bytes;
-            Ok(true)
-        }
-        None => Ok(false),
+    if number >= parts.len() as u64 {
+        return Ok(false);
     }
+    parts[number as usize] = bytes;
+    Ok(true)
 }

@@ -1,17 +1,15 @@
 //! Whether edits are of a kind of boot image.
 
-ghost use Rattle.std.specs.Prelude.{◌≡◌, ◌↔◌, ◌<◌, ◌^◌, IsTrue, IfOk, IfErr, OnOk, IfSome, IfNone};
+ghost use Rattle.std.specs.Prelude.{◌≡◌, ◌↔◌, ◌<◌, ◌^◌, ℕ, IsTrue, IfOk, IfErr, OnOk};
+ghost use Rattle.std.specs.Prelude.{IfSome, IfNone};
 ghost use Rattle.std.specs.Fmt.{decimal};
-ghost use Rattle.bi_fit.specs.declared.form.Form.{Form};
-ghost use Rattle.bi_fit.specs.ImageTree.{ImageTree};
-ghost use Rattle.bi_legacy.specs.Meaning.{LegacyImage};
-ghost use Rattle.bi_norm.specs.Meaning.{OfFit, OfLegacy};
-ghost use Rattle.bi_edit.specs.EditRefusals.{AreOfKind, IsEditError};
-ghost use Rattle.bi_edit.specs.Edits.{IsOfKind, IsPartNumber};
+ghost use Rattle.std.specs.List.{AllByRecursion};
+ghost use Rattle.bi_edit.specs.EditRefusals.{IsKindError};
+ghost use Rattle.bi_edit.specs.Edits.{IsOfLegacy, IsOfTree, IsPartNumber};
 
 use crate::edit::Edit;
 use crate::edit_error::EditError;
-use bi_base::{Limits, MemoryPen};
+use bi_base::MemoryPen;
 use bi_common::fields::put_decimal;
 use std::alloc::{AllocError, Global};
 use std::str;
@@ -20,9 +18,8 @@ use std::str;
 ///
 /// Error: WrongKind, if one is not.
 pub(crate) fn check_tree_kind(edits: &[Edit<'_>]) -> Result<(), EditError>
-    ensures ok { (tree : ImageTree) → OnOk result (AreOfKind (OfFit tree) edits.now) }
-    ensures failed { (limits : Limits) (form : Form) (tree : ImageTree)
-        → IfErr result (IsEditError limits form (OfFit tree) edits.now) }
+    ensures ok { OnOk result (AllByRecursion IsOfTree edits.now) }
+    ensures failed { IfErr result (IsKindError IsOfTree edits.now) }
 {
     for edit in edits {
         if !is_of_tree(edit) {
@@ -34,7 +31,7 @@ pub(crate) fn check_tree_kind(edits: &[Edit<'_>]) -> Result<(), EditError>
 
 /// Returns whether an edit is of a flattened image tree.
 fn is_of_tree(edit: &Edit<'_>) -> bool
-    ensures { (tree : ImageTree) → IsTrue result ↔ IsOfKind (OfFit tree) edit.now }
+    ensures { IsTrue result ↔ IsOfTree edit.now }
 {
     !matches!(edit, Edit::SetField(_))
 }
@@ -43,9 +40,8 @@ fn is_of_tree(edit: &Edit<'_>) -> bool
 ///
 /// Errors: WrongKind, if one is not; OutOfMemory.
 pub(crate) fn check_legacy_kind(alloc: Global, edits: &[Edit<'_>]) -> Result<(), EditError>
-    ensures ok { (image : LegacyImage) → OnOk result (AreOfKind (OfLegacy image) edits.now) }
-    ensures failed { (limits : Limits) (form : Form) (image : LegacyImage)
-        → IfErr result (IsEditError limits form (OfLegacy image) edits.now) }
+    ensures ok { OnOk result (AllByRecursion IsOfLegacy edits.now) }
+    ensures failed { IfErr result (IsKindError IsOfLegacy edits.now) }
 {
     for edit in edits {
         if !is_of_legacy(alloc, edit)? {
@@ -57,8 +53,7 @@ pub(crate) fn check_legacy_kind(alloc: Global, edits: &[Edit<'_>]) -> Result<(),
 
 /// Returns whether an edit is of a legacy image. Fails if memory runs out.
 fn is_of_legacy(alloc: Global, edit: &Edit<'_>) -> Result<bool, AllocError>
-    ensures { (image : LegacyImage) → IfOk result (λ is.
-        IsTrue is ↔ IsOfKind (OfLegacy image) edit.now) }
+    ensures { IfOk result (λ is. IsTrue is ↔ IsOfLegacy edit.now) }
 {
     match edit {
         Edit::RemoveNode(_) | Edit::RemoveProperty(_) | Edit::SetProperty(_, _) => Ok(false),
@@ -88,7 +83,19 @@ fn number_in(digits: &[u8]) -> Option<u64>
     ensures none { IfNone result (IsPartNumber digits.now → ⊥) }
 {
     match str::from_utf8(digits) {
-        Ok(text) => text.parse::<u64>().ok(),
+        Ok(text) => number_in_text(text),
+        Err(_) => None,
+    }
+}
+
+/// Does so for a text.
+fn number_in_text(text: &str) -> Option<u64>
+    ensures some { IfSome result (λ number. (other : ℕ)
+        → other < 2 ^ 64 → decimal other ≡ text.now → other ≡ number) }
+    ensures none { IfNone result (IsPartNumber text.now → ⊥) }
+{
+    match text.parse::<u64>() {
+        Ok(number) => Some(number),
         Err(_) => None,
     }
 }

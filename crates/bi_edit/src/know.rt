@@ -46,7 +46,7 @@ fn know_edit(edit: &Edit<'_>)
         }
         Edit::SetField(value) => know_value(value),
         Edit::SetTime(time) => {
-            let _ = *time;
+            let _time = *time;
         }
         Edit::SetDigests => {}
     }
@@ -56,7 +56,13 @@ fn know_edit(edit: &Edit<'_>)
 fn know_value(value: &FieldValue)
     ensures { IsFieldValue value.now }
 {
-    if let FieldValue::Name(name) = value {
-        are_bytes(name);
+    match value {
+        FieldValue::Name(name) => are_bytes(name),
+        FieldValue::Time(number) | FieldValue::Load(number) | FieldValue::Entry(number) => {
+            let _number = *number;
+        }
+        FieldValue::Os(code) | FieldValue::Arch(code) | FieldValue::Compression(code) => {
+            let _code = *code;
+        }
     }
 }
