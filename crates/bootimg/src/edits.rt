@@ -105,7 +105,7 @@ fn edit_with<'a, T: TracedWrite>(
         offset,
         source,
     } = plan;
-    let edits = with_payloads(edits, payloads, contents)?;
+    let edits = with_payloads(alloc, edits, payloads, contents)?;
     let file = image_at(image, offset as usize);
     let editor = Editor {
         edits: &edits,
@@ -123,22 +123,51 @@ fn edit_with<'a, T: TracedWrite>(
 }
 
 /// Returns these edits, and after them those that give the images of these words the contents of
-/// their files. Fails with OutOfMemory. Requires: there are as many contents as words.
+/// their files. Fails if memory runs out. Requires: there are as many contents as words.
 fn with_payloads<'r, 'a: 'r>(
+    alloc: Global,
     edits: Vec<Edit<'a>>,
     words: Vec<PayloadWord<'a>>,
     contents: &'r [Vec<u8>],
 ) -> Result<Vec<Edit<'r>>, AllocError>
-    requires { length contents.entry.now ≡ length words.entry.items }
+    requires { length contents.now ≡ length words.items }
     ensures { IfOk result (λ all. (given : List EditModel)
         × (all.items ≡ edits.entry.items ++ given)
         × ArePayloadEdits words.entry.items (contents_of contents.entry.now) given) }
 {
-    let mut all = edits;
-    for (index, word) in words.into_iter().enumerate() {
+    let mut all = edits_for(alloc, edits)?;
+    let mut index = 0;
+    for word in words {
         all.push(Edit::SetPayload(word.image, &contents[index]))?;
+        index += 1;
     }
     Ok(all)
+}
+
+/// Returns these edits for a shorter time. Fails if memory runs out.
+fn edits_for<'r, 'a: 'r>(alloc: Global, edits: Vec<Edit<'a>>) -> Result<Vec<Edit<'r>>, AllocError>
+    ensures { IfOk result (λ all. all.items ≡ edits.entry.items) }
+{
+    let mut all = Vec::new(alloc);
+    for edit in edits {
+        all.push(edit_for(edit))?;
+    }
+    Ok(all)
+}
+
+/// Returns an edit for a shorter time.
+fn edit_for<'r, 'a: 'r>(edit: Edit<'a>) -> Edit<'r>
+    ensures { result ≡ edit.entry }
+{
+    match edit {
+        Edit::RemoveNode(place) => Edit::RemoveNode(place),
+        Edit::RemoveProperty(place) => Edit::RemoveProperty(place),
+        Edit::SetProperty(place, value) => Edit::SetProperty(place, value),
+        Edit::SetField(value) => Edit::SetField(value),
+        Edit::SetPayload(image, payload) => Edit::SetPayload(image, payload),
+        Edit::SetTime(time) => Edit::SetTime(time),
+        Edit::SetDigests => Edit::SetDigests,
+    }
 }
 
 /// Returns the failure for an error of editing a file. The words are those for the removals, which
