@@ -1,4 +1,4 @@
-use Rattle.std.proofs.Common.{◌≡◌, ◌∷◌, [], ◌∙◌, ℕ, Bool, true, false, List, Bor, Option, Some, None, Result, Ok, Err, ap, refl}
+use Rattle.std.proofs.Common.{◌≡◌, ◌∷◌, [], ◌∙◌, ℕ, Bool, true, false, List, Bor, Option, Some, None, Result, Ok, Err, ap, refl, inl, inr}
 use Rattle.std.specs.Prelude.{IfSome}
 use Rattle.bi_base.specs.Limits.{Limits}
 use Rattle.bi_base.specs.Traces.{ReadTrace, WriteTrace}
@@ -14,7 +14,6 @@ use Rattle.bootimg.specs.declared.command_line.part.PartSource.TheVariants as pa
 use Rattle.bootimg.specs.declared.command_line.source.ComparePlan.{ComparePlan}
 use Rattle.bootimg.specs.declared.command_line.source.ImageSource.{ImageSource}
 use Rattle.bootimg.specs.declared.failure.Failure.{Failure}
-use Rattle.bootimg.specs.declared.jobs.SourceFailure.{SourceFailure}
 use Rattle.bootimg.specs.declared.tasks.Done.{Done}
 use Rattle.bootimg.specs.CommandLine.{IsAllRequested, IsImagesRequested, IsRequest, sources_of}
 use Rattle.bi_files.specs.Files.{FileStep, KnownFiles, Names, Opened, NotOpened, ReaderClosed, WasOpened, WasNotOpened}
