@@ -379,8 +379,8 @@ no_edits line options is remove set payload keep = record {
   no_form = flag_is_off (keep_form_flag options) (flag_is line (codes "update") options is (codes "keep-form") ∙ keep);
 }
 
-pub change_fails : (options : ArgMatches) → AsksForNoEdit options → option_of options (codes "time") ≡ None → hashes_flag options ≡ Some (codes "false") →
-    given_offset options ≡ codes "0" → IsTheOne (IsTaskFailure (codes "update") options) NoChange
+pub change_fails : (options : ArgMatches) → AsksForNoEdit options → option_of options (codes "time") ≡ None →
+    hashes_flag options ≡ Some (codes "false") → given_offset options ≡ codes "0" → IsTheOne (IsTaskFailure (codes "update") options) NoChange
 change_fails options none time flag offset =
     (NotChanged refl none (time, no_hashes_change options flag), λ failure is. only failure (update_failure options none failure is)) where
       only : (failure : Failure) → IsUpdateTaskFailure options failure → failure ≡ NoChange

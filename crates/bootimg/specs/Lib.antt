@@ -26,6 +26,7 @@ pub mod KnownWords
 pub mod KnownArguments
 pub mod KnownRequests
 pub mod KnownBuildRequests
+pub mod KnownEditOptions
 pub mod KnownRuns
 pub mod KnownImages
 pub mod KnownInputs
