@@ -35,7 +35,7 @@ IsCodeNameFailure field code (NotFound reason index) =
     × (reason ≡ 14) × (index ≡ 0)
 IsCodeNameFailure field code other = ⊥
 
--- The number is that of the code with this name. There is no output.
+-- The number is the code with this name. Nothing is written.
 pub record IsNumberOfName (field : ℕ) (name : List ℕ) (size value : ℕ) : Type 0 where
   pub is_field : field < 4
   pub is_code : code_of_name (names_of_field field) name ≡ Some value

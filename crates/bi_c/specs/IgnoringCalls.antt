@@ -35,7 +35,7 @@ pub record HasIgnoredWords (limit depth : ℕ) (input : List ℕ) (regions : Lis
     pub are_words : AreWordsOfValues (pieces_in input regions) words
 
 -- The text is what differs between two files without what the words name, in a form, and the
--- number says whether they mean the same without it.
+-- number says whether they mean the same thing without it.
 pub record IsWithoutWords (format : Format) (limit depth : ℕ) (input : List ℕ)
     (regions : List Region) (one other text : List ℕ) (value : ℕ) : Type 0
   where

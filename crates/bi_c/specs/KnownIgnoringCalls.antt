@@ -15,8 +15,8 @@ use Rattle.bi_c.specs.declared.failure.Failure.TheVariants.{Refused, WrongArgume
 
 -- Regions of an input are for words. Without the root, two trees that differ are the same: the text
 -- is empty, or JSON. Without anything left out, the image that only one of them has differs. The
--- second word is bad: it is empty. A region that ends after the input is a wrong argument. The first
--- file may be refused.
+-- second word is bad: it is empty. A region that ends after the input is a wrong argument. The
+-- first file may be refused.
 pub record IgnoringCallsAreKnown : Type 0 where
   pub words : HasIgnoredWords 0x7fffffff 64 (codes "timepart-0")
       (region_at_offset 0 4 ∷ region_at_offset 4 6 ∷ [])

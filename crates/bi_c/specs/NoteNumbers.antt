@@ -4,7 +4,7 @@ use Rattle.bi_commands.specs.UpdatedFiles.{IsUpdateKept}
 use Rattle.bi_c.specs.Arguments.{HasChanges, bounds, changes_of}
 use Rattle.bi_c.specs.declared.notes.NoteNumbers.{NoteNumbers}
 
--- What a call from C returns that tells the notes on a normal form with changes (profile of this
+-- What the call from C for the notes on a normal form with changes returns (profile of this
 -- project).
 
 -- The numbers in the notes, or 0 if there is no note.
