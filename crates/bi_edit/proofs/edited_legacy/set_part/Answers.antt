@@ -1,4 +1,4 @@
-use Rattle.std.proofs.Common.{◌≡◌, ◌<◌, ◌≤◌, sym, ap, ◌∙◌, arith, rules}
+use Rattle.std.proofs.Common.{sym, ◌∙◌, arith, rules}
 use Rattle.std.proofs.lemmas.List.{length-map, map-set}
 use Rattle.bi_base.specs.Slices.{bytes_of}
 use Rattle.bi_edit.proofs.Outcomes.{holds_of_none}
