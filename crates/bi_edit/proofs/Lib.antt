@@ -23,4 +23,5 @@ pub mod OtherDigests
 pub mod EditLaws
 pub mod OldImages
 pub mod EditedTrees
+pub mod FormLengths
 pub mod EditedFiles
