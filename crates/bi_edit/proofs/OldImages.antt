@@ -92,7 +92,8 @@ place_same file (node first own children later) (image ∷ images) read name =
 
 payload_same : (file : List ℕ) (entries : List (Sibling FileNode)) (images : List ImageModel) → AllZip (IsReadImage file) entries images →
     (name : List ℕ) →
-    option_and_then (λ before. before.payload) (image_named name (images_with (map bare_image entries) (map (λ image. image.payload) images)))
+    option_and_then (λ before. before.payload)
+    (image_named name (images_with (map bare_image entries) (map (λ image. image.payload) images)))
     ≡ payload_or_none (model_named name images)
 payload_same file [] [] read name = refl
 payload_same file [] (image ∷ images) read name = absurd read
