@@ -24,3 +24,5 @@ pub mod EditLaws
 pub mod OldImages
 pub mod EditedTrees
 pub mod EditedFiles
+pub mod EditNoteFacts
+pub mod EditOutputFacts

@@ -63,14 +63,14 @@ pub fn edit_notes_are_known()
 
 /// Small boot images have known texts after edits.
 pub fn edited_texts_are_known()
-    ensures texts { EditedTextsAreKnown }
+    ensures { EditedTextsAreKnown }
 {
     bi_norm::laws::one_meaning();
 }
 
 /// Editing small files fails with known errors, and with no others.
 pub fn edit_file_errors_are_known()
-    ensures errors { EditFileErrorsAreKnown }
+    ensures { EditFileErrorsAreKnown }
 {
     bi_norm::laws::one_meaning();
 }
