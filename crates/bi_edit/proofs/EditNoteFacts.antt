@@ -1,42 +1,29 @@
 use Rattle.std.proofs.Common.{◌≡◌, ◌≢◌, ◌↔◌, ℕ, ◌/◌, ◌%◌, ◌≤◌, true, false, List, [], ◌∷◌, ◌++◌, codes, Option, Some, None, rules}
 use Rattle.std.proofs.Common.{replicate, length, map, refl, sym, ap, subst, ◌∙◌, lit≤, true≢false, arith}
-use Rattle.std.specs.List.{AllZip}
-use Rattle.std.proofs.lemmas.Bool.{cases_lt}
-use Rattle.bi_base.specs.Alignments.{IsAlignment}
 use Rattle.bi_base.specs.Cells.{cell, cell8, u32_at}
-use Rattle.bi_base.proofs.ByteLists.{bytes_by_test}
-use Rattle.bi_blob.specs.Blob.{IsBlob}
 use Rattle.bi_blob.specs.Layout.{text_of_events, text_of_blocks, tree_with_places}
 use Rattle.bi_blob.specs.Tree.{Nodes, none, node, Root, Property, FileNode, tree_without_order, tree_without_places}
-use Rattle.bi_blob.proofs.Texts.TextBlob.{text_blob}
 use Rattle.bi_fit.specs.declared.form.Form.TheVariants.{External}
-use Rattle.bi_fit.specs.File.{IsFitFile}
 use Rattle.bi_fit.specs.ImageTree.{ImageTree, image_nodes, nodes_or_none, each_own, tree_without_payloads}
 use Rattle.bi_fit.specs.Judgement.{images_of, signature_count}
 use Rattle.bi_fit.specs.Kept.{PlacedPayload, IsPower, LosesAlignment, placed_payloads}
 use Rattle.bi_fit.specs.KnownFiles.{plain_tree, position_file, three_aligned, three_external_nodes, three_tree, tree_with_images}
 use Rattle.bi_fit.specs.KnownFiles.{region_of}
 use Rattle.bi_fit.specs.KnownKept.{kept, moved_payload}
-use Rattle.bi_fit.specs.Names.{data_name, data_position_name, data_size_name}
-use Rattle.bi_fit.specs.Payloads.{HasPayload}
 use Rattle.bi_fit.specs.Text.{blob_of, payload_places}
 use Rattle.bi_fit.proofs.FileFacts.{blob_by_test, one_plain, plain_blob, three_images_have_texts, three_plain}
 use Rattle.bi_fit.proofs.KeptPayloads.{alignment_lost}
 use Rattle.bi_fit.proofs.PowersOfTwo.{le-half, smaller_divides}
-use Rattle.bi_fit.proofs.TestedTrees.{content_by_test}
 use Rattle.bi_edit.specs.declared.edit_notes.EditNotes.{EditNotes}
 use Rattle.bi_edit.specs.declared.form_choice.FormChoice.{FormChoice}
 use Rattle.bi_edit.specs.declared.form_choice.FormChoice.TheVariants as choice
 use Rattle.bi_edit.specs.EditNotes.{AreNoNotes, AreTreeNotes, SaysOfPayloads, old_payload, old_place, still_placed}
 use Rattle.bi_edit.specs.KnownEditNotes.{NotesOfAlignedAreKnown, NotesOfPositionAreKnown, notes_about}
+use Rattle.bi_edit.proofs.PlacedFacts.{aligned_is_file, at_most_half, nodes_in, one_at, one_new, position_is_file, three_at}
 
 -- What a user should know after edits of small files.
 
 -- ---- alignments
-
--- A power that divides a number is at most the half of one that does not.
-at_most_half : (twice other n : ℕ) → IsPower twice → n % twice ≢ 0 → IsPower other → n % other ≡ 0 → other ≤ twice / 2
-at_most_half twice other n is_twice odd power whole = search (rules, cases_lt, smaller_divides, le-half)
 
 -- What is said of payloads that lose an alignment, or that lose none.
 abbrev lost : {placed : List PlacedPayload} {bytes : ℕ} → LosesAlignment placed bytes →
@@ -69,37 +56,11 @@ position_not_lost bytes loses =
 
 -- ---- the files
 
--- The image nodes of a tree.
-abbrev pub nodes_in : Root (List Property) → Nodes FileNode
-nodes_in root = nodes_or_none (image_nodes (tree_with_places [] root))
-
 -- The payloads that are still there, if the blob of the text has this length.
 abbrev placed_if : (file : List ℕ) → Root (List Property) → (old new : ImageTree) → (base : ℕ) → List PlacedPayload
 placed_if file root old new base =
     placed_payloads (map (old_place file (nodes_in root)) (images_of new)) (map (old_payload old) (images_of new))
     (payload_places 4 base 0 new.payloads)
-
--- The tree of the file with a position, and what it means.
-abbrev at_position : List Property
-at_position = (data_name, codes "old") ∷ (data_position_name, cell 180) ∷ (data_size_name, cell 3) ∷ []
-
-abbrev pub one_at : Root (List Property)
-one_at = tree_with_images (node (codes "a") at_position none none)
-
-abbrev pub one_new : ImageTree
-one_new = plain_tree (codes "a" ∷ []) (Some (codes "new") ∷ [])
-
--- The file, with its image nodes.
-unfoldable pub position_is_file : IsFitFile position_file one_new
-unfolding text_of_events text_of_blocks cell cell8 u32_at
-position_is_file = record {
-  root = tree_with_places [] one_at;
-  blob = blob_by_test one_at (codes "new") refl refl (lit≤ tt);
-  images = nodes_in one_at;
-  has_images = refl;
-  payloads = (record { begin_cell = refl; size_cell = refl; in_file = lit≤ tt; is_slice = refl }, tt);
-  is_root = one_plain (codes "a") at_position (refl, (refl, (refl, tt)));
-}
 
 notes_of_position : (chosen : FormChoice) (new : ImageTree) (notes : EditNotes) → notes.kept.signatures ≡ signature_count new →
     SaysOfPayloads chosen position_file (nodes_in one_at) one_new new notes → AreTreeNotes chosen position_file one_new new notes
@@ -130,31 +91,6 @@ notes_of_position_are_known = record {
       notes_of_position _ (plain_tree (codes "a" ∷ []) (payload ∷ [])) (notes_about None 0 0) refl
       (record { alignment = refl; positions = refl }, refl);
   signed = λ align. notes_of_position _ _ _ refl (record { alignment = refl; positions = refl }, refl);
-}
-
--- The tree of the file with aligned payloads.
-abbrev pub three_at : Root (List Property)
-three_at = tree_with_images (three_external_nodes 4096)
-
-IsAlignment-4096 : IsAlignment 4096
-IsAlignment-4096 = record { exponent = 12; least = lit≤ tt; most = lit≤ tt; is_power = refl }
-
-unfoldable pub aligned_is_file : IsFitFile (three_aligned 4096 4096) three_tree
-unfolding text_of_events text_of_blocks cell cell8 u32_at
-aligned_is_file = record {
-  root = tree_with_places [] three_at;
-  blob = text_blob 4096 0 [] three_at (codes "hello" ++ (replicate 4091 0 ++ codes "x")) IsAlignment-4096
-      (content_by_test three_at refl) (lit≤ tt) (bytes_by_test (codes "hello" ++ (replicate 4091 0 ++ codes "x")) refl);
-  images = nodes_in three_at;
-  has_images = refl;
-  payloads = (
-    record { begin_cell = refl; size_cell = refl; in_file = lit≤ tt; is_slice = refl },
-    (
-      record { begin_cell = refl; size_cell = refl; in_file = lit≤ tt; is_slice = refl },
-      (record { begin_cell = refl; size_cell = refl; in_file = lit≤ tt; is_slice = refl }, tt),
-    ),
-  );
-  is_root = three_plain (region_of 0 5) (region_of 4096 0) (region_of 4096 1) (refl, (refl, tt)) (refl, (refl, tt)) (refl, (refl, tt));
 }
 
 notes_of_aligned : (chosen : FormChoice) (new : ImageTree) (notes : EditNotes) → notes.kept.signatures ≡ signature_count new →

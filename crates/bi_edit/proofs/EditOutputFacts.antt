@@ -59,7 +59,7 @@ new_kernel_is_image = record {
   };
   name = record { short = lit≤ tt; no_zero = (eqb-false _ _ refl, tt) };
   name_bytes = bytes_by_test _ refl;
-  parts = lit< tt;
+  parts = refl;
   parts_bytes = (bytes_by_test _ refl, tt);
   size = lit< tt;
 }
@@ -191,12 +191,12 @@ module _ (one_meaning : OneFileMeaning) where
   -- ---- errors
 
   -- A file without a magic number means nothing.
-  no_edit_error : (edits : List Edit) (chosen : FormChoice) (error : EditError) →
-      ¬ (HasEditError edits chosen widest file_without_magic error)
-  no_edit_error edits chosen error is = no_magic_is_error.1 is.meaning is.means.means
+  no_edit_error : (edits : List Edit) (chosen : FormChoice) (failure : EditError) →
+      ¬ (HasEditError edits chosen widest file_without_magic failure)
+  no_edit_error edits chosen failure is = no_magic_is_error.1 is.meaning is.means.means
 
-  no_magic_only : (edits : List Edit) (chosen : FormChoice) (error : EditError) →
-      IsEditFileError edits chosen widest file_without_magic error → error ≡ error.Failed (Refused no_magic)
+  no_magic_only : (edits : List Edit) (chosen : FormChoice) (failure : EditError) →
+      IsEditFileError edits chosen widest file_without_magic failure → failure ≡ error.Failed (Refused no_magic)
   unfolding u32_at
   no_magic_only edits chosen error.WrongKind is = absurd (no_edit_error edits chosen error.WrongKind is)
   no_magic_only edits chosen (error.FindsNothing index) is = absurd (no_edit_error edits chosen (error.FindsNothing index) is)
@@ -214,12 +214,12 @@ module _ (one_meaning : OneFileMeaning) where
   no_nodes : (meaning : Meaning) → meaning ≡ OfLegacy kernel_image → ¬ (AreOfKind meaning removal)
   no_nodes meaning same kind = let here = subst (λ meaning. AreOfKind meaning removal) same kind in here.0
 
-  is_kernel : (chosen : FormChoice) (error : EditError) (is : HasEditError removal chosen widest kernel_file error) →
+  is_kernel : (chosen : FormChoice) (failure : EditError) (is : HasEditError removal chosen widest kernel_file failure) →
       is.meaning ≡ OfLegacy kernel_image
-  is_kernel chosen error is = one_meaning widest widest kernel_file is.meaning (OfLegacy kernel_image) is.means.means kernel_means
+  is_kernel chosen failure is = one_meaning widest widest kernel_file is.meaning (OfLegacy kernel_image) is.means.means kernel_means
 
-  kernel_errors : (chosen : FormChoice) (error : EditError) → IsEditFileError removal chosen widest kernel_file error →
-      (error ≡ error.WrongKind) ⊎ (error ≡ error.Failed OutOfMemory)
+  kernel_errors : (chosen : FormChoice) (failure : EditError) → IsEditFileError removal chosen widest kernel_file failure →
+      (failure ≡ error.WrongKind) ⊎ (failure ≡ error.Failed OutOfMemory)
   kernel_errors chosen error.WrongKind is = inl refl
   kernel_errors chosen (error.FindsNothing index) is =
       absurd (no_nodes is.meaning (is_kernel chosen (error.FindsNothing index) is) is.has_error.of_kind)
@@ -278,12 +278,12 @@ module _ (one_meaning : OneFileMeaning) where
 
   pub edit_file_errors_are_known : EditFileErrorsAreKnown
   edit_file_errors_are_known = record {
-    no_magic = λ edits chosen error. (
-      no_magic_only edits chosen error,
+    no_magic = λ edits chosen failure. (
+      no_magic_only edits chosen failure,
       λ same. subst (IsEditFileError edits chosen widest file_without_magic) (sym same) (inl no_magic_is_error),
     );
-    legacy = λ chosen error. (
-      kernel_errors chosen error,
+    legacy = λ chosen failure. (
+      kernel_errors chosen failure,
       λ is. elim is [
         | inl same ↦ subst (IsEditFileError removal chosen widest kernel_file) (sym same) (wrong_kind chosen)
         | inr same ↦ subst (IsEditFileError removal chosen widest kernel_file) (sym same) (no_memory chosen)

@@ -24,5 +24,8 @@ pub mod EditLaws
 pub mod OldImages
 pub mod EditedTrees
 pub mod EditedFiles
+pub mod PlacedLists
+pub mod ChosenForms
+pub mod PlacedFacts
 pub mod EditNoteFacts
 pub mod EditOutputFacts

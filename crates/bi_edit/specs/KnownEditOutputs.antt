@@ -45,17 +45,18 @@ pub record EditedTextsAreKnown : Type 0 where
 -- Editing the file fails with these errors, and with no others.
 abbrev pub FailsEditing : List Edit → FormChoice → List ℕ → (EditError → Type 0) → Type 0
 FailsEditing edits choice file IsOne =
-    (error : EditError) → (edit_promise edits choice widest).has_error file error ↔ IsOne error
+    (failure : EditError)
+    → (edit_promise edits choice widest).has_error file failure ↔ IsOne failure
 
 -- A file that is refused has this error alone. A legacy image has no nodes. Of two edits the second
 -- is made first, and finds nothing. An error of reading or of memory is not changed.
 pub record EditFileErrorsAreKnown : Type 0 where
   pub no_magic : (edits : List Edit) (choice : FormChoice)
       → FailsEditing edits choice file_without_magic
-      (λ error. error ≡ error.Failed (Refused no_magic))
+      (λ failure. failure ≡ error.Failed (Refused no_magic))
   pub legacy : (choice : FormChoice)
       → FailsEditing (RemoveNode (image_path (codes "a")) ∷ []) choice kernel_file
-      (λ error. (error ≡ error.WrongKind) ⊎ (error ≡ error.Failed OutOfMemory))
+      (λ failure. (failure ≡ error.WrongKind) ⊎ (failure ≡ error.Failed OutOfMemory))
   pub tree : (form : Form)
       → (edit_promise (SetTime 5 ∷ RemoveNode (image_path (codes "c")) ∷ []) (Given form)
       widest).has_error bare_file (error.FindsNothing 1)
