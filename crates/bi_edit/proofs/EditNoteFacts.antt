@@ -81,12 +81,12 @@ notes_of_position_are_known = record {
   embedded_empty =
       notes_of_position _ (plain_tree (codes "a" ∷ []) (Some [] ∷ [])) (notes_about None 0 0) refl
       (record { alignment = refl; positions = refl }, refl);
-  external = notes_of_position (choice.Given External) one_new (notes_about None 1 0) refl (position_lost, (refl, refl));
+  external = notes_of_position (choice.Given External) one_new (notes_about None 1 0) refl (position_lost, refl, refl);
   keep = λ payload.
-      notes_of_position choice.Keep (plain_tree (codes "a" ∷ []) (Some payload ∷ [])) (notes_about None 1 0) refl (refl, (refl, refl));
+      notes_of_position choice.Keep (plain_tree (codes "a" ∷ []) (Some payload ∷ [])) (notes_about None 1 0) refl (refl, refl, refl);
   no_payload =
-      notes_of_position choice.Keep (plain_tree (codes "a" ∷ []) (None ∷ [])) (notes_about None 0 0) refl (refl, (refl, refl));
-  no_image = notes_of_position choice.Keep (plain_tree [] []) (notes_about None 0 0) refl (refl, (refl, refl));
+      notes_of_position choice.Keep (plain_tree (codes "a" ∷ []) (None ∷ [])) (notes_about None 0 0) refl (refl, refl, refl);
+  no_image = notes_of_position choice.Keep (plain_tree [] []) (notes_about None 0 0) refl (refl, refl, refl);
   aligned = λ align payload.
       notes_of_position _ (plain_tree (codes "a" ∷ []) (payload ∷ [])) (notes_about None 0 0) refl
       (record { alignment = refl; positions = refl }, refl);
@@ -122,10 +122,10 @@ no_notes = record { signatures = refl; kept = record { alignment = refl; positio
 
 pub notes_of_aligned_are_known : NotesOfAlignedAreKnown
 notes_of_aligned_are_known = record {
-  external = notes_of_aligned (choice.Given External) three_tree (notes_about (Some 4096) 0 0) refl (alignment_is_lost, (refl, refl));
+  external = notes_of_aligned (choice.Given External) three_tree (notes_about (Some 4096) 0 0) refl (alignment_is_lost, refl, refl);
   only_empty = notes_of_aligned (choice.Given External) (plain_tree (codes "b" ∷ []) (Some [] ∷ [])) (notes_about None 0 0) refl
-      (only_empty_lost, (refl, refl));
+      (only_empty_lost, refl, refl);
   embedded = notes_of_aligned _ three_tree (notes_about None 0 2) refl (record { alignment = refl; positions = refl }, refl);
-  keep = notes_of_aligned choice.Keep three_tree (notes_about None 0 0) refl (refl, (refl, refl));
+  keep = notes_of_aligned choice.Keep three_tree (notes_about None 0 0) refl (refl, refl, refl);
   legacy = λ chosen file old new notes. (same_notes notes, λ same. subst AreNoNotes (sym same) no_notes);
 }

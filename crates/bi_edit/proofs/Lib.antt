@@ -22,6 +22,7 @@ pub mod OtherValues
 pub mod OtherDigests
 pub mod EditLaws
 pub mod OldImages
+pub mod TreeNotes
 pub mod EditedTrees
 pub mod EditedFiles
 pub mod PlacedLists

@@ -54,7 +54,7 @@ position_is_file = record {
 abbrev pub three_at : Root (List Property)
 three_at = tree_with_images (three_external_nodes 4096)
 
-IsAlignment-4096 : IsAlignment 4096
+pub IsAlignment-4096 : IsAlignment 4096
 IsAlignment-4096 = record { exponent = 12; least = lit≤ tt; most = lit≤ tt; is_power = refl }
 
 unfoldable pub aligned_is_file : IsFitFile (three_aligned 4096 4096) three_tree

@@ -11,9 +11,12 @@ abbrev pub no_placed : OutsidePayload
 no_placed = record { old_offset = 0; new_offset = 0; has_position = false }
 
 module _ (placed : List OutsidePayload) (index : ℕ) (within : index < length placed) where
+  rest_from : drop index placed ≡ get_or placed index no_placed ∷ drop (index + 1) placed
+  rest_from = rw add-one (drop-cons placed index no_placed within)
+
   placed_from : placed_list (drop index placed)
       ≡ placed_payload (get_or placed index no_placed) ∷ placed_list (drop (index + 1) placed)
-  placed_from = ap placed_list (rw add-one (drop-cons placed index no_placed within))
+  placed_from = ap placed_list rest_from
 
   -- Which of them are aligned in the file, and in the text.
   pub aligned_from : (bytes : ℕ) → AreAlignedInFile bytes (placed_list (drop index placed))
