@@ -11,7 +11,7 @@ use Rattle.bi_fit.specs.declared.form.Form.TheVariants.{Aligned}
 use Rattle.bi_fit.specs.declared.image.Image.{Image}
 use Rattle.bi_fit.specs.Content.{FitModel, image_model, tree_of}
 use Rattle.bi_fit.specs.ImageTree.{image_nodes, nodes_or_none}
-use Rattle.bi_fit.specs.Kept.{IsAlignmentOf, IsPower, PlacedPayload, placed_payloads, places_of_nodes}
+use Rattle.bi_fit.specs.Kept.{IsAlignmentOf, IsPower, PlacedPayload, placed_payloads}
 use Rattle.bi_fit.specs.NormalNodes.{payloads_of}
 use Rattle.bi_fit.specs.Reading.{IsReadFit}
 use Rattle.bi_fit.proofs.KeptPayloads.{read_places}

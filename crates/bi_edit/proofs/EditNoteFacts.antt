@@ -1,19 +1,18 @@
-use Rattle.std.proofs.Common.{◌≡◌, ◌≢◌, ◌↔◌, ℕ, ◌/◌, ◌%◌, ◌≤◌, true, false, List, [], ◌∷◌, ◌++◌, codes, Option, Some, None, rules}
-use Rattle.std.proofs.Common.{replicate, length, map, refl, sym, ap, subst, ◌∙◌, lit≤, true≢false, arith}
+use Rattle.std.proofs.Common.{◌≡◌, ◌≢◌, ◌↔◌, ℕ, ◌≤◌, true, false, List, [], ◌∷◌, codes, Some, None}
+use Rattle.std.proofs.Common.{length, map, refl, sym, ap, subst, lit≤, true≢false, arith}
 use Rattle.bi_base.specs.Cells.{cell, cell8, u32_at}
-use Rattle.bi_blob.specs.Layout.{text_of_events, text_of_blocks, tree_with_places}
-use Rattle.bi_blob.specs.Tree.{Nodes, none, node, Root, Property, FileNode, tree_without_order, tree_without_places}
+use Rattle.bi_blob.specs.Layout.{text_of_events, text_of_blocks}
+use Rattle.bi_blob.specs.Tree.{none, Root, Property}
 use Rattle.bi_fit.specs.declared.form.Form.TheVariants.{External}
-use Rattle.bi_fit.specs.ImageTree.{ImageTree, image_nodes, nodes_or_none, each_own, tree_without_payloads}
+use Rattle.bi_fit.specs.ImageTree.{ImageTree}
 use Rattle.bi_fit.specs.Judgement.{images_of, signature_count}
-use Rattle.bi_fit.specs.Kept.{PlacedPayload, IsPower, LosesAlignment, placed_payloads}
-use Rattle.bi_fit.specs.KnownFiles.{plain_tree, position_file, three_aligned, three_external_nodes, three_tree, tree_with_images}
-use Rattle.bi_fit.specs.KnownFiles.{region_of}
+use Rattle.bi_fit.specs.Kept.{PlacedPayload, LosesAlignment, placed_payloads}
+use Rattle.bi_fit.specs.KnownFiles.{plain_tree, position_file, three_aligned, three_tree}
 use Rattle.bi_fit.specs.KnownKept.{kept, moved_payload}
-use Rattle.bi_fit.specs.Text.{blob_of, payload_places}
-use Rattle.bi_fit.proofs.FileFacts.{blob_by_test, one_plain, plain_blob, three_images_have_texts, three_plain}
+use Rattle.bi_fit.specs.Text.{payload_places}
+use Rattle.bi_fit.proofs.FileFacts.{plain_blob, three_images_have_texts}
 use Rattle.bi_fit.proofs.KeptPayloads.{alignment_lost}
-use Rattle.bi_fit.proofs.PowersOfTwo.{le-half, smaller_divides}
+use Rattle.bi_fit.proofs.PowersOfTwo.{smaller_divides}
 use Rattle.bi_edit.specs.declared.edit_notes.EditNotes.{EditNotes}
 use Rattle.bi_edit.specs.declared.form_choice.FormChoice.{FormChoice}
 use Rattle.bi_edit.specs.declared.form_choice.FormChoice.TheVariants as choice
@@ -107,8 +106,8 @@ alignment_is_lost =
     ↔ LosesAlignment (placed_if (three_aligned 4096 4096) three_at three_tree three_tree base) other)
     (sym three_images_have_texts.external_blob) (lost aligned_lost)
 
-only_empty_lost : (other : ℕ) → (None ≡ Some other)
-    ↔ LosesAlignment (still_placed (three_aligned 4096 4096) (nodes_in three_at) three_tree (plain_tree (codes "b" ∷ []) (Some [] ∷ []))) other
+only_empty_lost : (other : ℕ) → (None ≡ Some other) ↔ LosesAlignment
+    (still_placed (three_aligned 4096 4096) (nodes_in three_at) three_tree (plain_tree (codes "b" ∷ []) (Some [] ∷ []))) other
 only_empty_lost = not_lost (λ bytes loses. loses.is_lost tt)
 
 same_notes : (notes : EditNotes) → AreNoNotes notes → notes ≡ notes_about None 0 0

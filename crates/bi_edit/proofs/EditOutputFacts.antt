@@ -31,7 +31,7 @@ use Rattle.bi_edit.specs.declared.edit_error.EditError.TheVariants as error
 use Rattle.bi_edit.specs.declared.form_choice.FormChoice.{FormChoice}
 use Rattle.bi_edit.specs.declared.form_choice.FormChoice.TheVariants as choice
 use Rattle.bi_edit.specs.EditedFiles.{HasEditError, IsEdited, IsEditFileError}
-use Rattle.bi_edit.specs.EditRefusals.{AreOfKind, CanBeMade, OfDepth, OfEmbeddedText, OfPayloads, OfText}
+use Rattle.bi_edit.specs.EditRefusals.{AreOfKind, OfDepth, OfEmbeddedText, OfPayloads, OfText}
 use Rattle.bi_edit.specs.Edits.{IsFirstRefusedIn, meaning_after}
 use Rattle.bi_edit.specs.FormChoices.{IsChosenForm}
 use Rattle.bi_edit.specs.KnownEditNotes.{notes_about}
