@@ -2,7 +2,7 @@ use Rattle.std.proofs.Common.{◌≡◌, ◌≢◌, ◌↔◌, ℕ, ◌≤◌, t
 use Rattle.std.proofs.Common.{length, map, refl, sym, ap, subst, lit≤, true≢false, arith}
 use Rattle.bi_base.specs.Cells.{cell, cell8, u32_at}
 use Rattle.bi_blob.specs.Layout.{text_of_events, text_of_blocks}
-use Rattle.bi_blob.specs.Tree.{none, Root, Property}
+use Rattle.bi_blob.specs.Tree.{Root, Property}
 use Rattle.bi_fit.specs.declared.form.Form.TheVariants.{External}
 use Rattle.bi_fit.specs.ImageTree.{ImageTree}
 use Rattle.bi_fit.specs.Judgement.{images_of, signature_count}

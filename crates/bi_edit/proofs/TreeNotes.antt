@@ -53,11 +53,10 @@ module _ (old new : FitModel) (held : IsHeld new) (images : List Image) (are : m
   external_notes (Err error) signatures size count long is_count alignment positions inside = tt
   external_notes (Ok notes) signatures size count long is_count alignment positions inside = λ limits file read.
       let placed : still_placed old.blob.file (old_nodes old read.held) (tree_of old) (tree_of new)
-          ≡ still_placed_from old.images (size - payloads_end 4 0 (payloads_of images)) 0 images =
+      ≡ still_placed_from old.images (size - payloads_end 4 0 (payloads_of images)) 0 images =
       external_same old read.held new held images are size long
       ∙ ap (λ end. still_placed_from old.images (size - end) 0 images) same_end in
-      tree_notes (choice.Given External) limits file old new read notes (is_count ∙ count)
-      (
+      tree_notes (choice.Given External) limits file old new read notes (is_count ∙ count) (
         subst (λ placed. (bytes : ℕ) → (notes.kept.lost_alignment ≡ Some bytes) ↔ LosesAlignment placed bytes) (sym placed) alignment,
         positions ∙ sym (positions_same old read.held new held images are),
         inside,
