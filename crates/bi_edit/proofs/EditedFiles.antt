@@ -60,8 +60,8 @@ pub edits_out_of_memory : (edits : List Edit) (choice : FormChoice) (limits : Li
 edits_out_of_memory edits choice limits file meaning means = inl (needs_memory limits file meaning means)
 
 -- An error of editing with a sink that fails only if memory runs out.
-pub edit_error_in_memory : {S : Type 0} (fails : S → List ℕ → S → Error → Type 0) (edits : List Edit) (choice : FormChoice) (limits : Limits)
-    (file : List ℕ) (old new : S) (failure : EditError) →
+pub edit_error_in_memory : {S : Type 0} (fails : S → List ℕ → S → Error → Type 0) (edits : List Edit) (choice : FormChoice)
+    (limits : Limits) (file : List ℕ) (old new : S) (failure : EditError) →
     ((text : List ℕ) (cause : Error) → fails old text new cause → cause ≡ OutOfMemory) →
     CommandFailed fails (λ cause. error.Failed cause) (IsEdited edits choice limits file) (IsEditFileError edits choice limits file) old new
     failure → IsEditFileError edits choice limits file failure
@@ -120,7 +120,8 @@ module _ (edits : List Edit) (choice : FormChoice) (limits : Limits) (file : Lis
 
   module _ (blob : List ℕ) (made : IsEditedText limits tree edits blob) where
     -- It is read, unless memory runs out.
-    pub blob_not_read : (failure : Error) → IsFitReadError limits blob failure → IsEditFileError edits choice limits file (error.Failed failure)
+    pub blob_not_read : (failure : Error) → IsFitReadError limits blob failure →
+        IsEditFileError edits choice limits file (error.Failed failure)
     blob_not_read (Refused fault) is = absurd (is.means_nothing edited made.accepted.means)
     blob_not_read OutOfMemory is = edits_out_of_memory edits choice limits file (OfFit tree) read.means
     blob_not_read ReadFailed is = absurd is
