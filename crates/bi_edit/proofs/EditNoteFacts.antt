@@ -1,4 +1,4 @@
-use Rattle.std.proofs.Common.{◌≡◌, ◌≢◌, ◌↔◌, ℕ, ◌≤◌, true, false, List, [], ◌∷◌, codes, Some, None}
+use Rattle.std.proofs.Common.{◌≡◌, ◌↔◌, ℕ, ◌≤◌, true, false, List, [], ◌∷◌, codes, Some, None}
 use Rattle.std.proofs.Common.{length, map, refl, sym, ap, subst, lit≤, true≢false, arith}
 use Rattle.bi_base.specs.Cells.{cell, cell8, u32_at}
 use Rattle.bi_blob.specs.Layout.{text_of_events, text_of_blocks}
@@ -8,7 +8,7 @@ use Rattle.bi_fit.specs.ImageTree.{ImageTree}
 use Rattle.bi_fit.specs.Judgement.{images_of, signature_count}
 use Rattle.bi_fit.specs.Kept.{PlacedPayload, LosesAlignment, placed_payloads}
 use Rattle.bi_fit.specs.KnownFiles.{plain_tree, position_file, three_aligned, three_tree}
-use Rattle.bi_fit.specs.KnownKept.{kept, moved_payload}
+use Rattle.bi_fit.specs.KnownKept.{moved_payload}
 use Rattle.bi_fit.specs.Text.{payload_places}
 use Rattle.bi_fit.proofs.FileFacts.{plain_blob, three_images_have_texts}
 use Rattle.bi_fit.proofs.KeptPayloads.{alignment_lost}

@@ -1,7 +1,7 @@
-use Rattle.std.proofs.Common.{◌≡◌, ℕ, Bool, true, false, cond, List, [], ◌∷◌, ◌++◌, Option, Some, None, bytes_eq, is_some, option_map, refl, sym, ap, subst, ◌∙◌}
+use Rattle.std.proofs.Common.{◌≡◌, ℕ, Bool, true, false, List, [], ◌∷◌, Option, Some, None, bytes_eq, is_some, option_map, refl, sym, ap, subst, ◌∙◌}
 use Rattle.std.proofs.Common.{nat_cmp, true≢false}
 use Rattle.std.specs.Option.{option_and_then}
-use Rattle.std.specs.FinMap.{empty, get, get-empty, insert, remove}
+use Rattle.std.specs.FinMap.{empty, get, get-empty}
 use Rattle.std.specs.Cmp.Lexicographic.{slice_cmp}
 use Rattle.bi_base.proofs.EqualBytes.{same_bytes}
 use Rattle.bi_blob.specs.Tree.{Nodes, none, node, Root, PropertyMap}
