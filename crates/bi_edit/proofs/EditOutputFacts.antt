@@ -31,7 +31,7 @@ use Rattle.bi_edit.specs.declared.edit_error.EditError.TheVariants as error
 use Rattle.bi_edit.specs.declared.form_choice.FormChoice.{FormChoice}
 use Rattle.bi_edit.specs.declared.form_choice.FormChoice.TheVariants as choice
 use Rattle.bi_edit.specs.EditedFiles.{HasEditError, IsEdited, IsEditFileError}
-use Rattle.bi_edit.specs.EditRefusals.{AreOfKind, OfDepth, OfEmbeddedText, OfPayloads, OfText}
+use Rattle.bi_edit.specs.EditRefusals.{AreOfKind, OfDepth, OfPayloads, OfText}
 use Rattle.bi_edit.specs.Edits.{IsFirstRefusedIn, meaning_after}
 use Rattle.bi_edit.specs.FormChoices.{IsChosenForm}
 use Rattle.bi_edit.specs.KnownEditNotes.{notes_about}
@@ -229,7 +229,6 @@ module _ (one_meaning : OneFileMeaning) where
       elim is.has_error [
         | OfDepth kind deep same ↦ absurd (others kind)
         | OfPayloads can needs same ↦ absurd (others can.of_kind)
-        | OfEmbeddedText can has ↦ absurd (others can.of_kind)
         | OfText can has ↦ absurd (others can.of_kind)
       ]
   kernel_errors chosen (error.Failed OutOfMemory) is = inr refl
