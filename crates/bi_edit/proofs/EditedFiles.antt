@@ -1,4 +1,4 @@
-use Rattle.std.proofs.Common.{◌≡◌, ◌<◌, ◌≤◌, ◌^◌, ℕ, List, length, Result, Ok, Err, refl, sym, ap, subst, ◌∙◌, inl, inr, arith}
+use Rattle.std.proofs.Common.{◌≡◌, ◌<◌, ◌≤◌, ◌^◌, ℕ, List, length, Ok, Err, refl, sym, ap, subst, ◌∙◌, inl, inr}
 use Rattle.std.specs.List.{AllByRecursion}
 use Rattle.bi_base.specs.declared.fault.Error.{Error}
 use Rattle.bi_base.specs.declared.fault.Error.TheVariants.{Refused, OutOfMemory, ReadFailed, WriteFailed}
@@ -16,7 +16,6 @@ use Rattle.bi_fit.specs.Text.{fit_text}
 use Rattle.bi_fit.proofs.FileTrees.{is_image_tree}
 use Rattle.bi_fit.proofs.TextLaws.{normal_fit_text_is_accepted}
 use Rattle.bi_legacy.specs.Emitting.{HasNoEmitFault, WroteImage}
-use Rattle.bi_legacy.specs.File.{LegacyMeans}
 use Rattle.bi_legacy.specs.Meaning.{LegacyImage}
 use Rattle.bi_legacy.specs.Reading.{IsReadLegacy, LegacyModel}
 use Rattle.bi_legacy.specs.Text.{legacy_text}
@@ -36,7 +35,7 @@ use Rattle.bi_edit.specs.declared.edit_notes.EditNotes.{EditNotes}
 use Rattle.bi_edit.specs.declared.form_choice.FormChoice.{FormChoice}
 use Rattle.bi_edit.specs.declared.form_choice.FormChoice.TheVariants as form_choice
 use Rattle.bi_edit.specs.Applying.{IsApplyError}
-use Rattle.bi_edit.specs.EditNotes.{AreEditNotes, AreNoNotes, AreTreeNotes}
+use Rattle.bi_edit.specs.EditNotes.{AreNoNotes, AreTreeNotes}
 use Rattle.bi_edit.specs.EditedFiles.{HasEditError, IsEdited, IsEditFileError, IsEditOutput}
 use Rattle.bi_edit.specs.EditedFits.{IsEditedText, edit_error_of}
 use Rattle.bi_edit.specs.EditLaws.{IsEditOfBytes}
@@ -45,7 +44,7 @@ use Rattle.bi_edit.specs.Edits.{AllHaveParts, IsFirstWithoutPart, edited_tree, i
 use Rattle.bi_edit.specs.FormChoices.{IsChosenForm}
 use Rattle.bi_edit.proofs.EditedTrees.{edits_keep_image_trees, order_each}
 use Rattle.bi_edit.proofs.FormLengths.{embedded_fault_is_fault}
-use Rattle.bi_edit.proofs.LegacyContents.{HasContent, edits_keep_content, legacy_shallow}
+use Rattle.bi_edit.proofs.LegacyContents.{edits_keep_content, legacy_shallow}
 
 -- What is written of edits of a file, and its errors.
 
