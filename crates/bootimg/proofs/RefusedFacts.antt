@@ -4,13 +4,14 @@ use Rattle.std.specs.Prelude.{◌↔◌, IfNone, IfSome, IsTrue, is_some, nat_le
 use Rattle.std.specs.Option.{option_or}
 use Rattle.std.specs.List.{AllByRecursion, find}
 use Rattle.std.proofs.lemmas.List.Folds.{find-append}
-use Rattle.std.proofs.lemmas.List.{append_assoc, flat_map-append, map-append, map_more, take-append-drop, take_all, take_more}
+use Rattle.std.proofs.lemmas.List.{append_assoc, map-append, map_more, take-append-drop, take_all, take_more}
 use Rattle.std.proofs.lemmas.Bool.{le-leb, lt-leb}
-use Rattle.std.proofs.lemmas.List.Concat.{flat_map_single}
+use Rattle.std.proofs.lemmas.List.Concat.{flat_map-append, flat_map_single}
 use Rattle.bi_base.proofs.ListMembers.{each-append}
 use Rattle.std.specs.Borrow.{Bor}
 use Rattle.bootimg.specs.CommandLine.{NoneIs, texts_of}
-use Rattle.bootimg.specs.RefusedWords.{FindsFirst, GivenWordModel, IsFirstRefusedWord, IsRefused, OptionTextModel, all_option_words}
+use Rattle.bootimg.specs.RefusedWords.{FindsFirst, GivenWordModel, IsFirstRefusedWord, IsRefused, OptionTextModel, RefusedWordModel}
+use Rattle.bootimg.specs.RefusedWords.{all_option_words}
 use Rattle.bootimg.specs.RefusedWords.{option_words}
 use Rattle.bootimg.specs.RefusedWords.{option_text_model, taking_options, words_given}
 use Rattle.bootimg.specs.RefusedWords.{edits_between, first_near, given_word}
@@ -113,6 +114,10 @@ pub found_in_map : {X : Type 0} (f : X → GivenWordModel) (xs : List X) (found 
     → FindsFirst (map f xs) found
 found_in_map f xs found is = subst (λ l. FindsFirst l found) (flat_map_single f xs) is
 
+-- A refused word, with a name that is near it.
+abbrev pub refused_with : GivenWordModel → (near : Option (List ℕ)) → RefusedWordModel
+refused_with given near = record { given = given; near = near }
+
 -- ---- options
 
 -- A word of an option.
@@ -166,7 +171,7 @@ near_at : (most : ℕ) (names : List (Bor (List ℕ))) (word : List ℕ) (i : �
     → first_near most (texts_of (take i names)) word ≡ None
     → first_near most (texts_of (take (i + 1) names)) word ≡ first_near most ((get_or names i no_word).now ∷ []) word
 near_at most names word i within none =
-    let near = λ name. nat_le (edits_between word name) most in
+    let near : List ℕ → Bool = λ name. nat_le (edits_between word name) most in
     let one = (get_or names i no_word).now in
     ap (find near) (map_more (λ name. name.now) names i no_word within)
     ∙ find-append near (texts_of (take i names)) (one ∷ [])
@@ -177,10 +182,10 @@ pub near_found : (most : ℕ) (names : List (Bor (List ℕ))) (word : List ℕ) 
     → first_near most (texts_of (take i names)) word ≡ None → edits_between word (get_or names i no_word).now ≤ most
     → first_near most (texts_of names) word ≡ Some (get_or names i no_word).now
 near_found most names word i within none few =
-    let near = λ name. nat_le (edits_between word name) most in
+    let near : List ℕ → Bool = λ name. nat_le (edits_between word name) most in
     let one = (get_or names i no_word).now in
-    ap (find near) (sym (map-append (λ name. name.now) (take (i + 1) names) (drop (i + 1) names)
-    ∙ ap (map (λ name. name.now)) (take-append-drop (i + 1) names)))
+    ap (find near) (sym (ap (map (λ name. name.now)) (take-append-drop (i + 1) names))
+    ∙ map-append (λ name. name.now) (take (i + 1) names) (drop (i + 1) names))
     ∙ find-append near (texts_of (take (i + 1) names)) (texts_of (drop (i + 1) names))
     ∙ ap (λ first. option_or first (find near (texts_of (drop (i + 1) names))))
     (near_at most names word i within none ∙ rw (le-leb (edits_between word one) most few) refl)
@@ -196,20 +201,20 @@ near_not_yet most names word i within none many =
 -- ---- whether a word is taken
 
 pub true_is_taken : (taken : Bool) (Is : Type 0) → IsTrue taken ↔ Is → taken ≡ true → Is
-true_is_taken taken Is says yes = says.0 yes
+true_is_taken taken Is says holds = says.0 holds
 
 pub false_is_refused : (taken : Bool) (Is : Type 0) → IsTrue taken ↔ Is → taken ≡ false → ¬ Is
-false_is_refused taken Is says no is = true≢false (sym (says.1 is) ∙ no)
+false_is_refused taken Is says fails is = true≢false (sym (says.1 is) ∙ fails)
 
 -- An option with a value exactly for words that are taken.
 pub taken_if_some : {T : Type 0} (Is : T → Type 0) (given : Option T) (is_given : Bool) → IfSome given Is → IfNone given (NoneIs Is)
     → is_given ≡ is_some given → IsTrue is_given ↔ ((value : T) × Is value)
-taken_if_some Is None is_given some none same = (λ yes. absurd (true≢false (sym yes ∙ same)), λ is. absurd (none is.0 is.1))
-taken_if_some Is (Some value) is_given some none same = (λ yes. (value, some), λ is. same)
+taken_if_some Is None is_given some none same = (λ holds. absurd (true≢false (sym holds ∙ same)), λ is. absurd (none is.0 is.1))
+taken_if_some Is (Some value) is_given some none same = (λ holds. (value, some), λ is. same)
 
 -- The same, if the value is known by its word.
 pub taken_if_known : {T : Type 0} (Is : T → Type 0) (given : Option T) (is_given : Bool) → IfSome given Is
     → ((value : T) → Is value → given ≡ Some value) → is_given ≡ is_some given → IsTrue is_given ↔ ((value : T) × Is value)
 taken_if_known Is None is_given some exactly same =
-    (λ yes. absurd (true≢false (sym yes ∙ same)), λ is. absurd (let e : None ≡ Some is.0 = exactly is.0 is.1 in cc))
-taken_if_known Is (Some value) is_given some exactly same = (λ yes. (value, some), λ is. same)
+    (λ holds. absurd (true≢false (sym holds ∙ same)), λ is. absurd (let e : None ≡ Some is.0 = exactly is.0 is.1 in cc))
+taken_if_known Is (Some value) is_given some exactly same = (λ holds. (value, some), λ is. same)
