@@ -184,11 +184,12 @@ pub near_found : (most : ℕ) (names : List (Bor (List ℕ))) (word : List ℕ) 
 near_found most names word i within none few =
     let near : List ℕ → Bool = λ name. nat_le (edits_between word name) most in
     let one = (get_or names i no_word).now in
+    let found : first_near most (texts_of (take (i + 1) names)) word ≡ Some one =
+        near_at most names word i within none ∙ rw (le-leb (edits_between word one) most few) refl in
     ap (find near) (sym (ap (map (λ name. name.now)) (take-append-drop (i + 1) names))
     ∙ map-append (λ name. name.now) (take (i + 1) names) (drop (i + 1) names))
     ∙ find-append near (texts_of (take (i + 1) names)) (texts_of (drop (i + 1) names))
-    ∙ ap (λ first. option_or first (find near (texts_of (drop (i + 1) names))))
-    (near_at most names word i within none ∙ rw (le-leb (edits_between word one) most few) refl)
+    ∙ ap (λ first. option_or first (find near (texts_of (drop (i + 1) names)))) found
 
 -- It is not.
 pub near_not_yet : (most : ℕ) (names : List (Bor (List ℕ))) (word : List ℕ) (i : ℕ) → i < length names
