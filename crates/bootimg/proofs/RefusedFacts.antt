@@ -89,15 +89,15 @@ pub none_refused : {X : Type 0} (f : X → List GivenWordModel) (xs : List X) (i
 none_refused f xs i past all = subst (λ l. AllByRecursion IsTakenThere (flat_map f l)) (take_all i xs past) all
 
 -- What a list of words gives past its end.
-abbrev pub no_word : Bor (List ℕ)
-no_word = record { ref_ptr = (0, 0); now = [] }
+abbrev pub no_lent_word : Bor (List ℕ)
+no_lent_word = record { ref_ptr = (0, 0); now = [] }
 
 -- What lists give past their ends.
-abbrev pub no_given : GivenWord
-no_given = record { place = place.Option no_word; takes = takes.Anything; word = no_word }
+abbrev pub no_given_word : GivenWord
+no_given_word = record { place = place.Option no_lent_word; takes = takes.Anything; word = no_lent_word }
 
 abbrev pub no_option : OptionText
-no_option = record { name = no_word; value_name = no_word; help = no_word; form = form.Flag; takes = takes.Anything }
+no_option = record { name = no_lent_word; value_name = no_lent_word; help = no_lent_word; form = form.Flag; takes = takes.Anything }
 
 -- ---- one word for each
 
@@ -115,8 +115,8 @@ pub found_in_map : {X : Type 0} (f : X → GivenWordModel) (xs : List X) (found 
 found_in_map f xs found is = subst (λ l. FindsFirst l found) (flat_map_single f xs) is
 
 -- A refused word, with a name that is near it.
-abbrev pub refused_with : GivenWordModel → (near : Option (List ℕ)) → RefusedWordModel
-refused_with given near = record { given = given; near = near }
+abbrev pub given_near : GivenWordModel → (near : Option (List ℕ)) → RefusedWordModel
+given_near given near = record { given = given; near = near }
 
 -- ---- options
 
@@ -169,21 +169,21 @@ more_options values table i d (Some given) texts within named first is none = ab
 
 near_at : (most : ℕ) (names : List (Bor (List ℕ))) (word : List ℕ) (i : ℕ) → i < length names
     → first_near most (texts_of (take i names)) word ≡ None
-    → first_near most (texts_of (take (i + 1) names)) word ≡ first_near most ((get_or names i no_word).now ∷ []) word
+    → first_near most (texts_of (take (i + 1) names)) word ≡ first_near most ((get_or names i no_lent_word).now ∷ []) word
 near_at most names word i within none =
     let near : List ℕ → Bool = λ name. nat_le (edits_between word name) most in
-    let one = (get_or names i no_word).now in
-    ap (find near) (map_more (λ name. name.now) names i no_word within)
+    let one = (get_or names i no_lent_word).now in
+    ap (find near) (map_more (λ name. name.now) names i no_lent_word within)
     ∙ find-append near (texts_of (take i names)) (one ∷ [])
     ∙ ap (λ first. option_or first (find near (one ∷ []))) none
 
 -- A name is near, and none before it is.
 pub near_found : (most : ℕ) (names : List (Bor (List ℕ))) (word : List ℕ) (i : ℕ) → i < length names
-    → first_near most (texts_of (take i names)) word ≡ None → edits_between word (get_or names i no_word).now ≤ most
-    → first_near most (texts_of names) word ≡ Some (get_or names i no_word).now
+    → first_near most (texts_of (take i names)) word ≡ None → edits_between word (get_or names i no_lent_word).now ≤ most
+    → first_near most (texts_of names) word ≡ Some (get_or names i no_lent_word).now
 near_found most names word i within none few =
     let near : List ℕ → Bool = λ name. nat_le (edits_between word name) most in
-    let one = (get_or names i no_word).now in
+    let one = (get_or names i no_lent_word).now in
     let found : first_near most (texts_of (take (i + 1) names)) word ≡ Some one =
         near_at most names word i within none ∙ rw (le-leb (edits_between word one) most few) refl in
     ap (find near) (sym (ap (map (λ name. name.now)) (take-append-drop (i + 1) names))
@@ -193,10 +193,10 @@ near_found most names word i within none few =
 
 -- It is not.
 pub near_not_yet : (most : ℕ) (names : List (Bor (List ℕ))) (word : List ℕ) (i : ℕ) → i < length names
-    → first_near most (texts_of (take i names)) word ≡ None → most < edits_between word (get_or names i no_word).now
+    → first_near most (texts_of (take i names)) word ≡ None → most < edits_between word (get_or names i no_lent_word).now
     → first_near most (texts_of (take (i + 1) names)) word ≡ None
 near_not_yet most names word i within none many =
-    let one = (get_or names i no_word).now in
+    let one = (get_or names i no_lent_word).now in
     near_at most names word i within none ∙ rw (lt-leb (edits_between word one) most many) refl
 
 -- ---- whether a word is taken
