@@ -185,7 +185,7 @@ near_found most names word i within none few =
     let near : List ℕ → Bool = λ name. nat_le (edits_between word name) most in
     let one = (get_or names i no_lent_word).now in
     let found : first_near most (texts_of (take (i + 1) names)) word ≡ Some one =
-        near_at most names word i within none ∙ rw (le-leb (edits_between word one) most few) refl in
+    near_at most names word i within none ∙ rw (le-leb (edits_between word one) most few) refl in
     ap (find near) (sym (ap (map (λ name. name.now)) (take-append-drop (i + 1) names))
     ∙ map-append (λ name. name.now) (take (i + 1) names) (drop (i + 1) names))
     ∙ find-append near (texts_of (take (i + 1) names)) (texts_of (drop (i + 1) names))
