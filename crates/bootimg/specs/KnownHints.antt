@@ -63,7 +63,7 @@ pub record RefusedWordsAreKnown : Type 0 where
       ≡ codes "image 1: LEN takes a length in bytes, and a file is given as @FILE"
   pub near : near_name (names_taken (takes.Code Arch)) (codes "amd64") ≡ Some (codes "arm64")
   pub nearer : near_name (names_taken takes.Key) (codes "fd") ≡ Some (codes "fdt")
-  pub none_near : near_name (names_taken takes.Key) (codes "payload") ≡ None
+  pub none_near : near_name (names_taken takes.Key) (codes "disk") ≡ None
 
 -- Failures have known hints, and without hints none.
 pub record FailureHintsAreKnown : Type 0 where
