@@ -46,3 +46,4 @@ pub mod SaidTopics
 pub mod MessageFacts
 pub mod RefusedFacts
 pub mod HintFacts
+pub mod ImageWriters

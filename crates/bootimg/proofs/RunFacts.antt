@@ -79,6 +79,11 @@ run_is_rejected source failure hint run read written changed reports status = re
   status = status;
 }
 
+-- So it was with the hint for the failure.
+pub run_is_kept : (hints : Bool) (source : ImageSource) (failure : Failure) (hint : Option (List ℕ)) (run : Run)
+    → hint ≡ hint_given hints failure → IsRejection source failure hint run → IsRejection source failure (hint_given hints failure) run
+run_is_kept hints source failure hint run is rejected = subst (λ given. IsRejection source failure given run) is rejected
+
 -- The hint for a failure that is not one of the arguments is one for it, whatever the arguments.
 pub hint_of_failure : (hints : Bool) (arguments : List (List ℕ)) (failure : Failure) (hint : Option (List ℕ))
     → failure ≡ Call OutOfMemory → hint ≡ hint_given hints failure → IsHintAt hints arguments failure hint
