@@ -45,6 +45,7 @@ use Rattle.clap.proofs.OnLiterals.{clap_on_literals}
 use Rattle.bootimg.specs.CommandLine.{Gives, IsExplained, IsJob, TakesImages}
 use Rattle.bootimg.specs.Explanations.{explain_text}
 use Rattle.bootimg.specs.Failures.{failure_of}
+use Rattle.bootimg.specs.KnownHints.{no_terminal}
 use Rattle.bootimg.specs.KnownInputs.{two_files, without_files}
 use Rattle.bootimg.specs.KnownWorks.{AllWorksAreKnown, ExplainRunsAreKnown, ExplainWorkIsKnown, FitPlansAreKnown, ImageWorksAreKnown}
 use Rattle.bootimg.specs.KnownWorks.{OutputsInFilesAreKnown, PartsOfFilesAreKnown, TaskFailuresAreKnown, TaskOutputsAreKnown}

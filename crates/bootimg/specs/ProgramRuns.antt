@@ -1,6 +1,6 @@
 use Rattle.std.specs.Prelude.{◌≡◌, ℕ, Bool, false, List, Option, None, Some}
 use Rattle.std.specs.Borrow.{Bor}
-use Rattle.bi_base.specs.Traces.{ReadsWell, WritesWell}
+use Rattle.bi_base.specs.Traces.{ReadsWell, WriteTrace, WritesWell}
 use Rattle.clap.specs.declared.error.kind.ErrorKind.{ErrorKind}
 use Rattle.bootimg.specs.declared.command_line.Request.{Request}
 use Rattle.bootimg.specs.declared.command_line.extract.AllRequest.{AllRequest}
@@ -12,7 +12,7 @@ use Rattle.bootimg.specs.CommandLine.{IsAllRequested, IsImagesRequested}
 use Rattle.bi_files.specs.Files.{FileStep, KnownFiles}
 use Rattle.bootimg.specs.Hints.{IsHintAt}
 use Rattle.bootimg.specs.Runs.{IsAllRun, IsRejection, IsRequestRun, IsTextRun, Run, inputs_after}
-use Rattle.bootimg.specs.Runs.{inputs_before}
+use Rattle.bootimg.specs.Runs.{Reports, inputs_before}
 use Rattle.bootimg.specs.SeveralImages.{Streams, AreDone, AreSaved}
 use Rattle.bootimg.specs.declared.command_line.images.ImagesRequest.{ImagesRequest}
 
@@ -47,6 +47,12 @@ pub data IsImagesRun (files : KnownFiles) (hints : Bool) (request : ImagesReques
         → AreSaved files hints request name (inputs_before run) (inputs_after run) run.errors
         run.new_errors run.status
         → run.new_output ≡ run.output → IsImagesRun files hints request run (Some name)
+
+-- The line of a failure of these arguments was written, and its hint after it, if there is one.
+abbrev pub IsUsageReport : (hints : Bool) → List (List ℕ) → Failure → (old new : WriteTrace) → Type 0
+IsUsageReport hints arguments failure old new =
+    (hint : Option (List ℕ)) × IsHintAt hints arguments failure hint
+    × Reports Standard failure hint old new
 
 -- The program ran with these arguments: it did the job that they request, also with each of several
 -- images, or extracted all payloads, rejected them, or wrote a text that clap has for them. Where

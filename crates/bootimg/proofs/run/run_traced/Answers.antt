@@ -35,8 +35,8 @@ pub returns-in-Err-Failure : goal.returns-in-Err-Failure
 returns-in-Err-Failure g c =
     let is : c.in-Err-Failure.field-0 ≡ outcome.Failure c.in-Err-Failure.failure = search rules in
     Rejected c.in-Err-Failure.failure (subst (λ o. IsNoRequest (texts_of c.args.arguments.now) o) is c.in-Err-Failure.ensures.failure)
-    _ c.usage_hint-hint.ensures
-    (run_is_rejected _ _ _ _ refl refl refl c.report_failure.ensures.line c.report_failure.ensures.status)
+    c.report_usage.ensures.line.0 c.report_usage.ensures.line.1
+    (run_is_rejected _ _ _ _ refl refl refl c.report_usage.ensures.line.2 c.report_usage.ensures.status)
 
 pub returns-in-Ok : goal.returns-in-Ok
 returns-in-Ok g c =
@@ -48,4 +48,4 @@ pub returns : goal.returns
 returns g c =
     Rejected _ (NoMemory (ap (λ error. Call error) c.from.ensures)) _
     (hint_of_failure _ _ _ _ (ap (λ error. Call error) c.from.ensures) c.hint_if.ensures)
-    (run_is_rejected _ _ _ _ refl refl refl c.report_failure-in-Err.ensures.line c.report_failure-in-Err.ensures.status)
+    (run_is_rejected _ _ _ _ refl refl refl c.report_failure.ensures.line c.report_failure.ensures.status)
