@@ -58,19 +58,21 @@ IsUsageReport hints arguments failure old new =
 -- images, or extracted all payloads, rejected them, or wrote a text that clap has for them. Where
 -- standard error is a terminal, a hint follows the line of a failure; where it is none, there are
 -- no hints.
-pub data IsRun (terminal : Terminal) (arguments : List (List ℕ)) (files : KnownFiles) (run : Run) : Type 0 where
-  RanJob : (request : Request) → IsRequest arguments request → HasJobLengths request.job
-      → IsRequestRun terminal files request run → IsRun terminal arguments files run
-  RanEach : (request : ImagesRequest) → IsImagesRequested arguments request
-      → IsImagesRun files terminal.errors request run request.output
-      → IsRun terminal arguments files run
-  ExtractedAll : (request : AllRequest) → IsAllRequested arguments request
-      → IsAllRun terminal.errors files request run → IsRun terminal arguments files run
-  Rejected : (failure : Failure) → IsRejected arguments failure → (hint : Option (List ℕ))
-      → IsHintAt terminal.errors arguments failure hint
-      → IsRejection Standard failure hint run → IsRun terminal arguments files run
-  WroteText : (kind : ErrorKind) (text : List ℕ) → IsTextFor arguments kind
-      → IsTextRun terminal.errors kind text run → IsRun terminal arguments files run
+pub data IsRun (terminal : Terminal) (arguments : List (List ℕ)) (files : KnownFiles) (run : Run)
+    : Type 0
+  where
+    RanJob : (request : Request) → IsRequest arguments request → HasJobLengths request.job
+        → IsRequestRun terminal files request run → IsRun terminal arguments files run
+    RanEach : (request : ImagesRequest) → IsImagesRequested arguments request
+        → IsImagesRun files terminal.errors request run request.output
+        → IsRun terminal arguments files run
+    ExtractedAll : (request : AllRequest) → IsAllRequested arguments request
+        → IsAllRun terminal.errors files request run → IsRun terminal arguments files run
+    Rejected : (failure : Failure) → IsRejected arguments failure → (hint : Option (List ℕ))
+        → IsHintAt terminal.errors arguments failure hint
+        → IsRejection Standard failure hint run → IsRun terminal arguments files run
+    WroteText : (kind : ErrorKind) (text : List ℕ) → IsTextFor arguments kind
+        → IsTextRun terminal.errors kind text run → IsRun terminal arguments files run
 
 -- The program ran over plain streams: it did what traces of these streams record, which begin when
 -- the run does.
