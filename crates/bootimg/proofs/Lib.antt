@@ -46,4 +46,3 @@ pub mod SaidTopics
 pub mod MessageFacts
 pub mod RefusedFacts
 pub mod HintFacts
-pub mod ImageWriters

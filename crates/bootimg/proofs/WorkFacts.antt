@@ -57,6 +57,7 @@ use Rattle.bootimg.specs.ProgramRuns.{ExtractedAll, RanEach}
 use Rattle.bootimg.specs.Runs.{IsFileNotRead, CouldNotOpen, OpenedNotRead, IsHeldFailure, IsHeldWork, IsJobWork, IsPlanWork, IsOutputRun}
 use Rattle.bootimg.specs.Runs.{IsPart, IsPartNotRead, IsSavedWork, IsTaskWork, NoMemoryForExplanation, NoOutput, NotExtracted, Notes}
 use Rattle.bootimg.specs.ProgramRuns.{IsRun}
+use Rattle.bootimg.specs.Runs.{DidJob, KeptFromTerminal}
 use Rattle.bootimg.specs.Runs.{NothingRead, OutputNotSaved, OutputSaved, PayloadsNotSaved, PayloadsSaved, Run, Succeeded}
 use Rattle.bootimg.specs.ProgramRuns.{RanJob, Rejected}
 use Rattle.bootimg.specs.Runs.{ToFile, ToStandardOutput, Work, WroteExplanation, failure_in_memory, source_failure}
