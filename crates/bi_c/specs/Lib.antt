@@ -22,6 +22,7 @@ pub mod LegacyElements
 pub mod NodeElements
 pub mod NoteNumbers
 pub mod PieceBuilding
+pub mod PlanBuilding
 pub mod TreeBuilding
 pub mod TreeElements
 pub mod TreeRegions
