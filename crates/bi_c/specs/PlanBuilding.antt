@@ -1,18 +1,23 @@
 use Rattle.std.specs.Prelude.{ℕ, ◌+◌, ◌<◌, ◌≤◌, ◌≡◌, List, Option, None, Some, if◌then◌else◌}
 use Rattle.std.specs.Prelude.{⊤, length, map, take, drop}
 use Rattle.std.specs.List.{AllByRecursion, AllZip}
+use Rattle.std.specs.Option.{option_map}
 use Rattle.bi_base.specs.declared.fault.Fault.{Fault}
 use Rattle.bi_base.specs.declared.fault.Error.TheVariants as error
+use Rattle.bi_base.specs.Slices.{bytes_of}
+use Rattle.bi_fit.specs.declared.building.ConfigurationSpec.{ConfigurationSpec}
 use Rattle.bi_fit.specs.declared.building.Head.{Head}
 use Rattle.bi_fit.specs.declared.key.Key.{Key}
 use Rattle.bi_fit.specs.declared.key.Key.TheVariants.{Kernel, Fdt, Ramdisk, Firmware, Loadables}
 use Rattle.bi_fit.specs.declared.key.Key.TheVariants.{Script}
 use Rattle.bi_fit.specs.Building.{ConfigurationSpecModel}
+use Rattle.bi_fit.specs.NamedImages.{configuration_spec_model, configuration_spec_models}
 use Rattle.bi_hash.specs.declared.algo.Algo.{Algo}
 use Rattle.bi_hash.specs.declared.algo.Algo.TheVariants.{Crc32, Md5, Sha1, Sha256, Sha384}
 use Rattle.bi_hash.specs.declared.algo.Algo.TheVariants.{Sha512}
 use Rattle.bi_norm.specs.declared.fit_building.ImageSpec.{ImageSpec}
 use Rattle.bi_norm.specs.FitBuilding.{ImageTextsModel, IsBuildErrorAs, IsBuiltAs, PlanSpecModel}
+use Rattle.bi_norm.specs.FitBuilding.{descriptions_models, texts_models}
 use Rattle.bi_c.specs.Arguments.{bounds, has_bit, HasForm}
 use Rattle.bi_c.specs.PieceBuilding.{IsPieceInside, bytes_of_piece}
 use Rattle.bi_c.specs.TreeBuilding.{IsSpecInside, IsSpecOf}
@@ -20,10 +25,13 @@ use Rattle.bi_c.specs.declared.failure.Failure.{Failure}
 use Rattle.bi_c.specs.declared.failure.Failure.TheVariants.{WrongArgument, Refused, OutOfMemory}
 use Rattle.bi_c.specs.declared.failure.Failure.TheVariants.{NotFound}
 use Rattle.bi_c.specs.declared.fit_building.BuildElement.{BuildElement}
+use Rattle.bi_c.specs.declared.plan_building.Arrays.{Arrays}
 use Rattle.bi_c.specs.declared.plan_building.BuildConfiguration.{BuildConfiguration}
 use Rattle.bi_c.specs.declared.plan_building.BuildOptions.{BuildOptions}
 use Rattle.bi_c.specs.declared.plan_building.BuildTexts.{BuildTexts}
+use Rattle.bi_c.specs.declared.plan_building.PlanParts.{PlanParts}
 use Rattle.bi_c.specs.declared.plan_building.Range.{Range}
+use Rattle.bi_c.specs.declared.plan_building.Settings.{Settings}
 use Rattle.bi_c.specs.declared.region.Region.{Region}
 
 -- The FITs that a call from C builds from pieces of the caller's memory, with a plan of their
@@ -188,3 +196,61 @@ IsPlanFailure pieces WrongArgument = ¬ (ArePieces pieces)
 IsPlanFailure pieces (Refused file fault) = (file ≡ 1) × IsPlanRefusal pieces fault
 IsPlanFailure pieces OutOfMemory = AreOptions pieces.input pieces.options
 IsPlanFailure pieces (NotFound reason index) = ⊥
+
+-- ---- what its parts return
+
+-- What the caller passes, if it passes these arrays.
+abbrev pub pieces_of_call : (input : List ℕ) → BuildOptions → Arrays → PlanPieces
+pieces_of_call input options arrays = record {
+  input = input;
+  options = options;
+  images = arrays.images.now;
+  texts = arrays.texts.now;
+  configurations = arrays.configurations.now;
+  lists = arrays.lists.now;
+  algorithms = arrays.algorithms.now;
+}
+
+-- What the options stand for.
+pub record AreSettingsOf (input : List ℕ) (options : BuildOptions) (settings : Settings) : Type 0
+  where
+    pub valid : AreOptions input options
+    pub is_form : settings.form ≡ valid.arguments.form
+    pub are_limits : settings.limits ≡ bounds options.limit options.depth
+    pub is_description :
+        settings.head.description.now ≡ bytes_of_piece input options.description
+    pub is_time : settings.head.time ≡ options.time
+    pub is_default : option_map (λ name. name.now) settings.default
+        ≡ piece_if_given options.given input options.default
+
+-- What the elements of the arrays stand for, except the configurations.
+pub record ArePartsOf (input : List ℕ) (arrays : Arrays) (parts : PlanParts) : Type 0 where
+  pub texts_inside : AllByRecursion (AreTextsInside input) arrays.texts.now
+  pub lists_inside : AllByRecursion (IsPieceInside input) arrays.lists.now
+  pub are_numbers : AllByRecursion (λ number. number < 6) arrays.algorithms.now
+  pub images : AllZip (IsSpecOf input) arrays.images.now parts.images.items
+  pub texts : texts_models parts.texts.items ≡ map (texts_if_given input) arrays.texts.now
+  pub descriptions : descriptions_models parts.descriptions.items
+      ≡ map (description_if_given input) arrays.texts.now
+  pub lists : bytes_of parts.lists.items ≡ map (bytes_of_piece input) arrays.lists.now
+  pub algorithms : parts.algorithms.items ≡ map algorithm_of arrays.algorithms.now
+
+-- The configuration that an element stands for,
+pub record IsConfigurationOf (input : List ℕ) (lists : List Region)
+    (configuration : BuildConfiguration) (spec : ConfigurationSpec) : Type 0
+  where
+    pub inside : IsConfigurationInside input lists configuration
+    pub is : configuration_spec_model spec ≡ configuration_of input lists configuration
+
+-- and those that all elements stand for.
+pub record AreConfigurationsOf (input : List ℕ) (lists : List Region)
+    (configurations : List BuildConfiguration) (specs : List ConfigurationSpec) : Type 0
+  where
+    pub inside : AllByRecursion (IsConfigurationInside input lists) configurations
+    pub are : configuration_spec_models specs ≡ map (configuration_of input lists) configurations
+
+-- Why the elements of an array stand for nothing. Memory may run out before all are looked at.
+abbrev pub IsElementFailure : (AreValid : Type 0) → Failure → Type 0
+IsElementFailure AreValid WrongArgument = ¬ AreValid
+IsElementFailure AreValid OutOfMemory = ⊤
+IsElementFailure AreValid other = ⊥
