@@ -1,5 +1,5 @@
 use Rattle.std.specs.Prelude.{ℕ, ◌+◌, ◌<◌, ◌≤◌, ◌≡◌, List, Option, None, Some, if◌then◌else◌}
-use Rattle.std.specs.Prelude.{⊤, length, map, take, drop}
+use Rattle.std.specs.Prelude.{Bool, ⊤, length, map, take, drop}
 use Rattle.std.specs.List.{AllByRecursion, AllZip}
 use Rattle.std.specs.Option.{option_map}
 use Rattle.bi_base.specs.declared.fault.Fault.{Fault}
@@ -54,9 +54,9 @@ options_size = 64
 -- ---- what the arguments stand for
 
 -- The bytes of a region of an input, if something is given.
-abbrev pub piece_if_given : (is_given : ℕ) → (input : List ℕ) → Region → Option (List ℕ)
+abbrev pub piece_if_given : (is_given : Bool) → (input : List ℕ) → Region → Option (List ℕ)
 piece_if_given is_given input region =
-    if has_bit 1 is_given then Some (bytes_of_piece input region) else None
+    if is_given then Some (bytes_of_piece input region) else None
 
 -- The texts that an element has instead of the codes of its image.
 abbrev pub texts_if_given : (input : List ℕ) → BuildTexts → Option ImageTextsModel
@@ -72,7 +72,7 @@ texts_if_given input texts =
 
 -- The description that it has.
 abbrev pub description_if_given : (input : List ℕ) → BuildTexts → Option (List ℕ)
-description_if_given input texts = piece_if_given texts.given input texts.description
+description_if_given input texts = piece_if_given (has_bit 1 texts.given) input texts.description
 
 -- The texts in a range of the regions of an input.
 abbrev pub texts_in : (input : List ℕ) → List Region → Range → List (List ℕ)
@@ -93,7 +93,8 @@ abbrev pub configuration_of : (input : List ℕ) → List Region → BuildConfig
     → ConfigurationSpecModel
 configuration_of input lists configuration = record {
   name = bytes_of_piece input configuration.name;
-  description = piece_if_given configuration.given input configuration.description;
+  description =
+      piece_if_given (has_bit 1 configuration.given) input configuration.description;
   compatible = texts_in input lists configuration.compatible;
   lists = λ key. texts_in input lists (range_of_key configuration key);
 }
@@ -111,7 +112,8 @@ algorithm_of other = Sha512
 abbrev pub plan_of_pieces : PlanPieces → PlanSpecModel
 plan_of_pieces pieces = record {
   configurations = map (configuration_of pieces.input pieces.lists) pieces.configurations;
-  default = piece_if_given pieces.options.given pieces.input pieces.options.default;
+  default =
+      piece_if_given (has_bit 1 pieces.options.given) pieces.input pieces.options.default_name;
   algorithms = map algorithm_of pieces.algorithms;
   texts = map (texts_if_given pieces.input) pieces.texts;
   descriptions = map (description_if_given pieces.input) pieces.texts;
@@ -149,7 +151,7 @@ pub record AreOptions (input : List ℕ) (options : BuildOptions) : Type 0 where
   pub is_size : options.size ≡ options_size
   pub arguments : HasForm options.limit options.depth options.form
   pub description : IsPieceInside input options.description
-  pub default : IsPieceInside input options.default
+  pub default : IsPieceInside input options.default_name
   pub is_flag : options.given < 2
 
 -- All arguments are valid. A region of what is not given must be inside the input, too, as one of no
@@ -221,7 +223,7 @@ pub record AreSettingsOf (input : List ℕ) (options : BuildOptions) (settings :
         settings.head.description.now ≡ bytes_of_piece input options.description
     pub is_time : settings.head.time ≡ options.time
     pub is_default : option_map (λ name. name.now) settings.default
-        ≡ piece_if_given options.given input options.default
+        ≡ piece_if_given (has_bit 1 options.given) input options.default_name
 
 -- What the elements of the arrays stand for, except the configurations.
 pub record ArePartsOf (input : List ℕ) (arrays : Arrays) (parts : PlanParts) : Type 0 where

@@ -98,7 +98,7 @@ pub struct BuildOptions {
     /// The description of the tree.
     pub description: Region,
     /// The name of the default configuration, if there is one.
-    pub default: Region,
+    pub default_name: Region,
     /// The time of creation, in seconds since 1970.
     pub time: u32,
     /// Where the payloads are.
@@ -245,7 +245,7 @@ fn settings_of<'a>(input: &'a [u8], options: &BuildOptions) -> Option<Settings<'
             description: piece(input, options.description)?,
             time: options.time,
         },
-        default: piece_if(options.given, input, options.default)?,
+        default: piece_if(has_bit(1, options.given), input, options.default_name)?,
         form: form_of(options.form)?,
         limits: limits_of(options.limit, options.depth)?,
     })
@@ -341,7 +341,7 @@ fn descriptions_of<'a>(
 {
     let mut descriptions = Vec::new(alloc);
     for element in elements {
-        let Some(given) = piece_if(element.given, input, element.description) else {
+        let Some(given) = piece_if(has_bit(1, element.given), input, element.description) else {
             return Err(Failure::WrongArgument);
         };
         match descriptions.push(given) {
@@ -354,14 +354,14 @@ fn descriptions_of<'a>(
 
 /// Returns the bytes of a region of an input, if something is given. Returns None if the region is
 /// not inside the input.
-fn piece_if<'a>(is_given: u32, input: &'a [u8], region: Region) -> Option<Option<&'a [u8]>>
+fn piece_if<'a>(is_given: bool, input: &'a [u8], region: Region) -> Option<Option<&'a [u8]>>
     ensures inside { IfSome result (λ given. IsPieceInside input.entry.now region) }
     ensures given { IfSome result (λ given. option_map (λ bytes. bytes.now) given
         ≡ piece_if_given is_given input.entry.now region) }
     ensures none { IfNone result (¬ (IsPieceInside input.entry.now region)) }
 {
     let bytes = piece(input, region)?;
-    if has_bit(1, is_given) {
+    if is_given {
         Some(Some(bytes))
     } else {
         Some(None)
@@ -418,7 +418,7 @@ fn configuration_of<'r>(
     }
     Some(ConfigurationSpec {
         name: piece(input, element.name)?,
-        description: piece_if(element.given, input, element.description)?,
+        description: piece_if(has_bit(1, element.given), input, element.description)?,
         compatible: part(pieces, element.compatible)?,
         kernel: part(pieces, element.kernel)?,
         fdt: part(pieces, element.fdt)?,
