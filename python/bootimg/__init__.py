@@ -132,6 +132,7 @@ CONCERNS = (
 )
 VERDICTS = ("good", "bad", "unknown-algorithm", "no-payload", "malformed")
 KEYS = ("kernel", "fdt", "ramdisk", "firmware", "loadables", "script")
+ALGORITHMS = ("crc32", "md5", "sha1", "sha256", "sha384", "sha512")
 REASONS = (
     "the selection does not fit this kind of image",
     "no such part",
