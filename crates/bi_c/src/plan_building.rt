@@ -27,7 +27,7 @@ use crate::region::Region;
 use bi_base::Limits;
 use bi_fit::{ConfigurationSpec, Head};
 use bi_hash::Algo;
-use bi_norm::{Form, ImageTexts, PlanSpec, build_fit_as};
+use bi_norm::{Form, ImageSpec, ImageTexts, PlanSpec, build_fit_as};
 use std::alloc::Global;
 
 /// The size of the struct of options in bytes.
