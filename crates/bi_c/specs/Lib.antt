@@ -15,6 +15,7 @@ pub mod KnownLegacyCalls
 pub mod KnownNotes
 pub mod KnownNumbers
 pub mod KnownPaths
+pub mod KnownPlanCalls
 pub mod KnownTreeCalls
 pub mod KnownTreeElements
 pub mod KnownValueCalls

@@ -25,6 +25,7 @@ mod known_elements;
 mod known_ignoring;
 mod known_numbers;
 mod known_paths;
+mod known_plan_calls;
 mod legacy;
 mod nodes;
 mod normalise;

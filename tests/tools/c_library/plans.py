@@ -48,7 +48,8 @@ def images_of(entry, options, has_texts):
 
 
 def configurations_of(options):
-    for name, lists in options["config"]:
+    for name, listed in options["config"]:
+        lists = {key.decode(): names for key, names in listed.items()}
         texts = [text for configured, text in options["compatible"] if configured == name]
         yield bootimg.BuildConfiguration(name, **lists, compatible=texts, description=options["describe-config"].get(name))
 
