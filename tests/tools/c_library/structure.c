@@ -240,7 +240,7 @@ static struct plan plan_of(struct memory file, struct memory input, uint32_t for
     struct plan plan = {
         .options = {.size = sizeof(bootimg_build_options), .time = 7, .form = form, .limit = BOOTIMG_LIMIT, .depth = BOOTIMG_DEPTH,
                     .given = BOOTIMG_HAS_DEFAULT},
-        .images = {{.payload = {0, file.size}, .image_type = 4},
+        .images = {{.payload = {0, file.size}, .os = 5, .arch = 22, .image_type = 4},
                    {.payload = {file.size / 2, file.size - file.size / 2}, .os = 5, .arch = 22, .image_type = 8}},
         .texts = {{.given = BOOTIMG_HAS_DESCRIPTION + BOOTIMG_HAS_TEXTS}, {.given = BOOTIMG_HAS_DESCRIPTION}},
         .configurations = {{.kernel = {0, 1}}, {.compatible = {4, 2}, .kernel = {0, 1}, .loadables = {1, 3}, .given = BOOTIMG_HAS_DESCRIPTION}},
