@@ -18,10 +18,10 @@ one_more_inside P xs index none within all next =
     subst (AllByRecursion P) (sym (take_more xs index none within)) (each-append P (take index xs) (get_or xs index none ∷ []) all (next, tt))
 
 -- What the first elements stand for, and the next one.
-pub one_more : {X Y : Type 0} (f : X → Y) (xs : List X) (index : ℕ) (none : X) (before after : List Y) (next : Y) → index < length xs →
+pub one_more_meant : {X Y : Type 0} (f : X → Y) (xs : List X) (index : ℕ) (none : X) (before after : List Y) (next : Y) → index < length xs →
     after ≡ before ++ next ∷ [] → next ≡ f (get_or xs index none) → before ≡ map f (take index xs) →
     after ≡ map f (take (index + 1) xs)
-one_more f xs index none before after next within added is so_far =
+one_more_meant f xs index none before after next within added is so_far =
     added ∙ (λ i. so_far i ++ is i ∷ []) ∙ sym (map_more f xs index none within)
 
 -- The same of what models stand for.
@@ -29,5 +29,5 @@ pub one_more_model : {X Y Z : Type 0} (f : X → Z) (model : Y → Z) (xs : List
     index < length xs → after ≡ before ++ next ∷ [] → model next ≡ f (get_or xs index none) →
     map model before ≡ map f (take index xs) → map model after ≡ map f (take (index + 1) xs)
 one_more_model f model xs index none before after next within added is so_far =
-    one_more f xs index none (map model before) (map model after) (model next) within
+    one_more_meant f xs index none (map model before) (map model after) (model next) within
     (ap (map model) added ∙ map-append model before (next ∷ [])) is so_far

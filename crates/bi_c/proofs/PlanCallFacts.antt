@@ -16,10 +16,10 @@ use Rattle.bi_norm.specs.Converting.{code_name}
 use Rattle.bi_norm.specs.FitBuilding.{PlanSpecModel, spec_model, spec_models, tree_of_images}
 use Rattle.bi_norm.specs.KnownPlans.{firmware_texts}
 use Rattle.bi_c.specs.KnownPlanCalls.{AlgorithmNumbersAreKnown, HasWrongArgument, PlanIsKnown, WrongPlansAreKnown}
-use Rattle.bi_c.specs.KnownPlanCalls.{images_planned, known_element, known_pieces, known_spec, listed_names, pieces_of_plan}
+use Rattle.bi_c.specs.KnownPlanCalls.{images_planned, known_element, known_pieces, known_spec, names_under_key, pieces_of_plan}
 use Rattle.bi_c.specs.KnownPlanCalls.{planned_kernel, tree_plan}
 use Rattle.bi_c.specs.KnownTreeCalls.{kernel_element, ramdisk_element}
-use Rattle.bi_c.specs.PlanBuilding.{ArePieces, IsPlanFailure, IsPlannedTree, PlanPieces, plan_of_pieces, range_of_key, texts_in}
+use Rattle.bi_c.specs.PlanBuilding.{ArePieces, IsPlanFailure, IsPlannedTree, PlanPieces, plan_of_pieces, range_of_key, texts_of_range}
 use Rattle.bi_c.specs.TreeBuilding.{IsSpecOf}
 use Rattle.bi_c.specs.declared.failure.Failure.{Failure}
 use Rattle.bi_c.specs.declared.failure.Failure.TheVariants.{Refused, NotFound, OutOfMemory, WrongArgument}
@@ -30,7 +30,7 @@ use Rattle.bi_c.proofs.FormNumbers.{embedded_by_number, no_form_below_four}
 
 -- ---- the plan
 
-names_are : (key : Key) → texts_in pieces_of_plan known_pieces.lists (range_of_key known_element key) ≡ listed_names key
+names_are : (key : Key) → texts_of_range pieces_of_plan known_pieces.lists (range_of_key known_element key) ≡ names_under_key key
 names_are Kernel = refl
 names_are Fdt = refl
 names_are Ramdisk = refl

@@ -102,18 +102,18 @@ known_pieces = record {
 
 -- ---- what it stands for
 
-abbrev pub listed_names : Key → List (List ℕ)
-listed_names Kernel = codes "kernel-1" ∷ []
-listed_names Ramdisk = codes "ramdisk-1" ∷ []
-listed_names Loadables = codes "ramdisk-1" ∷ codes "kernel-1" ∷ []
-listed_names other = []
+abbrev pub names_under_key : Key → List (List ℕ)
+names_under_key Kernel = codes "kernel-1" ∷ []
+names_under_key Ramdisk = codes "ramdisk-1" ∷ []
+names_under_key Loadables = codes "ramdisk-1" ∷ codes "kernel-1" ∷ []
+names_under_key other = []
 
 abbrev pub known_configuration : ConfigurationSpecModel
 known_configuration = record {
   name = codes "c";
   description = Some (codes "board c");
   compatible = codes "acme,one" ∷ [];
-  lists = listed_names;
+  lists = names_under_key;
 }
 
 abbrev pub known_spec : PlanSpecModel
@@ -176,8 +176,8 @@ HasWrongArgument pieces =
 abbrev pub with_options : BuildOptions → PlanPieces
 with_options options = record known_pieces { options = options }
 
-abbrev pub with_texts : BuildTexts → PlanPieces
-with_texts texts = record known_pieces { texts = kernel_texts ∷ texts ∷ [] }
+abbrev pub with_other_texts : BuildTexts → PlanPieces
+with_other_texts texts = record known_pieces { texts = kernel_texts ∷ texts ∷ [] }
 
 abbrev pub with_configuration : BuildConfiguration → PlanPieces
 with_configuration configuration =
@@ -191,7 +191,7 @@ pub record WrongPlansAreKnown : Type 0 where
   pub larger : HasWrongArgument (with_options (record known_options { size = 72 }))
   pub flag : HasWrongArgument (with_options (record known_options { given = 2 }))
   pub form : HasWrongArgument (with_options (record known_options { form = 2 }))
-  pub sum : HasWrongArgument (with_texts (record ramdisk_texts { given = 4 }))
+  pub sum : HasWrongArgument (with_other_texts (record ramdisk_texts { given = 4 }))
   pub range : HasWrongArgument
       (with_configuration (record known_element { compatible = range_at 2 2 }))
   pub list : HasWrongArgument (with_configuration (record known_element { fdt = range_at 4 0 }))
@@ -201,6 +201,6 @@ pub record WrongPlansAreKnown : Type 0 where
   pub no_description : HasWrongArgument
       (with_configuration (record known_element { description = region_at_offset 65 0; given = 0 }))
   pub no_texts : HasWrongArgument
-      (with_texts (record ramdisk_texts { os = region_at_offset 64 1 }))
+      (with_other_texts (record ramdisk_texts { os = region_at_offset 64 1 }))
   pub no_default : HasWrongArgument
       (with_options (record known_options { default_name = region_at_offset 60 5; given = 0 }))

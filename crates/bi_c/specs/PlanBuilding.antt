@@ -1,4 +1,4 @@
-use Rattle.std.specs.Prelude.{ℕ, ◌+◌, ◌<◌, ◌≤◌, ◌≡◌, List, Option, None, Some, if◌then◌else◌}
+use Rattle.std.specs.Prelude.{ℕ, ◌+◌, ◌<◌, ◌≤◌, ◌≡◌, ◌==◌, List, Option, None, Some, if◌then◌else◌}
 use Rattle.std.specs.Prelude.{Bool, ⊤, length, map, take, drop}
 use Rattle.std.specs.List.{AllByRecursion, AllZip}
 use Rattle.std.specs.Option.{option_map}
@@ -75,8 +75,8 @@ abbrev pub description_if_given : (input : List ℕ) → BuildTexts → Option (
 description_if_given input texts = piece_if_given (has_bit 1 texts.given) input texts.description
 
 -- The texts in a range of the regions of an input.
-abbrev pub texts_in : (input : List ℕ) → List Region → Range → List (List ℕ)
-texts_in input lists range =
+abbrev pub texts_of_range : (input : List ℕ) → List Region → Range → List (List ℕ)
+texts_of_range input lists range =
     map (bytes_of_piece input) (take range.count (drop range.first lists))
 
 -- The range of the names that a configuration lists under a key.
@@ -89,29 +89,30 @@ range_of_key configuration Loadables = configuration.loadables
 range_of_key configuration Script = configuration.script
 
 -- The configuration that an element of the caller's array is.
-abbrev pub configuration_of : (input : List ℕ) → List Region → BuildConfiguration
+abbrev pub configuration_of_element : (input : List ℕ) → List Region → BuildConfiguration
     → ConfigurationSpecModel
-configuration_of input lists configuration = record {
+configuration_of_element input lists configuration = record {
   name = bytes_of_piece input configuration.name;
   description =
       piece_if_given (has_bit 1 configuration.given) input configuration.description;
-  compatible = texts_in input lists configuration.compatible;
-  lists = λ key. texts_in input lists (range_of_key configuration key);
+  compatible = texts_of_range input lists configuration.compatible;
+  lists = λ key. texts_of_range input lists (range_of_key configuration key);
 }
 
 -- The algorithm with this number, counted from 0 in the order of `--hash`.
 abbrev pub algorithm_of : ℕ → Algo
-algorithm_of 0 = Crc32
-algorithm_of 1 = Md5
-algorithm_of 2 = Sha1
-algorithm_of 3 = Sha256
-algorithm_of 4 = Sha384
-algorithm_of other = Sha512
+algorithm_of number =
+    if number == 0 then Crc32
+    else if number == 1 then Md5
+    else if number == 2 then Sha1
+    else if number == 3 then Sha256
+    else if number == 4 then Sha384
+    else Sha512
 
 -- The plan.
 abbrev pub plan_of_pieces : PlanPieces → PlanSpecModel
 plan_of_pieces pieces = record {
-  configurations = map (configuration_of pieces.input pieces.lists) pieces.configurations;
+  configurations = map (configuration_of_element pieces.input pieces.lists) pieces.configurations;
   default =
       piece_if_given (has_bit 1 pieces.options.given) pieces.input pieces.options.default_name;
   algorithms = map algorithm_of pieces.algorithms;
@@ -226,7 +227,7 @@ pub record AreSettingsOf (input : List ℕ) (options : BuildOptions) (settings :
         ≡ piece_if_given (has_bit 1 options.given) input options.default_name
 
 -- What the elements of the arrays stand for, except the configurations.
-pub record ArePartsOf (input : List ℕ) (arrays : Arrays) (parts : PlanParts) : Type 0 where
+pub record ArePlanParts (input : List ℕ) (arrays : Arrays) (parts : PlanParts) : Type 0 where
   pub texts_inside : AllByRecursion (AreTextsInside input) arrays.texts.now
   pub lists_inside : AllByRecursion (IsPieceInside input) arrays.lists.now
   pub are_numbers : AllByRecursion (λ number. number < 6) arrays.algorithms.now
@@ -242,14 +243,14 @@ pub record IsConfigurationOf (input : List ℕ) (lists : List Region)
     (configuration : BuildConfiguration) (spec : ConfigurationSpec) : Type 0
   where
     pub inside : IsConfigurationInside input lists configuration
-    pub is : configuration_spec_model spec ≡ configuration_of input lists configuration
+    pub is : configuration_spec_model spec ≡ configuration_of_element input lists configuration
 
 -- and those that all elements stand for.
 pub record AreConfigurationsOf (input : List ℕ) (lists : List Region)
     (configurations : List BuildConfiguration) (specs : List ConfigurationSpec) : Type 0
   where
     pub inside : AllByRecursion (IsConfigurationInside input lists) configurations
-    pub are : configuration_spec_models specs ≡ map (configuration_of input lists) configurations
+    pub are : configuration_spec_models specs ≡ map (configuration_of_element input lists) configurations
 
 -- Why the elements of an array stand for nothing. Memory may run out before all are looked at.
 abbrev pub IsElementFailure : (AreValid : Type 0) → Failure → Type 0

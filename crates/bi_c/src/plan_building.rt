@@ -9,12 +9,12 @@ ghost use Rattle.bi_base.specs.Slices.{bytes_of};
 ghost use Rattle.bi_norm.specs.FitBuilding.{descriptions_models, image_texts_model, texts_models};
 ghost use Rattle.bi_c.specs.Answers.{FillsBuffer};
 ghost use Rattle.bi_c.specs.PieceBuilding.{IsPieceInside, bytes_of_piece};
-ghost use Rattle.bi_c.specs.PlanBuilding.{AreConfigurationsOf, AreOptions, ArePartsOf, ArePieces};
+ghost use Rattle.bi_c.specs.PlanBuilding.{AreConfigurationsOf, AreOptions, ArePlanParts, ArePieces};
 ghost use Rattle.bi_c.specs.PlanBuilding.{AreSettingsOf, AreTextsInside, IsConfigurationInside};
 ghost use Rattle.bi_c.specs.PlanBuilding.{IsConfigurationOf, IsElementFailure, IsPlanFailure};
-ghost use Rattle.bi_c.specs.PlanBuilding.{IsPlannedTree, algorithm_of as algorithm_with};
-ghost use Rattle.bi_c.specs.PlanBuilding.{description_if_given, piece_if_given, pieces_of_call};
-ghost use Rattle.bi_c.specs.PlanBuilding.{texts_if_given};
+ghost use Rattle.bi_c.specs.PlanBuilding.{IsPlannedTree, PlanPieces, description_if_given};
+ghost use Rattle.bi_c.specs.PlanBuilding.{algorithm_of as algorithm_with, piece_if_given};
+ghost use Rattle.bi_c.specs.PlanBuilding.{pieces_of_call, texts_if_given};
 ghost use Rattle.bi_c.specs.declared.plan_building.BuildOptions.{BuildOptions as OptionsModel};
 ghost use Rattle.bi_c.specs.declared.region.Region.{Region as RegionModel};
 
@@ -169,7 +169,7 @@ pub extern "C" fn bootimg_build_fit_as(
     buffer: &mut [u8],
     answer: &mut Answer,
 ) -> u32
-    ensures { let pieces = record {
+    ensures { let pieces : PlanPieces = record {
       input = input.now;
       options = options.now;
       images = images.now;
@@ -259,7 +259,7 @@ fn parts_of<'a>(
     input: &'a [u8],
     arrays: Arrays<'_>,
 ) -> Result<PlanParts<'a>, Failure>
-    ensures parts { IfOk result (ArePartsOf input.entry.now arrays.entry) }
+    ensures parts { IfOk result (ArePlanParts input.entry.now arrays.entry) }
     ensures failed { IfErr result (λ failure. (options : OptionsModel) →
         IsElementFailure (ArePieces (pieces_of_call input.entry.now options arrays.entry))
         failure) }
