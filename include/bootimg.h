@@ -398,8 +398,8 @@ typedef struct bootimg_build_texts {
 
 /* A configuration of a FIT to be built. The name and the description are regions of the input.
  * `given` is BOOTIMG_HAS_DESCRIPTION, or 0 if there is no description, whose region must then be
- * inside the input, too. The other members are ranges of the regions in `lists` of the call: those
- * of the texts of `compatible`, and for each key those of the names of the images that it lists. */
+ * inside the input, too. The other members are ranges of the regions in `lists` of the call: the
+ * texts of `compatible`, and for each key the names of the images that it lists. */
 typedef struct bootimg_build_configuration {
     bootimg_region name;
     bootimg_region description;
@@ -750,14 +750,14 @@ uint32_t bootimg_build_fit(const uint8_t *input, size_t input_size, const uint8_
 /* Writes a FIT with these images, configurations and hash nodes. All names and texts are regions of
  * `input`, which may be anywhere in it.
  *
- * `texts` has an element for each image, in the order of the images. Images without an element have
- * the names of their codes and the description of the tree, and elements without an image are
- * ignored. An image or a configuration without a description has that of the tree. A configuration
- * has the property `compatible`, and a list of names under each key, if the range is not empty. If
- * there is no configuration, one, `conf-1`, lists the images by their types. Each image has a hash
- * node for each of `algorithms`, which are BOOTIMG_ALGORITHM_*, in their order: `hash-1`, `hash-2`
- * and so on. Without texts, configurations and a default, and with BOOTIMG_ALGORITHM_SHA256, the
- * FIT is that of bootimg_build_fit.
+ * `texts` contains an element for each image, in the order of the images. Images without an element
+ * get the names of their codes and the description of the tree, and elements without an image are
+ * ignored. An image or a configuration without a description gets the one of the tree. A
+ * configuration contains the property `compatible`, and the list of names under a key, if the range
+ * is not empty. If there is no configuration, one, `conf-1`, lists the images by their types. Every
+ * image gets a hash node for each of `algorithms`, which are BOOTIMG_ALGORITHM_*, in their order:
+ * `hash-1`, `hash-2` and so on. Without texts, configurations and a default, and with
+ * BOOTIMG_ALGORITHM_SHA256, the call writes the same FIT as bootimg_build_fit.
  *
  * The status is BOOTIMG_WRONG_ARGUMENT if a number is out of its range, a region is not inside the
  * input, or a range is not inside `lists`. The call fails with the first of these that applies:
@@ -770,8 +770,8 @@ uint32_t bootimg_build_fit(const uint8_t *input, size_t input_size, const uint8_
  *   NoCodeName     There are no texts, and a code has no name.
  *   DuplicateNode  An earlier image has the name.
  *   For the configurations in order, at their index:
- *   BadField       The name is empty or contains a zero byte or a `/`, or a name that is listed is
- *                  not that of an image.
+ *   BadField       The name is empty or contains a zero byte or a `/`, or it lists a name that no
+ *                  image has.
  *   DuplicateNode  An earlier configuration has the name.
  *   After that:
  *   BadField       At the number of configurations: no configuration has the name of the default.

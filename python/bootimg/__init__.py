@@ -976,7 +976,7 @@ def _bytes_of(part: Buffer | Part) -> bytes:
 
 
 class BuildTexts(NamedTuple):
-    """The texts in the node of an image of a FIT to be built that has them instead of codes."""
+    """Texts in the node of an image of a FIT to be built, instead of the names of its codes."""
 
     type: bytes | str
     arch: bytes | str
@@ -986,8 +986,8 @@ class BuildTexts(NamedTuple):
 
 class BuildImage(NamedTuple):
     """An image of a FIT to be built. `os`, `arch`, `type` and `compression` are codes of U-Boot:
-    names, which are in CODES, or numbers. With `texts`, the node has these instead, and codes need
-    not be given. Without `description` it has that of the tree."""
+    names, which are in CODES, or numbers. With `texts`, the node contains these instead, and codes
+    need not be given. `description` is by default the one of the tree."""
 
     name: bytes | str
     payload: Buffer
@@ -1003,8 +1003,8 @@ class BuildImage(NamedTuple):
 
 class BuildConfiguration(NamedTuple):
     """A configuration of a FIT to be built: the names of the images that it lists under each key,
-    and the boards that it is for. A single name or board needs no list. Without `description` it
-    has that of the tree."""
+    and the boards that it is for. A single name or board needs no list. `description` is by default
+    the one of the tree."""
 
     name: bytes | str
     kernel: bytes | str | Iterable[bytes | str] = ()
