@@ -1,4 +1,5 @@
-use Rattle.std.proofs.Common.{◌≡◌, ◌<◌, ◌≤◌, ◌+◌, ◌++◌, ◌∷◌, [], Bor, List, Option, ℕ, drop, get_or, length, map, take, ap, refl, sym, subst, ◌∙◌}
+use Rattle.std.proofs.Common.{◌≡◌, ◌<◌, ◌≤◌, ◌+◌, ◌++◌, ◌∷◌, [], Bor, IfNone, List, None, Option, Some, ℕ, drop, get_or, length, map, take}
+use Rattle.std.proofs.Common.{ap, refl, sym, subst, ◌∙◌}
 use Rattle.std.proofs.lemmas.List.{drop-map, length-map, map-append, map_more, take-map, take_more}
 use Rattle.std.proofs.lemmas.List.Elements.{Contains-get_or}
 use Rattle.std.specs.List.{AllByRecursion, AllZip}
@@ -12,9 +13,10 @@ use Rattle.bi_fit.specs.declared.building.ConfigurationSpec.{ConfigurationSpec}
 use Rattle.bi_fit.specs.declared.form.Form.{Form}
 use Rattle.bi_fit.specs.declared.key.Key.{Key}
 use Rattle.bi_fit.specs.declared.key.Key.TheVariants.{Kernel, Fdt, Ramdisk, Firmware, Loadables, Script}
-use Rattle.bi_fit.specs.NamedImages.{names_listed}
+use Rattle.bi_fit.specs.NamedImages.{configuration_spec_models, names_listed}
 use Rattle.bi_norm.specs.declared.fit_building.ImageSpec.{ImageSpec}
-use Rattle.bi_norm.specs.FitBuilding.{IsBuildErrorAs, IsBuiltAs, PlanSpecModel}
+use Rattle.bi_norm.specs.declared.fit_building.PlanSpec.{PlanSpec}
+use Rattle.bi_norm.specs.FitBuilding.{IsBuildErrorAs, IsBuiltAs, PlanSpecModel, descriptions_models, plan_spec_model, texts_models}
 use Rattle.bi_c.specs.Answers.{failure_of_error}
 use Rattle.bi_c.specs.Arguments.{bounds, has_bit}
 use Rattle.bi_c.specs.PieceBuilding.{IsPieceInside, bytes_of_piece}
@@ -98,6 +100,16 @@ no_configuration = record {
 
 -- ---- a configuration
 
+-- These pieces are those in a range.
+pub record IsPart (pieces : List (Bor (List ℕ))) (range : Range) (listed : List (Bor (List ℕ))) : Type 0 where
+  pub inside : range.first + range.count ≤ length pieces
+  pub is : listed ≡ take range.count (drop range.first pieces)
+
+-- What is shown of nothing.
+pub if_none : {T : Type 0} (found : Option T) (P : Type 0) → P → IfNone found P
+if_none None P p = p
+if_none (Some value) P p = tt
+
 -- The pieces in a range are those of the regions in it.
 module _ (input : List ℕ) (pieces : List (Bor (List ℕ))) (lists : List Region) (same : bytes_of pieces ≡ map (bytes_of_piece input) lists)
   where
@@ -114,59 +126,55 @@ module _ (input : List ℕ) (pieces : List (Bor (List ℕ))) (lists : List Regio
         ∙ ap (take range.count) (drop-map (bytes_of_piece input) range.first lists)
         ∙ take-map (bytes_of_piece input) range.count (drop range.first lists)
 
-    range_inside : (range : Range) → range.first + range.count ≤ length pieces → IsRangeInside lists range
-    range_inside range inside = subst (λ count. range.first + range.count ≤ count) same_length inside
+    part_is : (range : Range) (listed : List (Bor (List ℕ))) → IsPart pieces range listed →
+        IsRangeInside lists range × (bytes_of listed ≡ texts_of_range input lists range)
+    part_is range listed part =
+        (subst (λ count. range.first + range.count ≤ count) same_length part.inside, listed_is range listed part.is)
 
     -- A range that ends after the last piece is not inside.
     pub range_outside : (range : Range) → ¬ (range.first + range.count ≤ length pieces) → ¬ (IsRangeInside lists range)
     range_outside range outside inside = outside (subst (λ count. range.first + range.count ≤ count) (sym same_length) inside)
 
-    module _ (element : BuildConfiguration) (spec : ConfigurationSpec) where
-      -- What is listed under a key.
-      abbrev pub slice_under : Key → List (Bor (List ℕ))
-      slice_under Kernel = spec.kernel.now
-      slice_under Fdt = spec.fdt.now
-      slice_under Ramdisk = spec.ramdisk.now
-      slice_under Firmware = spec.firmware.now
-      slice_under Loadables = spec.loadables.now
-      slice_under Script = spec.script.now
+    names_are : (element : BuildConfiguration) (spec : ConfigurationSpec) → IsPart pieces element.kernel spec.kernel.now →
+        IsPart pieces element.fdt spec.fdt.now → IsPart pieces element.ramdisk spec.ramdisk.now →
+        IsPart pieces element.firmware spec.firmware.now → IsPart pieces element.loadables spec.loadables.now →
+        IsPart pieces element.script spec.script.now → (key : Key) →
+        IsRangeInside lists (range_of_key element key)
+        × (names_listed spec key ≡ texts_of_range input lists (range_of_key element key))
+    names_are element spec kernel fdt ramdisk firmware loadables script Kernel = part_is element.kernel spec.kernel.now kernel
+    names_are element spec kernel fdt ramdisk firmware loadables script Fdt = part_is element.fdt spec.fdt.now fdt
+    names_are element spec kernel fdt ramdisk firmware loadables script Ramdisk = part_is element.ramdisk spec.ramdisk.now ramdisk
+    names_are element spec kernel fdt ramdisk firmware loadables script Firmware = part_is element.firmware spec.firmware.now firmware
+    names_are element spec kernel fdt ramdisk firmware loadables script Loadables = part_is element.loadables spec.loadables.now loadables
+    names_are element spec kernel fdt ramdisk firmware loadables script Script = part_is element.script spec.script.now script
 
-      -- These pieces are those in a range.
-      pub record IsPart (range : Range) (listed : List (Bor (List ℕ))) : Type 0 where
-        pub inside : range.first + range.count ≤ length pieces
-        pub is : listed ≡ take range.count (drop range.first pieces)
-
-      names_are : ((key : Key) → IsPart (range_of_key element key) (slice_under key)) → (key : Key) →
-          names_listed spec key ≡ texts_of_range input lists (range_of_key element key)
-      names_are parts Kernel = listed_is element.kernel spec.kernel.now (parts Kernel).is
-      names_are parts Fdt = listed_is element.fdt spec.fdt.now (parts Fdt).is
-      names_are parts Ramdisk = listed_is element.ramdisk spec.ramdisk.now (parts Ramdisk).is
-      names_are parts Firmware = listed_is element.firmware spec.firmware.now (parts Firmware).is
-      names_are parts Loadables = listed_is element.loadables spec.loadables.now (parts Loadables).is
-      names_are parts Script = listed_is element.script spec.script.now (parts Script).is
-
-      -- The configuration that is made of the pieces.
-      pub configuration_is : IsPieceInside input element.name → spec.name.now ≡ bytes_of_piece input element.name →
-          IsPieceInside input element.description →
-          option_map (λ (text : Bor (List ℕ)). text.now) spec.description
-          ≡ piece_if_given (has_bit 1 element.given) input element.description → element.given < 2 →
-          IsPart element.compatible spec.compatible.now → ((key : Key) → IsPart (range_of_key element key) (slice_under key)) →
-          IsConfigurationOf input lists element spec
-      configuration_is name is_name description is_description is_flag compatible parts = record {
-        inside = record {
-          name = name;
-          description = description;
-          is_flag = is_flag;
-          compatible = range_inside element.compatible compatible.inside;
-          listed = λ key. range_inside (range_of_key element key) (parts key).inside;
-        };
-        is = λ i. record {
-          name = is_name i;
-          description = is_description i;
-          compatible = listed_is element.compatible spec.compatible.now compatible.is i;
-          lists = λ key. names_are parts key i;
-        };
-      }
+    -- The configuration that is made of the pieces.
+    pub configuration_is : (element : BuildConfiguration) (spec : ConfigurationSpec) → IsPieceInside input element.name →
+        spec.name.now ≡ bytes_of_piece input element.name → IsPieceInside input element.description →
+        option_map (λ (text : Bor (List ℕ)). text.now) spec.description
+        ≡ piece_if_given (has_bit 1 element.given) input element.description → element.given < 2 →
+        IsPart pieces element.compatible spec.compatible.now → IsPart pieces element.kernel spec.kernel.now →
+        IsPart pieces element.fdt spec.fdt.now → IsPart pieces element.ramdisk spec.ramdisk.now →
+        IsPart pieces element.firmware spec.firmware.now → IsPart pieces element.loadables spec.loadables.now →
+        IsPart pieces element.script spec.script.now → IsConfigurationOf input lists element spec
+    configuration_is element spec name is_name description is_description is_flag compatible kernel fdt ramdisk firmware loadables script =
+        let names = names_are element spec kernel fdt ramdisk firmware loadables script in
+        let boards = part_is element.compatible spec.compatible.now compatible in
+        record {
+          inside = record {
+            name = name;
+            description = description;
+            is_flag = is_flag;
+            compatible = boards.0;
+            listed = λ key. (names key).0;
+          };
+          is = λ i. record {
+            name = is_name i;
+            description = is_description i;
+            compatible = boards.1 i;
+            lists = λ key. (names key).1 i;
+          };
+        }
 
 -- A configuration that is added to those of the first elements.
 pub one_more_configuration : (input : List ℕ) (lists : List Region) (elements : List BuildConfiguration) (index : ℕ)
@@ -195,12 +203,29 @@ no_elements pieces AreValid valid options OutOfMemory none = options
 no_elements pieces AreValid valid options (Refused file fault) none = absurd none
 no_elements pieces AreValid valid options (NotFound reason index) none = absurd none
 
+-- The plan is made of these.
+pub record IsMadeOf (settings : Settings) (parts : PlanParts) (specs : List ConfigurationSpec) (plan : PlanSpec) : Type 0 where
+  pub configurations : plan.configurations.now ≡ specs
+  pub default : plan.default ≡ settings.default
+  pub algorithms : plan.algorithms.now ≡ parts.algorithms.items
+  pub texts : plan.texts.now ≡ parts.texts.items
+  pub descriptions : plan.descriptions.now ≡ parts.descriptions.items
+
 module _ (input : List ℕ) (options : BuildOptions) (arrays : Arrays) (settings : Settings) (parts : PlanParts)
     (specs : List ConfigurationSpec) (are_settings : AreSettingsOf input options settings) (are_parts : ArePlanParts input arrays parts)
-    (are : AreConfigurationsOf input arrays.lists.now arrays.configurations.now specs) (plan : PlanSpecModel) (images : List ImageSpec)
-    (is_plan : plan ≡ plan_of_pieces (pieces_of_call input options arrays)) (are_images : images ≡ parts.images.items) where
+    (are : AreConfigurationsOf input arrays.lists.now arrays.configurations.now specs) (plan : PlanSpec) (images : List ImageSpec)
+    (made : IsMadeOf settings parts specs plan) (are_images : images ≡ parts.images.items) where
   abbrev pieces : PlanPieces
   pieces = pieces_of_call input options arrays
+
+  is_plan : plan_spec_model plan ≡ plan_of_pieces pieces
+  is_plan = λ i. record {
+    configurations = (ap configuration_spec_models made.configurations ∙ are.are) i;
+    default = (ap (option_map (λ (name : Bor (List ℕ)). name.now)) made.default ∙ are_settings.is_default) i;
+    algorithms = (made.algorithms ∙ are_parts.algorithms) i;
+    texts = (ap texts_models made.texts ∙ are_parts.texts) i;
+    descriptions = (ap descriptions_models made.descriptions ∙ are_parts.descriptions) i;
+  }
 
   valid : ArePieces pieces
   valid = record {
@@ -221,14 +246,16 @@ module _ (input : List ℕ) (options : BuildOptions) (arrays : Arrays) (settings
   }
 
   -- What is built of the settings and the plan is built of the pieces, or not.
-  as_planned : (Is : Limits → Form → PlanSpecModel → Type 0) → Is settings.limits settings.form plan →
+  as_planned : (Is : Limits → Form → PlanSpecModel → Type 0) → Is settings.limits settings.form (plan_spec_model plan) →
       Is (bounds options.limit options.depth) are_settings.valid.arguments.form (plan_of_pieces pieces)
   as_planned Is is =
       subst (λ (limits : Limits). Is limits are_settings.valid.arguments.form (plan_of_pieces pieces)) are_settings.are_limits
       (subst (λ (form : Form). Is settings.limits form (plan_of_pieces pieces)) are_settings.is_form
       (subst (λ (p : PlanSpecModel). Is settings.limits settings.form p) is_plan is))
 
-  pub planned_tree : (text : List ℕ) → IsBuiltAs settings.limits settings.form settings.head plan images text → IsPlannedTree pieces text 0
+  pub planned_tree : (text : List ℕ) → IsBuiltAs settings.limits settings.form settings.head (plan_spec_model plan) images text →
+      IsPlannedTree pieces text 0
+  unfolding to_be_built valid
   planned_tree text is = record {
     head = settings.head;
     specs = images;
@@ -237,8 +264,9 @@ module _ (input : List ℕ) (options : BuildOptions) (arrays : Arrays) (settings
     no_value = refl;
   }
 
-  pub no_planned_tree : (cause : Error) → IsBuildErrorAs settings.limits settings.form settings.head plan images cause →
+  pub no_planned_tree : (cause : Error) → IsBuildErrorAs settings.limits settings.form settings.head (plan_spec_model plan) images cause →
       IsPlanFailure pieces (failure_of_error cause)
+  unfolding to_be_built valid
   no_planned_tree (error.Refused fault) is = (
     refl,
     record {
