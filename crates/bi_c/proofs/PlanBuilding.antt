@@ -1,4 +1,4 @@
-use Rattle.std.proofs.Common.{◌≡◌, ◌<◌, ◌≤◌, ◌+◌, ◌++◌, ◌∷◌, [], Bor, IfNone, List, None, Option, Some, ℕ, drop, get_or, length, map, take}
+use Rattle.std.proofs.Common.{◌≡◌, ◌<◌, ◌≤◌, ◌+◌, ◌++◌, ◌∷◌, [], Bor, List, Option, ℕ, drop, get_or, length, map, take}
 use Rattle.std.proofs.Common.{ap, refl, sym, subst, ◌∙◌}
 use Rattle.std.proofs.lemmas.List.{drop-map, length-map, map-append, map_more, take-map, take_more}
 use Rattle.std.proofs.lemmas.List.Elements.{Contains-get_or}
@@ -21,7 +21,8 @@ use Rattle.bi_c.specs.Answers.{failure_of_error}
 use Rattle.bi_c.specs.Arguments.{bounds, has_bit}
 use Rattle.bi_c.specs.PieceBuilding.{IsPieceInside, bytes_of_piece}
 use Rattle.bi_c.specs.PlanBuilding.{AreConfigurationsOf, AreOptions, ArePieces, ArePlanParts, AreSettingsOf, AreToBeBuilt}
-use Rattle.bi_c.specs.PlanBuilding.{IsConfigurationInside, IsConfigurationOf, IsElementFailure, IsPlanFailure, IsPlannedTree, IsRangeInside}
+use Rattle.bi_c.specs.PlanBuilding.{IsConfigurationInside, IsConfigurationOf, IsElementFailure, IsPlanFailure, IsPlannedTree}
+use Rattle.bi_c.specs.PlanBuilding.{IsRangeInside}
 use Rattle.bi_c.specs.PlanBuilding.{PlanPieces, configuration_of_element, piece_if_given, pieces_of_call, plan_of_pieces, range_of_key}
 use Rattle.bi_c.specs.PlanBuilding.{texts_of_range}
 use Rattle.bi_c.specs.TreeBuilding.{IsSpecInside, IsSpecOf}
@@ -50,51 +51,52 @@ inside_at P xs index none within all = each-contains P xs (get_or xs index none)
 pub one_more_inside : {X : Type 0} (P : X → Type 0) (xs : List X) (index : ℕ) (none : X) → index < length xs →
     AllByRecursion P (take index xs) → P (get_or xs index none) → AllByRecursion P (take (index + 1) xs)
 one_more_inside P xs index none within all next =
-    subst (AllByRecursion P) (sym (take_more xs index none within)) (each-append P (take index xs) (get_or xs index none ∷ []) all (next, tt))
+    subst (AllByRecursion P) (sym (take_more xs index none within))
+    (each-append P (take index xs) (get_or xs index none ∷ []) all (next, tt))
 
 -- What the first elements stand for, and the next one.
-pub one_more_meant : {X Y : Type 0} (f : X → Y) (xs : List X) (index : ℕ) (none : X) (before after : List Y) (next : Y) → index < length xs →
-    after ≡ before ++ next ∷ [] → next ≡ f (get_or xs index none) → before ≡ map f (take index xs) →
+pub one_more_meant : {X Y : Type 0} (f : X → Y) (xs : List X) (index : ℕ) (none : X) (before after : List Y) (next : Y) →
+    index < length xs → after ≡ before ++ next ∷ [] → next ≡ f (get_or xs index none) → before ≡ map f (take index xs) →
     after ≡ map f (take (index + 1) xs)
 one_more_meant f xs index none before after next within added is so_far =
     added ∙ (λ i. so_far i ++ is i ∷ []) ∙ sym (map_more f xs index none within)
 
 -- The same of what models stand for.
-pub one_more_model : {X Y Z : Type 0} (f : X → Z) (model : Y → Z) (xs : List X) (index : ℕ) (none : X) (before after : List Y) (next : Y) →
-    index < length xs → after ≡ before ++ next ∷ [] → model next ≡ f (get_or xs index none) →
+pub one_more_model : {X Y Z : Type 0} (f : X → Z) (model : Y → Z) (xs : List X) (index : ℕ) (none : X) (before after : List Y)
+    (next : Y) → index < length xs → after ≡ before ++ next ∷ [] → model next ≡ f (get_or xs index none) →
     map model before ≡ map f (take index xs) → map model after ≡ map f (take (index + 1) xs)
 one_more_model f model xs index none before after next within added is so_far =
     one_more_meant f xs index none (map model before) (map model after) (model next) within
     (ap (map model) added ∙ map-append model before (next ∷ [])) is so_far
 
 -- A list of elements has no element past its end.
-abbrev no_piece : Region
-no_piece = record { offset = 0; size = 0 }
+abbrev past_piece : Region
+past_piece = record { offset = 0; size = 0 }
 
-abbrev no_range : Range
-no_range = record { first = 0; count = 0 }
+abbrev past_range : Range
+past_range = record { first = 0; count = 0 }
 
-abbrev pub no_texts : BuildTexts
-no_texts = record {
-  description = no_piece;
-  image_type = no_piece;
-  arch = no_piece;
-  os = no_piece;
-  compression = no_piece;
+abbrev pub past_texts : BuildTexts
+past_texts = record {
+  description = past_piece;
+  image_type = past_piece;
+  arch = past_piece;
+  os = past_piece;
+  compression = past_piece;
   given = 0;
 }
 
-abbrev pub no_configuration : BuildConfiguration
-no_configuration = record {
-  name = no_piece;
-  description = no_piece;
-  compatible = no_range;
-  kernel = no_range;
-  fdt = no_range;
-  ramdisk = no_range;
-  firmware = no_range;
-  loadables = no_range;
-  script = no_range;
+abbrev pub past_configuration : BuildConfiguration
+past_configuration = record {
+  name = past_piece;
+  description = past_piece;
+  compatible = past_range;
+  kernel = past_range;
+  fdt = past_range;
+  ramdisk = past_range;
+  firmware = past_range;
+  loadables = past_range;
+  script = past_range;
   given = 0;
 }
 
@@ -105,14 +107,9 @@ pub record IsPart (pieces : List (Bor (List ℕ))) (range : Range) (listed : Lis
   pub inside : range.first + range.count ≤ length pieces
   pub is : listed ≡ take range.count (drop range.first pieces)
 
--- What is shown of nothing.
-pub if_none : {T : Type 0} (found : Option T) (P : Type 0) → P → IfNone found P
-if_none None P p = p
-if_none (Some value) P p = tt
-
 -- The pieces in a range are those of the regions in it.
-module _ (input : List ℕ) (pieces : List (Bor (List ℕ))) (lists : List Region) (same : bytes_of pieces ≡ map (bytes_of_piece input) lists)
-  where
+module _ (input : List ℕ) (pieces : List (Bor (List ℕ))) (lists : List Region)
+    (same : bytes_of pieces ≡ map (bytes_of_piece input) lists) where
     same_length : length pieces ≡ length lists
     same_length = sym (length-map pieces (λ (slice : Bor (List ℕ)). slice.now)) ∙ ap length same ∙ length-map lists (bytes_of_piece input)
 
@@ -196,12 +193,12 @@ specs_inside input (image ∷ later) [] are = absurd are
 specs_inside input (image ∷ later) (spec ∷ others) are = (are.0.inside, specs_inside input later others are.1)
 
 -- If an element stands for nothing, the call fails.
-pub no_elements : (pieces : PlanPieces) (AreValid : Type 0) → (ArePieces pieces → AreValid) → AreOptions pieces.input pieces.options →
+pub no_plan_elements : (pieces : PlanPieces) (AreValid : Type 0) → (ArePieces pieces → AreValid) → AreOptions pieces.input pieces.options →
     (failure : Failure) → IsElementFailure AreValid failure → IsPlanFailure pieces failure
-no_elements pieces AreValid valid options WrongArgument none = λ are. none (valid are)
-no_elements pieces AreValid valid options OutOfMemory none = options
-no_elements pieces AreValid valid options (Refused file fault) none = absurd none
-no_elements pieces AreValid valid options (NotFound reason index) none = absurd none
+no_plan_elements pieces AreValid valid options WrongArgument none = λ are. none (valid are)
+no_plan_elements pieces AreValid valid options OutOfMemory none = options
+no_plan_elements pieces AreValid valid options (Refused file fault) none = absurd none
+no_plan_elements pieces AreValid valid options (NotFound reason index) none = absurd none
 
 -- The plan is made of these.
 pub record IsMadeOf (settings : Settings) (parts : PlanParts) (specs : List ConfigurationSpec) (plan : PlanSpec) : Type 0 where

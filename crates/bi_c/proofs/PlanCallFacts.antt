@@ -1,4 +1,5 @@
-use Rattle.std.proofs.Common.{◌≡◌, ◌⊎◌, ◌∙◌, ℕ, List, [], ◌∷◌, codes, None, Some, inl, inr, ap, refl, lit<, arith}
+use Rattle.std.proofs.Common.{◌≡◌, ◌⊎◌, ◌∙◌, ℕ, List, [], ◌∷◌, codes, None, Some, inl, inr, ap, refl, lit<}
+use Rattle.std.proofs.Common.{arith}
 use Rattle.std.specs.List.{AllZip}
 use Rattle.bi_fit.specs.declared.building.Head.{Head}
 use Rattle.bi_fit.specs.declared.form.Form.{Form}

@@ -3,7 +3,7 @@ use Rattle.std.proofs.lemmas.Result.{err_from_is_err_and}
 use Rattle.bi_base.specs.Slices.{bytes_of}
 use Rattle.bi_norm.specs.declared.fit_building.PlanSpec.{PlanSpec}
 use Rattle.bi_c.specs.PlanBuilding.{ArePieces, IsPlanFailure, pieces_of_call}
-use Rattle.bi_c.proofs.PlanBuilding.{IsMadeOf, no_elements, no_planned_tree, planned_tree}
+use Rattle.bi_c.proofs.PlanBuilding.{IsMadeOf, no_plan_elements, no_planned_tree, planned_tree}
 use Rattle.bi_c.proofs.plan_building.build_planned.Goals as goal
 
 pub returns-in_err-parts-clause-failed : goal.returns-in_err-parts-clause-failed
@@ -11,7 +11,7 @@ returns-in_err-parts-clause-failed c =
     let options = c.args.options.now in
     let pieces = pieces_of_call c.args.input.now options c.args.arrays in
     let p = err_from_is_err_and c.from_residual.result c.from_residual.ensures.1 in
-    rw (p.1, p.2) (no_elements pieces (ArePieces pieces) (λ are. are) c.in-Some.ensures.settings.valid c.in_err-parts.field-0.0
+    rw (p.1, p.2) (no_plan_elements pieces (ArePieces pieces) (λ are. are) c.in-Some.ensures.settings.valid c.in_err-parts.field-0.0
     (c.in_err-parts.ensures.failed options))
 
 pub returns-in-Ok-clause-built : goal.returns-in-Ok-clause-built

@@ -2,42 +2,42 @@ use Rattle.std.proofs.Common.{◌<◌, ◌∙◌, ap, arith}
 use Rattle.bi_fit.specs.declared.building.ConfigurationSpec.{ConfigurationSpec}
 use Rattle.bi_fit.specs.declared.key.Key.TheVariants.{Kernel, Fdt, Ramdisk, Firmware, Loadables, Script}
 use Rattle.bi_c.specs.PlanBuilding.{piece_if_given}
-use Rattle.bi_c.proofs.PlanBuilding.{configuration_is, if_none, range_outside}
+use Rattle.bi_c.proofs.PlanBuilding.{configuration_is, range_outside}
 use Rattle.bi_c.proofs.plan_building.configuration_of.Goals as goal
 
 pub returns-in_err-part-2-clause-none : goal.returns-in_err-part-2-clause-none
 returns-in_err-part-2-clause-none c =
-    if_none c.from_residual-in_err-part-2.result _
+    rw c.from_residual-in_err-part-2.ensures
     (λ lists same has. range_outside c.args.input.now c.args.pieces.now lists same c.args.element.now.kernel c.in_err-part-2.ensures.none
     (has.listed Kernel))
 
 pub returns-in_err-part-3-clause-none : goal.returns-in_err-part-3-clause-none
 returns-in_err-part-3-clause-none c =
-    if_none c.from_residual-in_err-part-3.result _
+    rw c.from_residual-in_err-part-3.ensures
     (λ lists same has. range_outside c.args.input.now c.args.pieces.now lists same c.args.element.now.fdt c.in_err-part-3.ensures.none
     (has.listed Fdt))
 
 pub returns-in_err-part-4-clause-none : goal.returns-in_err-part-4-clause-none
 returns-in_err-part-4-clause-none c =
-    if_none c.from_residual-in_err-part-4.result _
+    rw c.from_residual-in_err-part-4.ensures
     (λ lists same has. range_outside c.args.input.now c.args.pieces.now lists same c.args.element.now.ramdisk c.in_err-part-4.ensures.none
     (has.listed Ramdisk))
 
 pub returns-in_err-part-5-clause-none : goal.returns-in_err-part-5-clause-none
 returns-in_err-part-5-clause-none c =
-    if_none c.from_residual-in_err-part-5.result _
+    rw c.from_residual-in_err-part-5.ensures
     (λ lists same has. range_outside c.args.input.now c.args.pieces.now lists same c.args.element.now.firmware c.in_err-part-5.ensures.none
     (has.listed Firmware))
 
 pub returns-in_err-part-6-clause-none : goal.returns-in_err-part-6-clause-none
 returns-in_err-part-6-clause-none c =
-    if_none c.from_residual-in_err-part-6.result _
+    rw c.from_residual-in_err-part-6.ensures
     (λ lists same has. range_outside c.args.input.now c.args.pieces.now lists same c.args.element.now.loadables c.in_err-part-6.ensures.none
     (has.listed Loadables))
 
 pub returns-in_err-part-7-clause-none : goal.returns-in_err-part-7-clause-none
 returns-in_err-part-7-clause-none c =
-    if_none c.from_residual-in_err-part-7.result _
+    rw c.from_residual-in_err-part-7.ensures
     (λ lists same has. range_outside c.args.input.now c.args.pieces.now lists same c.args.element.now.script c.in_err-part-7.ensures.none
     (has.listed Script))
 

@@ -1,6 +1,6 @@
 use Rattle.std.proofs.Common.{◌≡◌, ◌∷◌, [], ◌++◌, ap, map}
 use Rattle.bi_fit.specs.NamedImages.{configuration_spec_models}
-use Rattle.bi_c.proofs.PlanBuilding.{no_configuration, one_more_configuration}
+use Rattle.bi_c.proofs.PlanBuilding.{past_configuration, one_more_configuration}
 use Rattle.bi_c.proofs.plan_building.configurations_of.Goals as goal
 
 pub loop-element-init : goal.loop-element-init
@@ -11,6 +11,6 @@ pub loop-element-preserved : goal.loop-element-preserved
 loop-element-preserved c = λ lists same.
     let items = c.loop-element.configurations.items in
     let pushed : c.push.new.self.items ≡ items ++ c.in-Some.configuration ∷ [] = rw c.in-Ok.is at c.push.ensures.items in
-    one_more_configuration c.args.input.now lists c.args.elements.now c.loop-element.element-index no_configuration items
+    one_more_configuration c.args.input.now lists c.args.elements.now c.loop-element.element-index past_configuration items
     c.push.new.self.items c.in-Some.configuration c.loop-element-test.true pushed (c.in-Some.ensures.configuration lists same)
     (c.loop-element.invariant lists same)

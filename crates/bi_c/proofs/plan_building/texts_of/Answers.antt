@@ -4,7 +4,7 @@ use Rattle.bi_norm.specs.FitBuilding.{image_texts_model, texts_models}
 use Rattle.bi_c.specs.PlanBuilding.{AreTextsInside, texts_if_given}
 use Rattle.bi_c.specs.declared.plan_building.BuildTexts.{BuildTexts}
 use Rattle.bi_c.specs.declared.region.Region.{Region}
-use Rattle.bi_c.proofs.PlanBuilding.{no_texts, one_more_inside, one_more_model}
+use Rattle.bi_c.proofs.PlanBuilding.{past_texts, one_more_inside, one_more_model}
 use Rattle.bi_c.proofs.plan_building.texts_of.Goals as goal
 
 pub loop-element-init : goal.loop-element-init
@@ -19,8 +19,8 @@ loop-element-preserved c =
     let items = c.loop-element.texts.items in
     let pushed : c.push.new.self.items ≡ items ++ c.in-Some.given ∷ [] = rw c.in-Ok.is at c.push.ensures.items in
     record {
-      inside = one_more_inside (AreTextsInside input) elements index no_texts within c.loop-element.invariant.inside
+      inside = one_more_inside (AreTextsInside input) elements index past_texts within c.loop-element.invariant.inside
           c.in-Some.ensures.inside;
-      so_far = one_more_model (texts_if_given input) (option_map image_texts_model) elements index no_texts items c.push.new.self.items
+      so_far = one_more_model (texts_if_given input) (option_map image_texts_model) elements index past_texts items c.push.new.self.items
           c.in-Some.given within pushed c.in-Some.ensures.texts c.loop-element.invariant.so_far;
     }
