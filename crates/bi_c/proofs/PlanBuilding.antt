@@ -103,7 +103,7 @@ past_configuration = record {
 -- ---- a configuration
 
 -- These pieces are those in a range.
-pub record IsPart (pieces : List (Bor (List ℕ))) (range : Range) (listed : List (Bor (List ℕ))) : Type 0 where
+pub record IsListedPart (pieces : List (Bor (List ℕ))) (range : Range) (listed : List (Bor (List ℕ))) : Type 0 where
   pub inside : range.first + range.count ≤ length pieces
   pub is : listed ≡ take range.count (drop range.first pieces)
 
@@ -123,7 +123,7 @@ module _ (input : List ℕ) (pieces : List (Bor (List ℕ))) (lists : List Regio
         ∙ ap (take range.count) (drop-map (bytes_of_piece input) range.first lists)
         ∙ take-map (bytes_of_piece input) range.count (drop range.first lists)
 
-    part_is : (range : Range) (listed : List (Bor (List ℕ))) → IsPart pieces range listed →
+    part_is : (range : Range) (listed : List (Bor (List ℕ))) → IsListedPart pieces range listed →
         IsRangeInside lists range × (bytes_of listed ≡ texts_of_range input lists range)
     part_is range listed part =
         (subst (λ count. range.first + range.count ≤ count) same_length part.inside, listed_is range listed part.is)
@@ -132,10 +132,10 @@ module _ (input : List ℕ) (pieces : List (Bor (List ℕ))) (lists : List Regio
     pub range_outside : (range : Range) → ¬ (range.first + range.count ≤ length pieces) → ¬ (IsRangeInside lists range)
     range_outside range outside inside = outside (subst (λ count. range.first + range.count ≤ count) (sym same_length) inside)
 
-    names_are : (element : BuildConfiguration) (spec : ConfigurationSpec) → IsPart pieces element.kernel spec.kernel.now →
-        IsPart pieces element.fdt spec.fdt.now → IsPart pieces element.ramdisk spec.ramdisk.now →
-        IsPart pieces element.firmware spec.firmware.now → IsPart pieces element.loadables spec.loadables.now →
-        IsPart pieces element.script spec.script.now → (key : Key) →
+    names_are : (element : BuildConfiguration) (spec : ConfigurationSpec) → IsListedPart pieces element.kernel spec.kernel.now →
+        IsListedPart pieces element.fdt spec.fdt.now → IsListedPart pieces element.ramdisk spec.ramdisk.now →
+        IsListedPart pieces element.firmware spec.firmware.now → IsListedPart pieces element.loadables spec.loadables.now →
+        IsListedPart pieces element.script spec.script.now → (key : Key) →
         IsRangeInside lists (range_of_key element key)
         × (names_listed spec key ≡ texts_of_range input lists (range_of_key element key))
     names_are element spec kernel fdt ramdisk firmware loadables script Kernel = part_is element.kernel spec.kernel.now kernel
@@ -150,10 +150,10 @@ module _ (input : List ℕ) (pieces : List (Bor (List ℕ))) (lists : List Regio
         spec.name.now ≡ bytes_of_piece input element.name → IsPieceInside input element.description →
         option_map (λ (text : Bor (List ℕ)). text.now) spec.description
         ≡ piece_if_given (has_bit 1 element.given) input element.description → element.given < 2 →
-        IsPart pieces element.compatible spec.compatible.now → IsPart pieces element.kernel spec.kernel.now →
-        IsPart pieces element.fdt spec.fdt.now → IsPart pieces element.ramdisk spec.ramdisk.now →
-        IsPart pieces element.firmware spec.firmware.now → IsPart pieces element.loadables spec.loadables.now →
-        IsPart pieces element.script spec.script.now → IsConfigurationOf input lists element spec
+        IsListedPart pieces element.compatible spec.compatible.now → IsListedPart pieces element.kernel spec.kernel.now →
+        IsListedPart pieces element.fdt spec.fdt.now → IsListedPart pieces element.ramdisk spec.ramdisk.now →
+        IsListedPart pieces element.firmware spec.firmware.now → IsListedPart pieces element.loadables spec.loadables.now →
+        IsListedPart pieces element.script spec.script.now → IsConfigurationOf input lists element spec
     configuration_is element spec name is_name description is_description is_flag compatible kernel fdt ramdisk firmware loadables script =
         let names = names_are element spec kernel fdt ramdisk firmware loadables script in
         let boards = part_is element.compatible spec.compatible.now compatible in
