@@ -110,68 +110,68 @@ pub record IsListedPart (pieces : List (Bor (List ℕ))) (range : Range) (listed
 -- The pieces in a range are those of the regions in it.
 module _ (input : List ℕ) (pieces : List (Bor (List ℕ))) (lists : List Region)
     (same : bytes_of pieces ≡ map (bytes_of_piece input) lists) where
-    same_length : length pieces ≡ length lists
-    same_length = sym (length-map pieces (λ (slice : Bor (List ℕ)). slice.now)) ∙ ap length same ∙ length-map lists (bytes_of_piece input)
+  same_length : length pieces ≡ length lists
+  same_length = sym (length-map pieces (λ (slice : Bor (List ℕ)). slice.now)) ∙ ap length same ∙ length-map lists (bytes_of_piece input)
 
-    listed_is : (range : Range) (listed : List (Bor (List ℕ))) → listed ≡ take range.count (drop range.first pieces) →
-        bytes_of listed ≡ texts_of_range input lists range
-    listed_is range listed is =
-        ap bytes_of is
-        ∙ sym (take-map (λ (slice : Bor (List ℕ)). slice.now) range.count (drop range.first pieces))
-        ∙ ap (take range.count) (sym (drop-map (λ (slice : Bor (List ℕ)). slice.now) range.first pieces))
-        ∙ ap (λ texts. take range.count (drop range.first texts)) same
-        ∙ ap (take range.count) (drop-map (bytes_of_piece input) range.first lists)
-        ∙ take-map (bytes_of_piece input) range.count (drop range.first lists)
+  listed_is : (range : Range) (listed : List (Bor (List ℕ))) → listed ≡ take range.count (drop range.first pieces) →
+      bytes_of listed ≡ texts_of_range input lists range
+  listed_is range listed is =
+      ap bytes_of is
+      ∙ sym (take-map (λ (slice : Bor (List ℕ)). slice.now) range.count (drop range.first pieces))
+      ∙ ap (take range.count) (sym (drop-map (λ (slice : Bor (List ℕ)). slice.now) range.first pieces))
+      ∙ ap (λ texts. take range.count (drop range.first texts)) same
+      ∙ ap (take range.count) (drop-map (bytes_of_piece input) range.first lists)
+      ∙ take-map (bytes_of_piece input) range.count (drop range.first lists)
 
-    part_is : (range : Range) (listed : List (Bor (List ℕ))) → IsListedPart pieces range listed →
-        IsRangeInside lists range × (bytes_of listed ≡ texts_of_range input lists range)
-    part_is range listed part =
-        (subst (λ count. range.first + range.count ≤ count) same_length part.inside, listed_is range listed part.is)
+  part_is : (range : Range) (listed : List (Bor (List ℕ))) → IsListedPart pieces range listed →
+      IsRangeInside lists range × (bytes_of listed ≡ texts_of_range input lists range)
+  part_is range listed part =
+      (subst (λ count. range.first + range.count ≤ count) same_length part.inside, listed_is range listed part.is)
 
-    -- A range that ends after the last piece is not inside.
-    pub range_outside : (range : Range) → ¬ (range.first + range.count ≤ length pieces) → ¬ (IsRangeInside lists range)
-    range_outside range outside inside = outside (subst (λ count. range.first + range.count ≤ count) (sym same_length) inside)
+  -- A range that ends after the last piece is not inside.
+  pub range_outside : (range : Range) → ¬ (range.first + range.count ≤ length pieces) → ¬ (IsRangeInside lists range)
+  range_outside range outside inside = outside (subst (λ count. range.first + range.count ≤ count) (sym same_length) inside)
 
-    names_are : (element : BuildConfiguration) (spec : ConfigurationSpec) → IsListedPart pieces element.kernel spec.kernel.now →
-        IsListedPart pieces element.fdt spec.fdt.now → IsListedPart pieces element.ramdisk spec.ramdisk.now →
-        IsListedPart pieces element.firmware spec.firmware.now → IsListedPart pieces element.loadables spec.loadables.now →
-        IsListedPart pieces element.script spec.script.now → (key : Key) →
-        IsRangeInside lists (range_of_key element key)
-        × (names_listed spec key ≡ texts_of_range input lists (range_of_key element key))
-    names_are element spec kernel fdt ramdisk firmware loadables script Kernel = part_is element.kernel spec.kernel.now kernel
-    names_are element spec kernel fdt ramdisk firmware loadables script Fdt = part_is element.fdt spec.fdt.now fdt
-    names_are element spec kernel fdt ramdisk firmware loadables script Ramdisk = part_is element.ramdisk spec.ramdisk.now ramdisk
-    names_are element spec kernel fdt ramdisk firmware loadables script Firmware = part_is element.firmware spec.firmware.now firmware
-    names_are element spec kernel fdt ramdisk firmware loadables script Loadables = part_is element.loadables spec.loadables.now loadables
-    names_are element spec kernel fdt ramdisk firmware loadables script Script = part_is element.script spec.script.now script
+  names_are : (element : BuildConfiguration) (spec : ConfigurationSpec) → IsListedPart pieces element.kernel spec.kernel.now →
+      IsListedPart pieces element.fdt spec.fdt.now → IsListedPart pieces element.ramdisk spec.ramdisk.now →
+      IsListedPart pieces element.firmware spec.firmware.now → IsListedPart pieces element.loadables spec.loadables.now →
+      IsListedPart pieces element.script spec.script.now → (key : Key) →
+      IsRangeInside lists (range_of_key element key)
+      × (names_listed spec key ≡ texts_of_range input lists (range_of_key element key))
+  names_are element spec kernel fdt ramdisk firmware loadables script Kernel = part_is element.kernel spec.kernel.now kernel
+  names_are element spec kernel fdt ramdisk firmware loadables script Fdt = part_is element.fdt spec.fdt.now fdt
+  names_are element spec kernel fdt ramdisk firmware loadables script Ramdisk = part_is element.ramdisk spec.ramdisk.now ramdisk
+  names_are element spec kernel fdt ramdisk firmware loadables script Firmware = part_is element.firmware spec.firmware.now firmware
+  names_are element spec kernel fdt ramdisk firmware loadables script Loadables = part_is element.loadables spec.loadables.now loadables
+  names_are element spec kernel fdt ramdisk firmware loadables script Script = part_is element.script spec.script.now script
 
-    -- The configuration that is made of the pieces.
-    pub configuration_is : (element : BuildConfiguration) (spec : ConfigurationSpec) → IsPieceInside input element.name →
-        spec.name.now ≡ bytes_of_piece input element.name → IsPieceInside input element.description →
-        option_map (λ (text : Bor (List ℕ)). text.now) spec.description
-        ≡ piece_if_given (has_bit 1 element.given) input element.description → element.given < 2 →
-        IsListedPart pieces element.compatible spec.compatible.now → IsListedPart pieces element.kernel spec.kernel.now →
-        IsListedPart pieces element.fdt spec.fdt.now → IsListedPart pieces element.ramdisk spec.ramdisk.now →
-        IsListedPart pieces element.firmware spec.firmware.now → IsListedPart pieces element.loadables spec.loadables.now →
-        IsListedPart pieces element.script spec.script.now → IsConfigurationOf input lists element spec
-    configuration_is element spec name is_name description is_description is_flag compatible kernel fdt ramdisk firmware loadables script =
-        let names = names_are element spec kernel fdt ramdisk firmware loadables script in
-        let boards = part_is element.compatible spec.compatible.now compatible in
-        record {
-          inside = record {
-            name = name;
-            description = description;
-            is_flag = is_flag;
-            compatible = boards.0;
-            listed = λ key. (names key).0;
-          };
-          is = λ i. record {
-            name = is_name i;
-            description = is_description i;
-            compatible = boards.1 i;
-            lists = λ key. (names key).1 i;
-          };
-        }
+  -- The configuration that is made of the pieces.
+  pub configuration_is : (element : BuildConfiguration) (spec : ConfigurationSpec) → IsPieceInside input element.name →
+      spec.name.now ≡ bytes_of_piece input element.name → IsPieceInside input element.description →
+      option_map (λ (text : Bor (List ℕ)). text.now) spec.description
+      ≡ piece_if_given (has_bit 1 element.given) input element.description → element.given < 2 →
+      IsListedPart pieces element.compatible spec.compatible.now → IsListedPart pieces element.kernel spec.kernel.now →
+      IsListedPart pieces element.fdt spec.fdt.now → IsListedPart pieces element.ramdisk spec.ramdisk.now →
+      IsListedPart pieces element.firmware spec.firmware.now → IsListedPart pieces element.loadables spec.loadables.now →
+      IsListedPart pieces element.script spec.script.now → IsConfigurationOf input lists element spec
+  configuration_is element spec name is_name description is_description is_flag compatible kernel fdt ramdisk firmware loadables script =
+      let names = names_are element spec kernel fdt ramdisk firmware loadables script in
+      let boards = part_is element.compatible spec.compatible.now compatible in
+      record {
+        inside = record {
+          name = name;
+          description = description;
+          is_flag = is_flag;
+          compatible = boards.0;
+          listed = λ key. (names key).0;
+        };
+        is = λ i. record {
+          name = is_name i;
+          description = is_description i;
+          compatible = boards.1 i;
+          lists = λ key. (names key).1 i;
+        };
+      }
 
 -- A configuration that is added to those of the first elements.
 pub one_more_configuration : (input : List ℕ) (lists : List Region) (elements : List BuildConfiguration) (index : ℕ)

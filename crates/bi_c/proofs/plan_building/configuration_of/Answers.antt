@@ -8,37 +8,43 @@ use Rattle.bi_c.proofs.plan_building.configuration_of.Goals as goal
 pub returns-in_err-part-2-clause-none : goal.returns-in_err-part-2-clause-none
 returns-in_err-part-2-clause-none c =
     rw c.from_residual-in_err-part-2.ensures
-    (λ lists same has. range_outside c.args.input.now c.args.pieces.now lists same c.args.element.now.kernel c.in_err-part-2.ensures.none
+    (λ lists same has.
+    range_outside c.args.input.now c.args.pieces.now lists same c.args.element.now.kernel c.in_err-part-2.ensures.none
     (has.listed Kernel))
 
 pub returns-in_err-part-3-clause-none : goal.returns-in_err-part-3-clause-none
 returns-in_err-part-3-clause-none c =
     rw c.from_residual-in_err-part-3.ensures
-    (λ lists same has. range_outside c.args.input.now c.args.pieces.now lists same c.args.element.now.fdt c.in_err-part-3.ensures.none
+    (λ lists same has.
+    range_outside c.args.input.now c.args.pieces.now lists same c.args.element.now.fdt c.in_err-part-3.ensures.none
     (has.listed Fdt))
 
 pub returns-in_err-part-4-clause-none : goal.returns-in_err-part-4-clause-none
 returns-in_err-part-4-clause-none c =
     rw c.from_residual-in_err-part-4.ensures
-    (λ lists same has. range_outside c.args.input.now c.args.pieces.now lists same c.args.element.now.ramdisk c.in_err-part-4.ensures.none
+    (λ lists same has.
+    range_outside c.args.input.now c.args.pieces.now lists same c.args.element.now.ramdisk c.in_err-part-4.ensures.none
     (has.listed Ramdisk))
 
 pub returns-in_err-part-5-clause-none : goal.returns-in_err-part-5-clause-none
 returns-in_err-part-5-clause-none c =
     rw c.from_residual-in_err-part-5.ensures
-    (λ lists same has. range_outside c.args.input.now c.args.pieces.now lists same c.args.element.now.firmware c.in_err-part-5.ensures.none
+    (λ lists same has.
+    range_outside c.args.input.now c.args.pieces.now lists same c.args.element.now.firmware c.in_err-part-5.ensures.none
     (has.listed Firmware))
 
 pub returns-in_err-part-6-clause-none : goal.returns-in_err-part-6-clause-none
 returns-in_err-part-6-clause-none c =
     rw c.from_residual-in_err-part-6.ensures
-    (λ lists same has. range_outside c.args.input.now c.args.pieces.now lists same c.args.element.now.loadables c.in_err-part-6.ensures.none
+    (λ lists same has.
+    range_outside c.args.input.now c.args.pieces.now lists same c.args.element.now.loadables c.in_err-part-6.ensures.none
     (has.listed Loadables))
 
 pub returns-in_err-part-7-clause-none : goal.returns-in_err-part-7-clause-none
 returns-in_err-part-7-clause-none c =
     rw c.from_residual-in_err-part-7.ensures
-    (λ lists same has. range_outside c.args.input.now c.args.pieces.now lists same c.args.element.now.script c.in_err-part-7.ensures.none
+    (λ lists same has.
+    range_outside c.args.input.now c.args.pieces.now lists same c.args.element.now.script c.in_err-part-7.ensures.none
     (has.listed Script))
 
 pub returns-clause-configuration : goal.returns-clause-configuration
