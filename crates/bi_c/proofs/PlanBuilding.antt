@@ -1,4 +1,4 @@
-use Rattle.std.proofs.Common.{◌≡◌, ◌<◌, ◌≤◌, ◌+◌, ◌++◌, ◌∷◌, [], Bor, List, Option, ℕ, drop, get_or, length, map, take}
+use Rattle.std.proofs.Common.{◌≡◌, ◌<◌, ◌≤◌, ◌+◌, ◌++◌, ◌∷◌, [], Bor, List, ℕ, drop, get_or, length, map, take}
 use Rattle.std.proofs.Common.{ap, refl, sym, subst, ◌∙◌}
 use Rattle.std.proofs.lemmas.List.{drop-map, length-map, map-append, map_more, take-map, take_more}
 use Rattle.std.proofs.lemmas.List.Elements.{Contains-get_or}

@@ -6,7 +6,7 @@ use Rattle.bi_fit.specs.declared.form.Form.{Form}
 use Rattle.bi_fit.specs.declared.form.Form.TheVariants.{Embedded}
 use Rattle.bi_fit.specs.declared.key.Key.{Key}
 use Rattle.bi_fit.specs.declared.key.Key.TheVariants.{Kernel, Fdt, Ramdisk, Firmware, Loadables, Script}
-use Rattle.bi_fit.specs.Building.{HeadModel, ImageSpecModel, built_tree}
+use Rattle.bi_fit.specs.Building.{built_tree}
 use Rattle.bi_fit.specs.KnownBuilds.{known_head, known_ramdisk}
 use Rattle.bi_fit.specs.NamedImages.{head_model}
 use Rattle.bi_fit.specs.Text.{fit_text}

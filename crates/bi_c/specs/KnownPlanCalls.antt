@@ -1,5 +1,4 @@
 use Rattle.std.specs.Prelude.{ℕ, ◌≡◌, List, [], ◌∷◌, codes, None, Some}
-use Rattle.bi_hash.specs.declared.algo.Algo.{Algo}
 use Rattle.bi_hash.specs.declared.algo.Algo.TheVariants.{Crc32, Md5, Sha1, Sha256, Sha384}
 use Rattle.bi_hash.specs.declared.algo.Algo.TheVariants.{Sha512}
 use Rattle.bi_fit.specs.declared.form.Form.TheVariants.{Embedded}

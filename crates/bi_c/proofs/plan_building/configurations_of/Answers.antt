@@ -1,4 +1,4 @@
-use Rattle.std.proofs.Common.{◌≡◌, ◌∷◌, [], ◌++◌, ap, map}
+use Rattle.std.proofs.Common.{◌≡◌, ◌∷◌, [], ◌++◌, ap}
 use Rattle.bi_fit.specs.NamedImages.{configuration_spec_models}
 use Rattle.bi_c.proofs.PlanBuilding.{past_configuration, one_more_configuration}
 use Rattle.bi_c.proofs.plan_building.configurations_of.Goals as goal

@@ -2,8 +2,6 @@ use Rattle.std.proofs.Common.{◌≡◌, ◌∷◌, [], ◌++◌, ap}
 use Rattle.std.specs.Option.{option_map}
 use Rattle.bi_norm.specs.FitBuilding.{image_texts_model, texts_models}
 use Rattle.bi_c.specs.PlanBuilding.{AreTextsInside, texts_if_given}
-use Rattle.bi_c.specs.declared.plan_building.BuildTexts.{BuildTexts}
-use Rattle.bi_c.specs.declared.region.Region.{Region}
 use Rattle.bi_c.proofs.PlanBuilding.{past_texts, one_more_inside, one_more_model}
 use Rattle.bi_c.proofs.plan_building.texts_of.Goals as goal
 
