@@ -62,6 +62,7 @@ bi_commands_extract_extract
 bi_commands_update_update
 bi_describe_compare_compare
 bi_describe_describe_describe
+bi_edit_editing_edit_file
 bi_fit_fit_read
 bi_norm_legacy_build_legacy
 bi_norm_normal_form_normalise
@@ -72,7 +73,7 @@ check "these calls have an example" diff calls found
 check "each example is there as often as its heading" test "$(grep -Rh '^ */// # Example$' "$root"/crates/*/src | wc -l)" = "$(wc -l < found)"
 
 # shellcheck disable=SC2046
-crate_of_examples examples_of_calls "bi_commands bi_norm bi_fit bi_legacy bi_base" $(cat found)
+crate_of_examples examples_of_calls "bi_commands bi_edit bi_norm bi_fit bi_legacy bi_base" $(cat found)
 run_tests
 
 # An example that is wrong fails: here with one value that is another one.
