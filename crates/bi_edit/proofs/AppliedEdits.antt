@@ -1,84 +1,92 @@
-use Rattle.std.proofs.Common.{◌≡◌, ℕ, zero, suc, ◌+◌, ◌<◌, ◌==◌, true, false, List, [], ◌∷◌, ◌++◌, drop, flat_map, Some, slice_get, inl}
+use Rattle.std.proofs.Common.{◌≡◌, ℕ, zero, suc, ◌+◌, ◌<◌, ◌==◌, true, false, List, [], ◌∷◌, ◌++◌, drop, take, flat_map, Some, slice_get, inl}
 use Rattle.std.proofs.Common.{inr, refl, sym, ap}
-use Rattle.std.proofs.Common.{◌∙◌, arith, subst, length, get_or, Result, Ok, Err, IfErr, IsErrAnd}
-use Rattle.std.proofs.lemmas.List.{drop_more}
+use Rattle.std.proofs.Common.{◌∙◌, arith, rules, subst, length, get_or, Result, Ok, Err, IfErr, IsErrAnd}
+use Rattle.std.proofs.lemmas.List.{append-nil, append_assoc, drop_more}
 use Rattle.std.proofs.lemmas.Option.{slice_get_read}
-use Rattle.bi_blob.specs.Tree.{Root, PropertyMap}
 use Rattle.bi_edit.specs.declared.applying.ApplyError.{ApplyError}
 use Rattle.bi_edit.specs.declared.applying.ApplyError.TheVariants as error
 use Rattle.bi_edit.specs.declared.edit.Edit.{Edit}
 use Rattle.bi_edit.specs.Applying.{IsApplyError, IsErrorAt}
-use Rattle.bi_edit.specs.Edits.{AllFind, FindsNothing, IsFirstRefused, edited_root, edits_of_turn, root_after, turn_of, turns}
+use Rattle.bi_edit.specs.Edits.{IsFirstRefusedBy, NoneIsRefusedBy, after_each, before_digests, edits_of_turn, in_edit_order, turn_of, turns}
 
 -- Edits that are made one after the other.
 
-root_after-append : (root : Root PropertyMap) (first second : List Edit) →
-    root_after root (first ++ second) ≡ root_after (root_after root first) second
-root_after-append root [] second = refl
-root_after-append root (edit ∷ first) second = root_after-append (edited_root root edit) first second
+module _ {Made : Type 0} (Refused : Made → Edit → Type 0) (edited : Made → Edit → Made) where
+  pub after-append : (made : Made) (first second : List Edit) →
+      after_each edited made (first ++ second) ≡ after_each edited (after_each edited made first) second
+  after-append made [] second = refl
+  after-append made (edit ∷ first) second = after-append (edited made edit) first second
 
-all_find-append : (root : Root PropertyMap) (first second : List Edit) → AllFind root first → AllFind (root_after root first) second →
-    AllFind root (first ++ second)
-all_find-append root [] second one other = other
-all_find-append root (edit ∷ first) second one other = (one.0, all_find-append (edited_root root edit) first second one.1 other)
+  pub none_refused-append : (made : Made) (first second : List Edit) → NoneIsRefusedBy Refused edited made first →
+      NoneIsRefusedBy Refused edited (after_each edited made first) second → NoneIsRefusedBy Refused edited made (first ++ second)
+  none_refused-append made [] second one other = other
+  none_refused-append made (edit ∷ first) second one other = (one.0, none_refused-append (edited made edit) first second one.1 other)
 
-refused_later : (root : Root PropertyMap) (first second : List Edit) (refused : Edit) → AllFind root first →
-    IsFirstRefused (root_after root first) second refused → IsFirstRefused root (first ++ second) refused
-refused_later root [] second refused all is = is
-refused_later root (edit ∷ first) second refused all is =
-    inr (all.0, refused_later (edited_root root edit) first second refused all.1 is)
+  refused_later : (made : Made) (first second : List Edit) (refused : Edit) → NoneIsRefusedBy Refused edited made first →
+      IsFirstRefusedBy Refused edited (after_each edited made first) second refused →
+      IsFirstRefusedBy Refused edited made (first ++ second) refused
+  refused_later made [] second refused all is = is
+  refused_later made (edit ∷ first) second refused all is =
+      inr (all.0, refused_later (edited made edit) first second refused all.1 is)
 
-refused_more : (root : Root PropertyMap) (first second : List Edit) (refused : Edit) → IsFirstRefused root first refused →
-    IsFirstRefused root (first ++ second) refused
-refused_more root [] second refused is = absurd is
-refused_more root (edit ∷ first) second refused (inl here) = inl here
-refused_more root (edit ∷ first) second refused (inr later) =
-    inr (later.0, refused_more (edited_root root edit) first second refused later.1)
+  pub refused_more : (made : Made) (first second : List Edit) (refused : Edit) → IsFirstRefusedBy Refused edited made first refused →
+      IsFirstRefusedBy Refused edited made (first ++ second) refused
+  refused_more made [] second refused is = absurd is
+  refused_more made (edit ∷ first) second refused (inl here) = inl here
+  refused_more made (edit ∷ first) second refused (inr later) =
+      inr (later.0, refused_more (edited made edit) first second refused later.1)
 
--- To make the edits that are left of a tree is to make all edits of the first one.
-pub record HasSameEnd (tree : Root PropertyMap) (left : List Edit) (first : Root PropertyMap) (all : List Edit) : Type 0 where
-  pub root : root_after tree left ≡ root_after first all
-  pub find : AllFind tree left → AllFind first all
-  pub refused : (edit : Edit) → IsFirstRefused tree left edit → IsFirstRefused first all edit
+  -- If none is refused, none is the first that is.
+  pub none_is_first : (made : Made) (all : List Edit) (refused : Edit) → NoneIsRefusedBy Refused edited made all →
+      IsFirstRefusedBy Refused edited made all refused → ⊥
+  none_is_first made [] refused none is = is
+  none_is_first made (edit ∷ later) refused none (inl is) = none.0 is.0
+  none_is_first made (edit ∷ later) refused none (inr is) = none_is_first (edited made edit) later refused none.1 is.1
 
-pub continues_first : (tree : Root PropertyMap) (all : List Edit) → HasSameEnd tree all tree all
-continues_first tree all = record { root = refl; find = λ is. is; refused = λ edit is. is }
+  -- To make the edits that are left of what was made is to make all edits of what was there first.
+  pub record HasSameEnd (made : Made) (left : List Edit) (first : Made) (all : List Edit) : Type 0 where
+    pub made_all : after_each edited made left ≡ after_each edited first all
+    pub find : NoneIsRefusedBy Refused edited made left → NoneIsRefusedBy Refused edited first all
+    pub refused : (edit : Edit) → IsFirstRefusedBy Refused edited made left edit → IsFirstRefusedBy Refused edited first all edit
 
--- Some of those that are left were made.
-pub continues_after : (tree first : Root PropertyMap) (now left all : List Edit) → HasSameEnd tree (now ++ left) first all →
-    AllFind tree now → HasSameEnd (root_after tree now) left first all
-continues_after tree first now left all continues found = record {
-  root = sym (root_after-append tree now left) ∙ continues.root;
-  find = λ more. continues.find (all_find-append tree now left found more);
-  refused = λ edit is. continues.refused edit (refused_later tree now left edit found is);
-}
+  pub continues_first : (made : Made) (all : List Edit) → HasSameEnd made all made all
+  continues_first made all = record { made_all = refl; find = λ is. is; refused = λ edit is. is }
 
--- One of the next that are left is refused.
-pub refused_of : (tree first : Root PropertyMap) (now left all edits : List Edit) (error : ApplyError) →
-    HasSameEnd tree (now ++ left) first all → IsApplyError (IsFirstRefused tree now) edits error →
-    IsApplyError (IsFirstRefused first all) edits error
-refused_of tree first now left all edits (error.FindsNothing index) continues is =
-    (is.0, is.1, continues.refused is.0 (refused_more tree now left is.0 is.2))
-refused_of tree first now left all edits error.OutOfMemory continues is = tt
+  -- Some of those that are left were made.
+  pub continues_after : (made first : Made) (now left all : List Edit) → HasSameEnd made (now ++ left) first all →
+      NoneIsRefusedBy Refused edited made now → HasSameEnd (after_each edited made now) left first all
+  continues_after made first now left all continues found = record {
+    made_all = sym (after-append made now left) ∙ continues.made_all;
+    find = λ more. continues.find (none_refused-append made now left found more);
+    refused = λ edit is. continues.refused edit (refused_later made now left edit found is);
+  }
 
--- The next one is refused.
-pub refused_next : (tree : Root PropertyMap) (edit : Edit) (edits : List Edit) (index : ℕ) (error : ApplyError) →
-    slice_get edits index ≡ Some edit → IsErrorAt index (FindsNothing tree edit) error →
-    IsApplyError (IsFirstRefused tree (edit ∷ [])) edits error
-refused_next tree edit edits index (error.FindsNothing at) there is =
-    (edit, ap (λ n. slice_get edits n) is.0 ∙ there, inl (is.1, refl))
-refused_next tree edit edits index error.OutOfMemory there is = tt
+  -- One of the next that are left is refused.
+  pub refused_of : (made first : Made) (now left all edits : List Edit) (error : ApplyError) →
+      HasSameEnd made (now ++ left) first all → IsApplyError (IsFirstRefusedBy Refused edited made now) edits error →
+      IsApplyError (IsFirstRefusedBy Refused edited first all) edits error
+  refused_of made first now left all edits (error.FindsNothing index) continues is =
+      (is.0, is.1, continues.refused is.0 (refused_more made now left is.0 is.2))
+  refused_of made first now left all edits error.OutOfMemory continues is = tt
+
+  -- The next one is refused.
+  pub refused_next : (made : Made) (edit : Edit) (edits : List Edit) (index : ℕ) (error : ApplyError) →
+      slice_get edits index ≡ Some edit → IsErrorAt index (Refused made edit) error →
+      IsApplyError (IsFirstRefusedBy Refused edited made (edit ∷ [])) edits error
+  refused_next made edit edits index (error.FindsNothing at) there is =
+      (edit, ap (λ n. slice_get edits n) is.0 ∙ there, inl (is.1, refl))
+  refused_next made edit edits index error.OutOfMemory there is = tt
+
+  -- All are made.
+  pub continues_to_end : (made first : Made) (all : List Edit) → HasSameEnd made [] first all →
+      (made ≡ after_each edited first all) × NoneIsRefusedBy Refused edited first all
+  continues_to_end made first all continues = (continues.made_all, continues.find tt)
 
 -- An error that is passed on.
 pub error_of_edit : {T : Type 0} (Is : ApplyError → Type 0) (result : Result T ApplyError) (error : ApplyError) →
     IsErrAnd result (λ given. given ≡ error) → Is error → IfErr result Is
 error_of_edit Is (Ok value) error same is = absurd same
 error_of_edit Is (Err given) error same is = subst Is (sym same) is
-
--- All are made.
-pub continues_to_end : (tree first : Root PropertyMap) (all : List Edit) → HasSameEnd tree [] first all →
-    (tree ≡ root_after first all) × AllFind first all
-continues_to_end tree first all continues = (continues.root, continues.find tt)
 
 -- The edits of a turn among those that are left.
 pub next_of_turn : (turn : ℕ) (edit : Edit) (later : List Edit) → (turn_of edit == turn) ≡ true →
@@ -118,3 +126,25 @@ edits_from turn edits = flat_map (λ t. edits_of_turn t edits) (drop turn turns)
 pub edits_from_next : (turn : ℕ) (edits : List Edit) → turn < 5 →
     edits_from turn edits ≡ edits_of_turn turn edits ++ edits_from (turn + 1) edits
 edits_from_next turn edits within = ap (λ left. flat_map (λ t. edits_of_turn t edits) left) (next_turn turn within)
+
+-- The edits of digests are the last ones.
+pub order_split : (edits : List Edit) → in_edit_order edits ≡ before_digests edits ++ edits_of_turn 4 edits
+order_split edits =
+    let part = λ (turn : ℕ). edits_of_turn turn edits in
+    ap (λ last. part 0 ++ (part 1 ++ (part 2 ++ (part 3 ++ last)))) (append-nil (part 4))
+    ∙ search (rules, append_assoc, append-nil)
+
+-- Those of the turns that are left but the last.
+next_early : (turn : ℕ) → turn < 4 → drop turn (take 4 turns) ≡ turn ∷ drop (turn + 1) (take 4 turns)
+next_early zero within = refl
+next_early (suc zero) within = refl
+next_early (suc (suc zero)) within = refl
+next_early (suc (suc (suc zero))) within = refl
+next_early (suc (suc (suc (suc turn)))) within = absurd (omega (arith, within))
+
+abbrev pub early_from : (turn : ℕ) → List Edit → List Edit
+early_from turn edits = flat_map (λ t. edits_of_turn t edits) (drop turn (take 4 turns))
+
+pub early_from_next : (turn : ℕ) (edits : List Edit) → turn < 4 →
+    early_from turn edits ≡ edits_of_turn turn edits ++ early_from (turn + 1) edits
+early_from_next turn edits within = ap (λ left. flat_map (λ t. edits_of_turn t edits) left) (next_early turn within)

@@ -14,5 +14,13 @@ pub mod KeptNodes
 pub mod KeptImages
 pub mod KeptDepths
 pub mod KeptDigests
+pub mod PlainBounds
+pub mod PartNumbers
+pub mod LegacyContents
 pub mod EditedFits
+pub mod OtherValues
+pub mod OtherDigests
+pub mod EditLaws
+pub mod OldImages
 pub mod EditedTrees
+pub mod EditedFiles

@@ -1,5 +1,5 @@
-use Rattle.std.specs.Prelude.{◌≡◌, ℕ, ◌+◌, ◌≤◌, ◌==◌, ⊤, ◌⊎◌, Bool, true, false, List, [], ◌∷◌}
-use Rattle.std.specs.Prelude.{filter, flat_map, length, None, bytes_eq, if◌then◌else◌}
+use Rattle.std.specs.Prelude.{◌≡◌, ℕ, ◌+◌, ◌^◌, ◌<◌, ◌≤◌, ◌==◌, ⊤, ◌⊎◌, Bool, true, false, List, []}
+use Rattle.std.specs.Prelude.{◌∷◌, filter, flat_map, length, take, None, bytes_eq, if◌then◌else◌}
 use Rattle.std.specs.Fmt.{decimal}
 use Rattle.std.specs.FinMap.{get}
 use Rattle.bi_base.specs.Cells.{cell}
@@ -48,6 +48,33 @@ turns = 0 ∷ 1 ∷ 2 ∷ 3 ∷ 4 ∷ []
 abbrev pub in_edit_order : List Edit → List Edit
 in_edit_order edits = flat_map (λ turn. edits_of_turn turn edits) turns
 
+-- All edits but those of digests, which are the last, in this order.
+abbrev pub before_digests : List Edit → List Edit
+before_digests edits = flat_map (λ turn. edits_of_turn turn edits) (take 4 turns)
+
+-- ---- edits one after the other
+
+-- What edits make of something, one after the other.
+abbrev pub after_each : {Made : Type 0} → (edited : Made → Edit → Made) → Made → List Edit → Made
+after_each edited first [] = first
+after_each edited first (edit ∷ later) = after_each edited (edited first edit) later
+
+-- This is the first of these edits that is refused. Each looks at what those before it made.
+abbrev pub IsFirstRefusedBy : {Made : Type 0} → (IsRefused : Made → Edit → Type 0)
+    → (edited : Made → Edit → Made) → Made → List Edit → Edit → Type 0
+IsFirstRefusedBy IsRefused edited first [] refused = ⊥
+IsFirstRefusedBy IsRefused edited first (edit ∷ later) refused =
+    (IsRefused first edit × (refused ≡ edit))
+    ⊎ (¬ (IsRefused first edit)
+    × IsFirstRefusedBy IsRefused edited (edited first edit) later refused)
+
+-- None of these edits is refused.
+abbrev pub NoneIsRefusedBy : {Made : Type 0} → (IsRefused : Made → Edit → Type 0)
+    → (edited : Made → Edit → Made) → Made → List Edit → Type 0
+NoneIsRefusedBy IsRefused edited first [] = ⊤
+NoneIsRefusedBy IsRefused edited first (edit ∷ later) =
+    ¬ (IsRefused first edit) × NoneIsRefusedBy IsRefused edited (edited first edit) later
+
 -- ---- flattened image trees
 
 -- Image nodes whose payloads are values of `data`, each with the digests of its payload in its hash
@@ -71,8 +98,7 @@ edited_root root SetDigests = with_image_nodes with_payload_digests root
 
 -- A plain tree after edits, one after the other.
 abbrev pub root_after : Root PropertyMap → List Edit → Root PropertyMap
-root_after root [] = root
-root_after root (edit ∷ later) = root_after (edited_root root edit) later
+root_after root edits = after_each edited_root root edits
 
 -- A flattened image tree after edits, in the order in which they are made.
 abbrev pub edited_tree : List Edit → ImageTree → ImageTree
@@ -109,8 +135,7 @@ edited_legacy image other = image
 
 -- A legacy image after edits, one after the other.
 abbrev pub legacy_after : LegacyImage → List Edit → LegacyImage
-legacy_after image [] = image
-legacy_after image (edit ∷ later) = legacy_after (edited_legacy image edit) later
+legacy_after image edits = after_each edited_legacy image edits
 
 -- ---- boot images
 
@@ -121,10 +146,11 @@ meaning_after edits (OfFit tree) = OfFit (edited_tree edits tree)
 
 -- ---- which edits can be made
 
--- A name is the number of a part, in decimal digits.
+-- A name is a number below 2^64, in decimal digits.
 pub record IsPartNumber (name : List ℕ) : Type 0 where
   pub number : ℕ
-  pub is : name ≡ decimal number
+  pub small : number < 2 ^ 64
+  pub is : decimal number ≡ name
 
 -- Whether one of these parts, of which the first has this index, has this number.
 abbrev pub has_part : (index : ℕ) → (name : List ℕ) → List (List ℕ) → Bool
@@ -132,15 +158,23 @@ has_part index name [] = false
 has_part index name (part ∷ later) =
     if bytes_eq name (decimal index) then true else has_part (index + 1) name later
 
+-- An edit is of a flattened image tree.
+abbrev pub IsOfTree : Edit → Type 0
+IsOfTree (SetField value) = ⊥
+IsOfTree edit = ⊤
+
+-- An edit is of a legacy image.
+abbrev pub IsOfLegacy : Edit → Type 0
+IsOfLegacy (RemoveNode path) = ⊥
+IsOfLegacy (RemoveProperty place) = ⊥
+IsOfLegacy (SetProperty place value) = ⊥
+IsOfLegacy (SetPayload part bytes) = IsPartNumber part
+IsOfLegacy edit = ⊤
+
 -- An edit is of a boot image of the kind that means this.
 abbrev pub IsOfKind : Meaning → Edit → Type 0
-IsOfKind (OfFit tree) (SetField value) = ⊥
-IsOfKind (OfFit tree) edit = ⊤
-IsOfKind (OfLegacy image) (RemoveNode path) = ⊥
-IsOfKind (OfLegacy image) (RemoveProperty place) = ⊥
-IsOfKind (OfLegacy image) (SetProperty place value) = ⊥
-IsOfKind (OfLegacy image) (SetPayload part bytes) = IsPartNumber part
-IsOfKind (OfLegacy image) edit = ⊤
+IsOfKind (OfFit tree) edit = IsOfTree edit
+IsOfKind (OfLegacy image) edit = IsOfLegacy edit
 
 -- An edit adds nodes at a depth over a limit, or would if they were not there.
 abbrev pub IsTooDeep : Limits → Edit → Type 0
@@ -154,20 +188,37 @@ FindsNothing root (RemoveProperty place) = value_by_path root place.path place.n
 FindsNothing root (SetPayload image payload) = node_by_path root (image_path image) ≡ None
 FindsNothing root edit = ⊥
 
--- The first of these edits that finds nothing, if one does. Each looks at what those before it
--- made.
+-- This is the first of these edits that finds nothing.
 abbrev pub IsFirstRefused : Root PropertyMap → List Edit → Edit → Type 0
-IsFirstRefused root [] refused = ⊥
-IsFirstRefused root (edit ∷ later) refused =
-    (FindsNothing root edit × (refused ≡ edit))
-    ⊎ (¬ (FindsNothing root edit) × IsFirstRefused (edited_root root edit) later refused)
+IsFirstRefused root edits refused = IsFirstRefusedBy FindsNothing edited_root root edits refused
 
 -- None of these edits finds nothing.
 abbrev pub AllFind : Root PropertyMap → List Edit → Type 0
-AllFind root [] = ⊤
-AllFind root (edit ∷ later) = ¬ (FindsNothing root edit) × AllFind (edited_root root edit) later
+AllFind root edits = NoneIsRefusedBy FindsNothing edited_root root edits
 
--- The first of these edits of a legacy image whose part is not there.
+-- The part of an edit of a legacy image is not there.
 abbrev pub LacksPart : LegacyImage → Edit → Type 0
 LacksPart image (SetPayload part bytes) = has_part 0 part image.parts ≡ false
 LacksPart image edit = ⊥
+
+-- This is the first of these edits of a legacy image whose part is not there.
+abbrev pub IsFirstWithoutPart : LegacyImage → List Edit → Edit → Type 0
+IsFirstWithoutPart image edits refused =
+    IsFirstRefusedBy LacksPart edited_legacy image edits refused
+
+-- The part of each of these edits is there.
+abbrev pub AllHaveParts : LegacyImage → List Edit → Type 0
+AllHaveParts image edits = NoneIsRefusedBy LacksPart edited_legacy image edits
+
+-- What each of these edits of a boot image is of is there.
+abbrev pub AllFindIn : Meaning → List Edit → Type 0
+AllFindIn (OfLegacy image) edits = AllHaveParts image (in_edit_order edits)
+AllFindIn (OfFit tree) edits = AllFind (plain_root tree) (in_edit_order edits)
+
+-- This is the first of these edits of a boot image, in the order in which they are made, that finds
+-- nothing to remove, no image or no part.
+abbrev pub IsFirstRefusedIn : Meaning → List Edit → Edit → Type 0
+IsFirstRefusedIn (OfLegacy image) edits refused =
+    IsFirstWithoutPart image (in_edit_order edits) refused
+IsFirstRefusedIn (OfFit tree) edits refused =
+    IsFirstRefused (plain_root tree) (in_edit_order edits) refused

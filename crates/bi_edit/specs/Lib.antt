@@ -8,4 +8,12 @@ pub mod EditWords
 pub mod KnownEdits
 pub mod KnownEditWords
 pub mod EditLaws
+pub mod EditRefusals
 pub mod EditedFits
+pub mod LegacyEdits
+pub mod FormChoices
+pub mod EditNotes
+pub mod OldImages
+pub mod PlacedPayloads
+pub mod EditedFiles
+pub mod KnownEditedFiles

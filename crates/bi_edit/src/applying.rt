@@ -6,13 +6,13 @@ ghost use Rattle.bi_fit.specs.Names.{timestamp_name};
 ghost use Rattle.bi_tree.specs.Trees.{with_own_value, with_value_by_path};
 ghost use Rattle.bi_edit.specs.Applying.{IsApplyError, IsDone, IsErrorAt};
 ghost use Rattle.bi_edit.specs.Edits.{AllFind, FindsNothing, IsFirstRefused, edited_root};
-ghost use Rattle.bi_edit.specs.Edits.{edits_of_turn, in_edit_order, root_after};
+ghost use Rattle.bi_edit.specs.Edits.{before_digests, edits_of_turn, in_edit_order, root_after};
 ghost use Rattle.bi_edit.specs.declared.edit.Edit.TheVariants.{RemoveNode, RemoveProperty};
 ghost use Rattle.bi_edit.specs.declared.edit.Edit.TheVariants.{SetPayload};
 
 mod digests;
 
-use crate::edit::{Edit, TURNS};
+use crate::edit::{Edit, TURN_OF_DIGESTS, TURNS};
 use crate::places::{ImageName, NodePlace, PropertyPlace};
 use bi_tree::Tree;
 use digests::set_digests;
@@ -59,6 +59,39 @@ pub fn apply<'a>(
         apply_turn(alloc, tree, edits, turn)?;
     }
     Ok(())
+}
+
+/// Makes all of these edits but those of digests, as `apply` does.
+pub(crate) fn apply_before_digests<'a>(
+    alloc: Global,
+    tree: &mut Tree<'a>,
+    edits: &'a [Edit<'a>],
+) -> Result<(), ApplyError>
+    ensures edited { OnOk result
+        (tree.new ≡ root_after tree.old (before_digests edits.entry.now)) }
+    ensures found { OnOk result (AllFind tree.old (before_digests edits.entry.now)) }
+    ensures failed { IfErr result (IsApplyError
+        (IsFirstRefused tree.old (before_digests edits.entry.now)) edits.entry.now) }
+{
+    for turn in 0..TURN_OF_DIGESTS {
+        apply_turn(alloc, tree, edits, turn)?;
+    }
+    Ok(())
+}
+
+/// Makes those of these edits that compute digests.
+pub(crate) fn apply_digests<'a>(
+    alloc: Global,
+    tree: &mut Tree<'a>,
+    edits: &'a [Edit<'a>],
+) -> Result<(), ApplyError>
+    ensures edited { OnOk result
+        (tree.new ≡ root_after tree.old (edits_of_turn 4 edits.entry.now)) }
+    ensures found { OnOk result (AllFind tree.old (edits_of_turn 4 edits.entry.now)) }
+    ensures failed { IfErr result (IsApplyError
+        (IsFirstRefused tree.old (edits_of_turn 4 edits.entry.now)) edits.entry.now) }
+{
+    apply_turn(alloc, tree, edits, TURN_OF_DIGESTS)
 }
 
 /// Makes those of these edits that have this turn, in their order.

@@ -51,6 +51,9 @@ pub enum Edit<'a> {
 /// The number of turns in which edits are made.
 pub(crate) const TURNS: usize = 5;
 
+/// The last of them: that of digests.
+pub(crate) const TURN_OF_DIGESTS: usize = 4;
+
 impl<'a> Edit<'a> {
     /// Returns the turn in which the edit is made: removals have the first.
     pub(crate) fn turn(&self) -> usize

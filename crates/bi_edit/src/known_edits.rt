@@ -1,5 +1,8 @@
 //! A small tree and what it is after edits. Each function does nothing: its contract is the fact.
 
+ghost use Rattle.bi_edit.specs.KnownEditedFiles.{EditBoundsAreKnown, EditErrorsAreKnown};
+ghost use Rattle.bi_edit.specs.KnownEditedFiles.{EditedMeaningsAreKnown, FormsOfFilesAreKnown};
+ghost use Rattle.bi_edit.specs.KnownEditedFiles.{PlacesAreKnown};
 ghost use Rattle.bi_edit.specs.KnownEditWords.{EditWordsAreKnown, OtherEditWordsAreKnown};
 ghost use Rattle.bi_edit.specs.KnownEdits.{EditsAreKnown, LegacyEditsAreKnown, OrderIsKnown};
 ghost use Rattle.bi_edit.specs.KnownEdits.{EditRefusalsAreKnown};
@@ -29,4 +32,22 @@ pub fn refusals_are_known()
 pub fn edit_words_are_known()
     ensures words { EditWordsAreKnown }
     ensures others { OtherEditWordsAreKnown }
+{}
+
+/// Boot images have known meanings after edits.
+pub fn edited_meanings_are_known()
+    ensures meanings { EditedMeaningsAreKnown }
+{}
+
+/// Files have known forms, and places of payloads are known to be outside the blob or fixed.
+pub fn forms_of_files_are_known()
+    ensures forms { FormsOfFilesAreKnown }
+    ensures places { PlacesAreKnown }
+{}
+
+/// Edits of small boot images have known errors, and compute digests of payloads within known
+/// bounds.
+pub fn edit_errors_are_known()
+    ensures bounds { EditBoundsAreKnown }
+    ensures errors { EditErrorsAreKnown }
 {}

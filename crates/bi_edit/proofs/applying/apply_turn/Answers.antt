@@ -1,6 +1,6 @@
 use Rattle.std.proofs.Common.{[], ◌∷◌, ◌+◌, drop, subst, sym, ap, ◌∙◌, arith}
 use Rattle.bi_edit.specs.Applying.{IsApplyError}
-use Rattle.bi_edit.specs.Edits.{IsFirstRefused, edits_of_turn, turn_of}
+use Rattle.bi_edit.specs.Edits.{FindsNothing, IsFirstRefused, edited_root, edits_of_turn, turn_of}
 use Rattle.bi_edit.proofs.AppliedEdits.{HasSameEnd, next_at, next_of_turn, error_of_edit, edit_read_at, refused_next, refused_of, same_turn}
 use Rattle.bi_edit.proofs.applying.apply_turn.Goals as goal
 
@@ -16,8 +16,8 @@ returns-in_err-apply_at-clause-failed c =
     ∙ next_of_turn turn edit (drop (index + 1) edits) (same_turn (turn_of edit) turn (sym c.turn.ensures ∙ c.if-turn.true)) in
     error_of_edit (IsApplyError (IsFirstRefused c.args.tree.now all) edits)
     c.from_residual.result c.in_err-apply_at.field-0.0 c.from_residual.ensures.1
-    (refused_of c.loop-index.tree c.args.tree.now (edit ∷ []) later all edits c.in_err-apply_at.field-0.0
-    (subst (λ more. HasSameEnd c.loop-index.tree more c.args.tree.now all) left c.loop-index.invariant)
-    (refused_next c.loop-index.tree edit edits index c.in_err-apply_at.field-0.0
+    (refused_of FindsNothing edited_root c.loop-index.tree c.args.tree.now (edit ∷ []) later all edits c.in_err-apply_at.field-0.0
+    (subst (λ more. HasSameEnd FindsNothing edited_root c.loop-index.tree more c.args.tree.now all) left c.loop-index.invariant)
+    (refused_next FindsNothing edited_root c.loop-index.tree edit edits index c.in_err-apply_at.field-0.0
     (edit_read_at edits index edit (omega (arith, c.loop-index-test.true)) c.index-edits-index.is)
     c.in_err-apply_at.ensures.failed))

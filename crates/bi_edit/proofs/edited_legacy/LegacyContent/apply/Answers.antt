@@ -1,0 +1,36 @@
+use Rattle.std.proofs.Common.{◌+◌, ◌++◌, subst, sym, arith}
+use Rattle.bi_edit.specs.Applying.{IsApplyError}
+use Rattle.bi_edit.specs.Edits.{LacksPart, IsFirstWithoutPart, edited_legacy, in_edit_order, edits_of_turn}
+use Rattle.bi_edit.proofs.AppliedEdits.{HasSameEnd, continues_after, edits_from, edits_from_next, error_of_edit, refused_of}
+use Rattle.bi_edit.proofs.edited_legacy.LegacyContent.apply.Goals as goal
+use Rattle.bi_edit.proofs.edited_legacy.LegacyContent.apply.Goals.{After-apply_turn}
+
+-- The edits of the next turn and of those after it are left.
+continues_next : (c : After-apply_turn) →
+    HasSameEnd LacksPart edited_legacy c.loop-turn.self
+    (edits_of_turn c.loop-turn.turn c.args.edits.now ++ edits_from (c.loop-turn.turn + 1) c.args.edits.now)
+    c.args.self.now (in_edit_order c.args.edits.now)
+continues_next c =
+    subst (λ left. HasSameEnd LacksPart edited_legacy c.loop-turn.self left c.args.self.now (in_edit_order c.args.edits.now))
+    (edits_from_next c.loop-turn.turn c.args.edits.now (omega (arith, c.loop-turn-test.true)))
+    c.loop-turn.invariant
+
+pub returns-in_err-apply_turn-clause-failed : goal.returns-in_err-apply_turn-clause-failed
+returns-in_err-apply_turn-clause-failed c =
+    let edits = c.args.edits.now in
+    let turn = c.loop-turn.turn in
+    error_of_edit (IsApplyError (IsFirstWithoutPart c.args.self.now (in_edit_order edits)) edits)
+    c.from_residual.result c.in_err-apply_turn.field-0.0 c.from_residual.ensures.1
+    (refused_of LacksPart edited_legacy c.loop-turn.self c.args.self.now (edits_of_turn turn edits) (edits_from (turn + 1) edits) (in_edit_order edits)
+    edits c.in_err-apply_turn.field-0.0
+    (continues_next (goal.at.returns-in_err-apply_turn-clause-failed c).After-apply_turn)
+    c.in_err-apply_turn.ensures.failed)
+
+pub loop-turn-preserved : goal.loop-turn-preserved
+loop-turn-preserved c =
+    let edits = c.args.edits.now in
+    let turn = c.loop-turn.turn in
+    subst (λ made. HasSameEnd LacksPart edited_legacy made (edits_from (turn + 1) edits) c.args.self.now (in_edit_order edits))
+    (sym c.in_ok-apply_turn.ensures.edited)
+    (continues_after LacksPart edited_legacy c.loop-turn.self c.args.self.now (edits_of_turn turn edits) (edits_from (turn + 1) edits)
+    (in_edit_order edits) (continues_next (goal.at.loop-turn-preserved c).After-apply_turn) c.in_ok-apply_turn.ensures.found)
