@@ -4,9 +4,10 @@
 lists.py          writes each list again
 lists.py --check  prints how each list differs from that of the sources, and fails if one does
 
-The commands and their options are those of the table in crates/bootimg/src/command_line/table.rt, in its order, and `help`. Values that
-have names are the strings of the functions in VALUES. Completions also offer MORE_VALUES, and the names in an image that are in NAMES. A
-list stands in its file between a line with `lists.py: begin NAME` and one with `lists.py: end`, where NAME is a function of this module.
+The commands are those of the table in crates/bootimg/src/command_line/table.rt, in its order, and `help`, and their options those of
+table/options.rt next to it. Values that have names are the strings of the functions in VALUES. Completions also offer MORE_VALUES, and the
+names in an image that are in NAMES. A list stands in its file between a line with `lists.py: begin NAME` and one with `lists.py: end`,
+where NAME is a function of this module.
 """
 
 import difflib
@@ -17,7 +18,7 @@ from pathlib import Path
 
 ROOT = Path(__file__).resolve().parents[1]
 FILES = ["contrib/bootimg.bash", "contrib/_bootimg", "contrib/bootimg.fish", "man/bootimg.1", "README.md"]
-TABLE = "crates/bootimg/src/command_line/table.rt"
+TABLE = ["crates/bootimg/src/command_line/table/options.rt", "crates/bootimg/src/command_line/table.rt"]
 # The most columns of a line of words in the manual page, after its macro.
 WIDTH = 76
 
@@ -121,10 +122,10 @@ def more_values(name, help, values):
 
 def commands():
     """The commands of the program, each with its options."""
-    text = re.sub(r"//.*", "", read(TABLE))
+    text = re.sub(r"//.*", "", "".join(map(read, TABLE)))
     constants = dict(re.findall(r"^(?:pub )?const (\w+): &str = (.*?);$", text, re.M))
     fields, options, found = {}, {}, []
-    for variable, body in re.findall(r"^const (\w+): OptionText = OptionText \{\n(.*?)^\};", text, re.M | re.S):
+    for variable, body in re.findall(r"^pub const (\w+): OptionText = OptionText \{\n(.*?)^\};", text, re.M | re.S):
         base = re.search(r"\.\.(\w+)", body)
         fields[variable] = dict(fields[base[1]]) if base else {}
         fields[variable].update(re.findall(r'^    (\w+): ((?:"(?:[^"\\]|\\.)*"|[^,"])*),$', body, re.M | re.S))

@@ -29,6 +29,6 @@ check "a list that was edited by hand is found" is_found README.md 's/Find the i
 check "a value that is new in the sources is found" is_found crates/bi_legacy/src/codes.rt 's/ 5 => Some("linux"),/& 9 => Some("irix"),/' \
     '+.Cm netbsd , linux , irix , vxworks , u-boot'
 check "an option that a command no longer has is found" is_found $table 's/&\[LAYOUT, /\&[/' '-.Op Fl -layout'
-check "values that the help has are found" is_found $table 's/from 4 to 1048576"/from 4 to 16"/' '+    [--align]="4 8 16"'
+check "values that the help has are found" is_found crates/bootimg/src/command_line/table/options.rt 's/from 4 to 1048576"/from 4 to 16"/' '+    [--align]="4 8 16"'
 check "a command of another name is found" is_found $table 's/name: "scan"/name: "find"/' '+.Cm find'
 finish

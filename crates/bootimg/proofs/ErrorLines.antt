@@ -1,4 +1,5 @@
 use Rattle.std.proofs.Common.{◌≡◌, ◌++◌, ◌∙◌, ℕ, Bool, false, true, List, [], Result, Ok, Err, is_err, ap, append-nil, subst, sym}
+use Rattle.std.proofs.lemmas.List.{append_assoc}
 use Rattle.bi_base.specs.declared.fault.Error.{Error}
 use Rattle.bi_base.specs.Sinks.{Wrote}
 use Rattle.bi_base.specs.Traces.{WriteTrace}
@@ -15,6 +16,15 @@ pub sends_by_writing : (old new : WriteTrace) (bytes : List ℕ) (result : Resul
 sends_by_writing old new bytes (Ok done) wrote begin before is = wrote_in_turn begin old new before bytes is wrote
 sends_by_writing old new bytes (Err error) stopped begin before is =
     (error, stopped_after begin old new before bytes error is stopped)
+
+-- A line that is extended twice.
+pub extends_twice : (one two three : LineState) (first second : List ℕ) → Extends one first two → Extends two second three
+    → Extends one (first ++ second) three
+extends_twice one two three first second before after = record {
+  extends = λ begin bytes has. subst (λ l. LineHas begin l three) (append_assoc bytes first second)
+      (after.extends begin (bytes ++ first) (before.extends begin bytes has));
+  same_borrow = after.same_borrow ∙ before.same_borrow;
+}
 
 -- All bytes that a line has are logged once none are held back.
 sent_is_logged : (has_failed : Bool) (old new : WriteTrace) (bytes : List ℕ) → IsSent has_failed old bytes new → Logs old bytes new

@@ -51,8 +51,9 @@ none_follows IsDone is_last one other outcome later old new last (LastDone first
 
 pub next_images_are_known : NextImagesAreKnown
 next_images_are_known = record {
-  after_refusal = λ files request other later old new are.
-      second_follows (IsImageDone files request false) is_last file_r1 other (failed_r1 (Call (Refused bad_magic))) later old new refl are;
-  after_write = λ files request other later old new are.
-      none_follows (IsImageDone files request false) is_last file_r1 other (failed_r1 (Call WriteFailed)) later old new refl are;
+  after_refusal = λ files hints request other later old new are.
+      second_follows (IsImageDone files hints request false) is_last file_r1 other (failed_r1 (Call
+      (Refused bad_magic))) later old new refl are;
+  after_write = λ files hints request other later old new are.
+      none_follows (IsImageDone files hints request false) is_last file_r1 other (failed_r1 (Call WriteFailed)) later old new refl are;
 }

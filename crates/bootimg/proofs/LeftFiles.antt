@@ -16,6 +16,7 @@ use Rattle.bootimg.specs.declared.command_line.source.ImageSource.{ImageSource}
 use Rattle.bootimg.specs.declared.failure.Failure.{Failure}
 use Rattle.bootimg.specs.declared.jobs.SourceFailure.{SourceFailure}
 use Rattle.bootimg.specs.declared.tasks.Done.{Done}
+use Rattle.bootimg.specs.declared.terminal.Terminal.{Terminal}
 use Rattle.bootimg.specs.CommandLine.{IsAllRequested, IsImagesRequested, IsRequest, sources_of}
 use Rattle.bi_files.specs.Files.{FileStep, KnownFiles, Names, Opened, NotOpened, ReaderClosed, WasOpened, WasNotOpened}
 use Rattle.clap.specs.declared.error.kind.ErrorKind.{ErrorKind}
@@ -32,7 +33,7 @@ use Rattle.bootimg.specs.Runs.{IsImageNotRead, InputNotRead, FileNotRead, IsPart
 use Rattle.bootimg.specs.Runs.{FileNotOpened, IsCompareWork, BothRead, OneNotRead, OtherNotRead, IsBuildWork, BuiltWithInput, BuiltOfFiles}
 use Rattle.bootimg.specs.Runs.{PartNotRead, NoRoom, IsJobWork, IsSavedWork, OutputSaved, OutputNotSaved, NoOutput, IsOutputRun}
 use Rattle.bootimg.specs.Runs.{ToStandardOutput, ToFile, IsEnd, EndsWell, EndsWithFailure, IsTextRun, IsWritten, IsNotWritten}
-use Rattle.bootimg.specs.Runs.{IsUsage, inputs_before, inputs_after}
+use Rattle.bootimg.specs.Runs.{DidJob, IsRequestRun, IsUsage, KeptFromTerminal, inputs_before, inputs_after}
 use Rattle.bootimg.specs.ProgramRuns.{IsRun, RanJob, ExtractedAll, Rejected, WroteText}
 use Rattle.bootimg.specs.Runs.{IsAllWork, PayloadsSaved, PayloadsNotSaved, NotExtracted, NothingRead}
 use Rattle.bootimg.specs.Tasks.{status_of}
@@ -142,16 +143,16 @@ kept_names base names old (Some now) are keeps after is =
     let same : after ≡ now = let e : Some now ≡ Some after = is in cc in
     ap (λ l. after_steps base l) same ∙ keeps.2 ∙ are keeps.0 keeps.1
 
-status_at_ok : (errors new_errors : WriteTrace) (status : ℕ) (outcome : Result Done SourceFailure) (done : Done)
-    → IsEnd errors new_errors status outcome → outcome ≡ Ok done → status ≡ status_of done.good
-status_at_ok errors new_errors status outcome done (EndsWell other same notes is) ok =
+status_at_ok : (hints : Bool) (errors new_errors : WriteTrace) (status : ℕ) (outcome : Result Done SourceFailure) (done : Done)
+    → IsEnd hints errors new_errors status outcome → outcome ≡ Ok done → status ≡ status_of done.good
+status_at_ok hints errors new_errors status outcome done (EndsWell other same notes is) ok =
     let equal : other ≡ done = cc in is ∙ ap (λ d. status_of d.good) equal
-status_at_ok errors new_errors status outcome done (EndsWithFailure failed same reports is) ok = absurd (cc)
+status_at_ok hints errors new_errors status outcome done (EndsWithFailure failed same reports is) ok = absurd (cc)
 
-status_at_err : (errors new_errors : WriteTrace) (status : ℕ) (outcome : Result Done SourceFailure) (failed : SourceFailure)
-    → IsEnd errors new_errors status outcome → outcome ≡ Err failed → status ≡ 2
-status_at_err errors new_errors status outcome failed (EndsWell other same notes is) err = absurd (cc)
-status_at_err errors new_errors status outcome failed (EndsWithFailure other same reports is) err = is
+status_at_err : (hints : Bool) (errors new_errors : WriteTrace) (status : ℕ) (outcome : Result Done SourceFailure) (failed : SourceFailure)
+    → IsEnd hints errors new_errors status outcome → outcome ≡ Err failed → status ≡ 2
+status_at_err hints errors new_errors status outcome failed (EndsWell other same notes is) err = absurd (cc)
+status_at_err hints errors new_errors status outcome failed (EndsWithFailure other same reports is) err = is
 
 -- What a run leaves, if its steps are known.
 abbrev pub RunLeaves : (base names : Names) → (arguments : List (List ℕ)) → (input : Option (List ℕ)) → (status : ℕ)
@@ -164,12 +165,13 @@ failure_leaves : (base names : Names) (arguments : List (List ℕ)) (input : Opt
 failure_leaves base names arguments input status None is left = tt
 failure_leaves base names arguments input status (Some after) is left = HasFailed is left
 
-saved_work_leaves : (base names : Names) (arguments : List (List ℕ)) (request : Request) (name : Bor (List ℕ)) (before after : Inputs)
+saved_work_leaves : (base names : Names) (hints : Bool) (arguments : List (List ℕ)) (request : Request) (name : Bor (List ℕ))
+    (before after : Inputs)
     (errors new_errors : WriteTrace) (status : ℕ) (outcome : Result Done SourceFailure) → IsRequest arguments request
     → request.output ≡ Some name → AreNames base names before.steps
-    → IsSavedWork (Some names) request.job request.limits name before after outcome → IsEnd errors new_errors status outcome
+    → IsSavedWork (Some names) request.job request.limits name before after outcome → IsEnd hints errors new_errors status outcome
     → IfSome after.steps HaveContents → RunLeaves base names arguments before.input.remaining status after.steps
-saved_work_leaves base names arguments request name before after errors new_errors status outcome is named are
+saved_work_leaves base names hints arguments request name before after errors new_errors status outcome is named are
     (OutputSaved done output worked held saved ends) end contents =
     there after.steps
     (saved_leaves base names name.now output worked after.steps
@@ -182,17 +184,17 @@ saved_work_leaves base names arguments request name before after errors new_erro
     there None has = tt
     there (Some l) has =
         OutputIsThere request name done output before (record { input = after.input; steps = worked }) is named refl held
-        (status_at_ok errors new_errors status outcome done end ends) has
-saved_work_leaves base names arguments request name before after errors new_errors status outcome is named are
+        (status_at_ok hints errors new_errors status outcome done end ends) has
+saved_work_leaves base names hints arguments request name before after errors new_errors status outcome is named are
     (OutputNotSaved done output worked held failure not ends) end contents =
     failure_leaves base names arguments before.input.remaining status after.steps
-    (status_at_err errors new_errors status outcome _ end ends)
+    (status_at_err hints errors new_errors status outcome _ end ends)
     (not_saved_leaves base names name.now output failure worked after.steps
     (kept_names base names before.steps worked are (job_work_keeps_names base (Some names) request.job request.limits _ _ _ held.work)) not)
-saved_work_leaves base names arguments request name before after errors new_errors status outcome is named are
+saved_work_leaves base names hints arguments request name before after errors new_errors status outcome is named are
     (NoOutput failed held ends) end contents =
     failure_leaves base names arguments before.input.remaining status after.steps
-    (status_at_err errors new_errors status outcome failed end ends)
+    (status_at_err hints errors new_errors status outcome failed end ends)
     (kept_is_left base names before.steps after.steps are
     (job_work_keeps_names base (Some names) request.job request.limits _ _ _ held.work.work))
 
@@ -201,96 +203,104 @@ names_kept : (base names : Names) (old : Option (List FileStep)) (after : List F
     → KeepsNames base old (Some after) → AreSameNames names (after_steps base after)
 names_kept base names old after are keeps q = ap (λ n. n q) (keeps.2 ∙ are keeps.0 keeps.1)
 
-output_run_leaves : (base names : Names) (arguments : List (List ℕ)) (request : Request) (run : Run) (outcome : Result Done SourceFailure)
+output_run_leaves : (base names : Names) (hints : Bool) (arguments : List (List ℕ)) (request : Request) (run : Run)
+    (outcome : Result Done SourceFailure)
     (output : Option (Bor (List ℕ))) → IsRequest arguments request → request.output ≡ output → AreNames base names run.steps
-    → IsOutputRun (Some names) request.job request.limits run outcome output → IsEnd run.errors run.new_errors run.status outcome
+    → IsOutputRun (Some names) request.job request.limits run outcome output → IsEnd hints run.errors run.new_errors run.status outcome
     → IfSome run.new_steps HaveContents → RunLeaves base names arguments run.input.remaining run.status run.new_steps
-output_run_leaves base names arguments request run outcome output is named are (ToStandardOutput work) end contents =
+output_run_leaves base names hints arguments request run outcome output is named are (ToStandardOutput work) end contents =
     kept run.new_steps (job_work_keeps_names base (Some names) request.job request.limits _ run.steps run.new_steps work)
   where
     kept : (new : Option (List FileStep)) → KeepsNames base run.steps new
         → RunLeaves base names arguments run.input.remaining run.status new
     kept None keeps = tt
     kept (Some after) keeps = NoFileIsNamed request is named (names_kept base names run.steps after are keeps)
-output_run_leaves base names arguments request run outcome output is named are (ToFile name saved same) end contents =
-    saved_work_leaves base names arguments request name (inputs_before run) (inputs_after run) run.errors run.new_errors run.status outcome
+output_run_leaves base names hints arguments request run outcome output is named are (ToFile name saved same) end contents =
+    saved_work_leaves base names hints arguments request name (inputs_before run)
+    (inputs_after run) run.errors run.new_errors run.status outcome
     is named are saved end contents
 
 -- ---- several images
 
-image_done_keeps : (base : Names) (files : KnownFiles) (request : ImagesRequest) (is_held : Bool) (source : ImageSource)
-    (outcome : Result Done SourceFailure) (old new : Streams) → IsImageDone files request is_held source outcome old new
+image_done_keeps : (base : Names) (files : KnownFiles) (hints : Bool) (request : ImagesRequest) (is_held : Bool) (source : ImageSource)
+    (outcome : Result Done SourceFailure) (old new : Streams) → IsImageDone files hints request is_held source outcome old new
     → KeepsNames base old.steps new.steps
-image_done_keeps base files request is_held source outcome old new is =
+image_done_keeps base files hints request is_held source outcome old new is =
     image_work_keeps base files _ source request.limits _ old.steps new.steps is.work
 
-done_in_turn_keeps_names : (base : Names) (files : KnownFiles) (request : ImagesRequest) (is_held : Bool) (sources : List ImageSource)
+done_in_turn_keeps_names : (base : Names) (files : KnownFiles) (hints : Bool) (request : ImagesRequest) (is_held : Bool)
+    (sources : List ImageSource)
     (outcomes : List (Result Done SourceFailure)) (old new : Streams)
-    → AreDoneInTurn (IsImageDone files request is_held) is_last sources outcomes old new → KeepsNames base old.steps new.steps
-done_in_turn_keeps_names base files request is_held sources outcomes old new (AllDone streams) = keeps_same base old.steps new.steps refl
-done_in_turn_keeps_names base files request is_held sources outcomes old new
+    → AreDoneInTurn (IsImageDone files hints request is_held) is_last sources outcomes old new → KeepsNames base old.steps new.steps
+done_in_turn_keeps_names base files hints request is_held sources outcomes old new
+    (AllDone streams) = keeps_same base old.steps new.steps refl
+done_in_turn_keeps_names base files hints request is_held sources outcomes old new
     (NextDone source later outcome others first middle last done not rest) =
-    keeps_in_turn base old.steps middle.steps new.steps (image_done_keeps base files request is_held source outcome old middle done)
-    (done_in_turn_keeps_names base files request is_held later others middle new rest)
-done_in_turn_keeps_names base files request is_held sources outcomes old new (LastDone source later outcome first last done is) =
-    image_done_keeps base files request is_held source outcome old new done
+    keeps_in_turn base old.steps middle.steps new.steps (image_done_keeps base files hints request is_held source outcome old middle done)
+    (done_in_turn_keeps_names base files hints request is_held later others middle new rest)
+done_in_turn_keeps_names base files hints request is_held sources outcomes old new (LastDone source later outcome first last done is) =
+    image_done_keeps base files hints request is_held source outcome old new done
 
-held_images_keep : (base : Names) (files : KnownFiles) (request : ImagesRequest) (before after : Inputs) (errors new_errors : WriteTrace)
-    (status : ℕ) (held : Option (List ℕ)) → AreHeld files request before after errors new_errors status held
+held_images_keep : (base : Names) (files : KnownFiles) (hints : Bool) (request : ImagesRequest) (before after : Inputs)
+    (errors new_errors : WriteTrace)
+    (status : ℕ) (held : Option (List ℕ)) → AreHeld files hints request before after errors new_errors status held
     → KeepsNames base before.steps after.steps
-held_images_keep base files request before after errors new_errors status held are =
-    done_in_turn_keeps_names base files request true _ are.done.outcomes _ _ are.done.in_turn
+held_images_keep base files hints request before after errors new_errors status held are =
+    done_in_turn_keeps_names base files hints request true _ are.done.outcomes _ _ are.done.in_turn
 
-saved_images_leave : (base names : Names) (arguments : List (List ℕ)) (request : ImagesRequest) (name : Bor (List ℕ))
+saved_images_leave : (base names : Names) (hints : Bool) (arguments : List (List ℕ)) (request : ImagesRequest) (name : Bor (List ℕ))
     (before after : Inputs) (errors new_errors : WriteTrace) (status : ℕ) → IsImagesRequested arguments request
     → request.output ≡ Some name → AreNames base names before.steps
-    → AreSaved (Some names) request name before after errors new_errors status → IfSome after.steps HaveContents
+    → AreSaved (Some names) hints request name before after errors new_errors status → IfSome after.steps HaveContents
     → RunLeaves base names arguments before.input.remaining status after.steps
-saved_images_leave base names arguments request name before after errors new_errors status is named are
+saved_images_leave base names hints arguments request name before after errors new_errors status is named are
     (TextsSaved output worked held less saved) contents =
     there after.steps
     (saved_leaves base names name.now output worked after.steps
-    (kept_names base names before.steps worked are (held_images_keep base (Some names) request _ _ errors new_errors status _ held)) saved
+    (kept_names base names before.steps worked are (held_images_keep base
+    (Some names) hints request _ _ errors new_errors status _ held)) saved
     contents)
   where
     there : (new : Option (List FileStep)) → IfSome new (λ l. HasFile names (after_steps base l) name.now output)
         → RunLeaves base names arguments before.input.remaining status new
     there None has = tt
     there (Some l) has =
-        TextsAreThere request name output before (record { input = after.input; steps = worked }) errors new_errors is named refl held less
+        TextsAreThere hints request name output before
+        (record { input = after.input; steps = worked }) errors new_errors is named refl held less
         has
-saved_images_leave base names arguments request name before after errors new_errors status is named are
+saved_images_leave base names hints arguments request name before after errors new_errors status is named are
     (TextsNotSaved output worked middle other held less failure not reports ends) contents =
     failure_leaves base names arguments before.input.remaining status after.steps ends
     (not_saved_leaves base names name.now output failure worked after.steps
-    (kept_names base names before.steps worked are (held_images_keep base (Some names) request _ _ errors middle other _ held)) not)
-saved_images_leave base names arguments request name before after errors new_errors status is named are
+    (kept_names base names before.steps worked are (held_images_keep base (Some names) hints request _ _ errors middle other _ held)) not)
+saved_images_leave base names hints arguments request name before after errors new_errors status is named are
     (OneHasFailed held all ends) contents =
     failure_leaves base names arguments before.input.remaining status after.steps ends
     (kept_is_left base names before.steps after.steps are
-    (held_images_keep base (Some names) request before after errors new_errors status held all))
+    (held_images_keep base (Some names) hints request before after errors new_errors status held all))
 
-images_run_leaves : (base names : Names) (arguments : List (List ℕ)) (request : ImagesRequest) (run : Run)
+images_run_leaves : (base names : Names) (hints : Bool) (arguments : List (List ℕ)) (request : ImagesRequest) (run : Run)
     (output : Option (Bor (List ℕ))) → IsImagesRequested arguments request → request.output ≡ output → AreNames base names run.steps
-    → IsImagesRun (Some names) request run output → IfSome run.new_steps HaveContents
+    → IsImagesRun (Some names) hints request run output → IfSome run.new_steps HaveContents
     → RunLeaves base names arguments run.input.remaining run.status run.new_steps
-images_run_leaves base names arguments request run output is named are (EachToStandardOutput done) contents =
+images_run_leaves base names hints arguments request run output is named are (EachToStandardOutput done) contents =
     kept run.new_steps
-    (done_in_turn_keeps_names base (Some names) request false _ done.outcomes (streams_before run) (streams_after run) done.in_turn)
+    (done_in_turn_keeps_names base (Some names) hints request false _ done.outcomes (streams_before run) (streams_after run) done.in_turn)
   where
     kept : (new : Option (List FileStep)) → KeepsNames base run.steps new
         → RunLeaves base names arguments run.input.remaining run.status new
     kept None keeps = tt
     kept (Some after) keeps = NoFileIsNamedForEach request is named (names_kept base names run.steps after are keeps)
-images_run_leaves base names arguments request run output is named are (EachToFile name saved same) contents =
-    saved_images_leave base names arguments request name (inputs_before run) (inputs_after run) run.errors run.new_errors run.status is
+images_run_leaves base names hints arguments request run output is named are (EachToFile name saved same) contents =
+    saved_images_leave base names hints arguments request name (inputs_before run)
+    (inputs_after run) run.errors run.new_errors run.status is
     named are saved contents
 
-all_work_leaves : (base names : Names) (arguments : List (List ℕ)) (request : AllRequest) (before after : Inputs)
+all_work_leaves : (base names : Names) (hints : Bool) (arguments : List (List ℕ)) (request : AllRequest) (before after : Inputs)
     (errors new_errors : WriteTrace) (status : ℕ) (outcome : Result Done SourceFailure) → IsAllRequested arguments request
-    → AreNames base names before.steps → IsAllWork (Some names) request before after outcome → IsEnd errors new_errors status outcome
+    → AreNames base names before.steps → IsAllWork (Some names) request before after outcome → IsEnd hints errors new_errors status outcome
     → IfSome after.steps HaveContents → RunLeaves base names arguments before.input.remaining status after.steps
-all_work_leaves base names arguments request before after errors new_errors status outcome is are
+all_work_leaves base names hints arguments request before after errors new_errors status outcome is are
     (PayloadsSaved file name payloads read image all word saved done ended ends) end contents =
     there after.steps
     (directory_saved_leaves base names name payloads read after.steps
@@ -302,48 +312,60 @@ all_work_leaves base names arguments request before after errors new_errors stat
     there None has = tt
     there (Some l) has =
         DirectoryIsThere request file name payloads before (record { input = after.input; steps = read }) is refl image all word
-        (status_at_ok errors new_errors status outcome done end ends ∙ ap status_of ended.is_answer) has
-all_work_leaves base names arguments request before after errors new_errors status outcome is are
+        (status_at_ok hints errors new_errors status outcome done end ends ∙ ap status_of ended.is_answer) has
+all_work_leaves base names hints arguments request before after errors new_errors status outcome is are
     (PayloadsNotSaved file name payloads read image all word failure not ends) end contents =
     failure_leaves base names arguments before.input.remaining status after.steps
-    (status_at_err errors new_errors status outcome _ end ends)
+    (status_at_err hints errors new_errors status outcome _ end ends)
     (directory_not_saved_leaves base names name payloads failure read after.steps
     (kept_names base names before.steps read are (image_read_keeps base (Some names) request.limits before _ file request.source image))
     not)
-all_work_leaves base names arguments request before after errors new_errors status outcome is are
+all_work_leaves base names hints arguments request before after errors new_errors status outcome is are
     (NotExtracted file image error why ends) end contents =
     failure_leaves base names arguments before.input.remaining status after.steps
-    (status_at_err errors new_errors status outcome _ end ends)
+    (status_at_err hints errors new_errors status outcome _ end ends)
     (kept_is_left base names before.steps after.steps are
     (image_read_keeps base (Some names) request.limits before after file request.source image))
-all_work_leaves base names arguments request before after errors new_errors status outcome is are
+all_work_leaves base names hints arguments request before after errors new_errors status outcome is are
     (NothingRead failure not ends) end contents =
     failure_leaves base names arguments before.input.remaining status after.steps
-    (status_at_err errors new_errors status outcome _ end ends)
+    (status_at_err hints errors new_errors status outcome _ end ends)
     (kept_is_left base names before.steps after.steps are
     (image_not_read_keeps base (Some names) request.limits before after failure request.source not))
 
-text_run_keeps_steps : (kind : ErrorKind) (text : List ℕ) (run : Run) → IsTextRun kind text run → run.new_steps ≡ run.steps
-text_run_keeps_steps kind text run (IsWritten asked wrote errors input steps status) = steps
-text_run_keeps_steps kind text run (IsNotWritten asked error stopped reports input steps status) = steps
-text_run_keeps_steps kind text run (IsUsage why logs output input steps status) = steps
+text_run_keeps_steps : (hints : Bool) (kind : ErrorKind) (text : List ℕ) (run : Run) → IsTextRun hints kind text run
+    → run.new_steps ≡ run.steps
+text_run_keeps_steps hints kind text run (IsWritten asked wrote errors input steps status) = steps
+text_run_keeps_steps hints kind text run (IsNotWritten asked error stopped reports input steps status) = steps
+text_run_keeps_steps hints kind text run (IsUsage why logs output input steps status) = steps
 
--- What a run leaves of files whose names and steps are known.
-pub run_leaves : (base names : Names) (arguments : List (List ℕ)) (run : Run) → IsRun arguments (Some names) run
-    → AreNames base names run.steps → IfSome run.new_steps HaveContents
-    → RunLeaves base names arguments run.input.remaining run.status run.new_steps
-run_leaves base names arguments run (RanJob request is lengths ran) are contents =
-    output_run_leaves base names arguments request run ran.outcome request.output is refl are ran.done ran.end contents
-run_leaves base names arguments run (RanEach request is ran) are contents =
-    images_run_leaves base names arguments request run request.output is refl are ran contents
-run_leaves base names arguments run (ExtractedAll request is ran) are contents =
-    all_work_leaves base names arguments request (inputs_before run) (inputs_after run) run.errors run.new_errors run.status ran.outcome is
-    are ran.done ran.end contents
-run_leaves base names arguments run (Rejected failure why rejection) are contents =
+request_run_leaves : (base names : Names) (terminal : Terminal) (arguments : List (List ℕ)) (request : Request) (run : Run)
+    → IsRequest arguments request → AreNames base names run.steps → IsRequestRun terminal (Some names) request run
+    → IfSome run.new_steps HaveContents → RunLeaves base names arguments run.input.remaining run.status run.new_steps
+request_run_leaves base names terminal arguments request run is are (DidJob elsewhere outcome done end) contents =
+    output_run_leaves base names terminal.errors arguments request run outcome request.output is refl are done end contents
+request_run_leaves base names terminal arguments request run is are (KeptFromTerminal there rejection) contents =
     failure_leaves base names arguments run.input.remaining run.status run.new_steps rejection.status
     (kept_is_left base names run.steps run.new_steps are (keeps_same base run.steps run.new_steps rejection.no_steps))
-run_leaves base names arguments run (WroteText kind text answers is) are contents =
-    kept run.new_steps (keeps_same base run.steps run.new_steps (text_run_keeps_steps kind text run is))
+
+-- What a run leaves of files whose names and steps are known.
+pub run_leaves : (terminal : Terminal) (base names : Names) (arguments : List (List ℕ)) (run : Run) → IsRun terminal arguments
+    (Some names) run
+    → AreNames base names run.steps → IfSome run.new_steps HaveContents
+    → RunLeaves base names arguments run.input.remaining run.status run.new_steps
+run_leaves terminal base names arguments run (RanJob request is lengths ran) are contents =
+    request_run_leaves base names terminal arguments request run is are ran contents
+run_leaves terminal base names arguments run (RanEach request is ran) are contents =
+    images_run_leaves base names terminal.errors arguments request run request.output is refl are ran contents
+run_leaves terminal base names arguments run (ExtractedAll request is ran) are contents =
+    all_work_leaves base names terminal.errors arguments request (inputs_before run)
+    (inputs_after run) run.errors run.new_errors run.status ran.outcome is
+    are ran.done ran.end contents
+run_leaves terminal base names arguments run (Rejected failure why hint is_hint rejection) are contents =
+    failure_leaves base names arguments run.input.remaining run.status run.new_steps rejection.status
+    (kept_is_left base names run.steps run.new_steps are (keeps_same base run.steps run.new_steps rejection.no_steps))
+run_leaves terminal base names arguments run (WroteText kind text answers is) are contents =
+    kept run.new_steps (keeps_same base run.steps run.new_steps (text_run_keeps_steps terminal.errors kind text run is))
   where
     kept : (new : Option (List FileStep)) → KeepsNames base run.steps new
         → RunLeaves base names arguments run.input.remaining run.status new

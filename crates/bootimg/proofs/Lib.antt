@@ -44,3 +44,5 @@ pub mod BuildWorkFacts
 pub mod LastSaid
 pub mod SaidTopics
 pub mod MessageFacts
+pub mod RefusedFacts
+pub mod HintFacts

@@ -1,4 +1,4 @@
-use Rattle.std.proofs.Common.{◌≡◌, ℕ, List, Ok, Err, inl, inr, refl}
+use Rattle.std.proofs.Common.{◌≡◌, ℕ, Bool, List, Ok, Err, inl, inr, refl}
 use Rattle.std.specs.Global.{Vec}
 use Rattle.bi_describe.specs.declared.ignored.Ignored.{Ignored}
 use Rattle.std.specs.Fmt.{digits}
@@ -14,26 +14,30 @@ use Rattle.bootimg.specs.declared.tasks.Done.{Done}
 -- Statuses are known, and failures and notes have known lines.
 
 -- After a failure the status is 2.
-status_after_failure : (errors new_errors : WriteTrace) (status : ℕ) (failed : SourceFailure) → IsEnd errors new_errors status (Err failed)
+status_after_failure : (hints : Bool) (errors new_errors : WriteTrace) (status : ℕ) (failed : SourceFailure)
+    → IsEnd hints errors new_errors status (Err failed)
     → status ≡ 2
-status_after_failure errors new_errors status failed (EndsWell done is notes same) = absurd cc
-status_after_failure errors new_errors status failed (EndsWithFailure other is reports same) = same
+status_after_failure hints errors new_errors status failed (EndsWell done is notes same) = absurd cc
+status_after_failure hints errors new_errors status failed (EndsWithFailure other is reports same) = same
 
 -- After an answer the status is that of the answer.
-status_after_answer : (errors new_errors : WriteTrace) (status : ℕ) (done : Done) → IsEnd errors new_errors status (Ok done)
+status_after_answer : (hints : Bool) (errors new_errors : WriteTrace) (status : ℕ) (done : Done) → IsEnd hints errors new_errors status
+    (Ok done)
     → status ≡ status_of done.good
-status_after_answer errors new_errors status done (EndsWell other is notes same) = cc
-status_after_answer errors new_errors status done (EndsWithFailure other is reports same) = absurd cc
+status_after_answer hints errors new_errors status done (EndsWell other is notes same) = cc
+status_after_answer hints errors new_errors status done (EndsWithFailure other is reports same) = absurd cc
 
 -- A text that is a mistake is not asked for.
 not_asked_for : (kind : ErrorKind) → IsMistake kind → IsAskedFor kind → ⊥
 not_asked_for kind mistake (inl is) = mistake.0 is
 not_asked_for kind mistake (inr is) = mistake.1 is
 
-status_after_mistake : (kind : ErrorKind) (text : List ℕ) (run : Run) → IsMistake kind → IsTextRun kind text run → run.status ≡ 2
-status_after_mistake kind text run mistake (IsWritten asked wrote errors input steps status) = absurd (not_asked_for kind mistake asked)
-status_after_mistake kind text run mistake (IsNotWritten asked error stopped reports input steps status) = status
-status_after_mistake kind text run mistake (IsUsage is logs output input steps status) = status
+status_after_mistake : (hints : Bool) (kind : ErrorKind) (text : List ℕ) (run : Run) → IsMistake kind → IsTextRun hints kind text run
+    → run.status ≡ 2
+status_after_mistake hints kind text run mistake (IsWritten asked wrote errors input steps status) = absurd
+    (not_asked_for kind mistake asked)
+status_after_mistake hints kind text run mistake (IsNotWritten asked error stopped reports input steps status) = status
+status_after_mistake hints kind text run mistake (IsUsage is logs output input steps status) = status
 
 pub statuses_are_known : StatusesAreKnown
 statuses_are_known = record {
@@ -41,7 +45,7 @@ statuses_are_known = record {
   not_good = refl;
   done = status_after_answer;
   failed = status_after_failure;
-  rejected = λ source failure run is. is.status;
+  rejected = λ source failure hint run is. is.status;
   mistaken = status_after_mistake;
 }
 
@@ -59,6 +63,7 @@ failure_lines_are_known = record {
   bad_image = refl;
   bad_configuration = refl;
   cannot_open = refl;
+  output_is_terminal = refl;
   not_written = refl;
   shown_name = refl;
   standard_input = refl;

@@ -1,17 +1,21 @@
-use Rattle.std.proofs.Common.{◌≡◌, ℕ, Bool, false, List, Option, Result, Ok, Err, inl, inr, refl, subst}
-use Rattle.std.specs.Prelude.{◌↔◌, IsTrue}
+use Rattle.std.proofs.Common.{◌≡◌, ℕ, Bool, false, true, List, Option, Result, Ok, Err, inl, inr, refl, subst, sym}
+use Rattle.std.specs.Prelude.{◌↔◌, IfSome, IsTrue}
 use Rattle.clap.specs.declared.error.kind.ErrorKind.{ErrorKind}
 use Rattle.clap.specs.declared.error.kind.ErrorKind.TheVariants.{DisplayHelp, DisplayVersion}
 use Rattle.bi_base.specs.Sinks.{Wrote}
 use Rattle.bi_base.specs.Traces.{ReadsWell, WriteTrace, WritesWell}
 use Rattle.bi_base.specs.Writing.{WroteAll, WriteStopped}
 use Rattle.bi_base.specs.declared.fault.Error.{Error}
+use Rattle.bi_base.specs.declared.fault.Error.TheVariants.{OutOfMemory}
 use Rattle.bi_base.specs.Limits.{Limits}
 use Rattle.bi_base.specs.Pipes.{IsTracedPipe}
 use Rattle.bootimg.specs.declared.command_line.source.ImageSource.{ImageSource}
 use Rattle.bootimg.specs.declared.failure.Failure.{Failure}
+use Rattle.bootimg.specs.declared.failure.Failure.TheVariants.{Call}
+use Rattle.bootimg.specs.Hints.{IsHintAt, IsUsageHint, OfFailure, hint_given}
 use Rattle.bi_files.specs.Files.{FileStep, KnownFiles}
 use Rattle.bootimg.specs.declared.tasks.Done.{Done}
+use Rattle.bootimg.specs.declared.terminal.Terminal.{Terminal}
 use Rattle.bootimg.specs.Runs.{IsTaskWork, Promise, Logs, IsLogged, HasStopped, IsRejection, Reports, Run, Work, Succeeded}
 use Rattle.bootimg.specs.ProgramRuns.{IsPlainRun, IsRun}
 use Rattle.bootimg.specs.Runs.{HasFailed, IsAskedFor, IsMistake, source_failure}
@@ -33,15 +37,17 @@ asked_for other is_usage says fails =
     absurd (let none : IsTrue false = subst (λ test. IsTrue test) fails why in cc)
 
 -- A run over traced streams is one over plain streams with what the traces record.
-pub plain_run : (arguments : List (List ℕ)) (files : KnownFiles) (steps new_steps : Option (List FileStep)) (run : Run)
-    (remaining new_remaining contents new_contents errors new_errors : Option (List ℕ)) → IsRun arguments files run
+pub plain_run : (terminal : Terminal) (arguments : List (List ℕ)) (files : KnownFiles) (steps new_steps : Option (List FileStep))
+    (run : Run)
+    (remaining new_remaining contents new_contents errors new_errors : Option (List ℕ)) → IsRun terminal arguments files run
     → ReadsWell run.input → run.input.taken ≡ 0 → WritesWell run.output → WritesWell run.errors
     → run.steps ≡ steps → run.new_steps ≡ new_steps
     → run.input.remaining ≡ remaining → run.new_input.remaining ≡ new_remaining
     → run.output.contents ≡ contents → run.new_output.contents ≡ new_contents
     → run.errors.contents ≡ errors → run.new_errors.contents ≡ new_errors
-    → IsPlainRun arguments files steps new_steps remaining new_remaining contents new_contents errors new_errors run.status
-plain_run arguments files steps new_steps run remaining new_remaining contents new_contents errors new_errors is reads taken writes logs
+    → IsPlainRun terminal arguments files steps new_steps remaining new_remaining contents new_contents errors new_errors run.status
+plain_run terminal arguments files steps new_steps run remaining new_remaining contents new_contents errors new_errors is reads taken
+    writes logs
     ch nch r nr c nc e ne = record {
       run = run;
       is_run = is;
@@ -61,16 +67,24 @@ plain_run arguments files steps new_steps run remaining new_remaining contents n
     }
 
 -- A failure was reported, and nothing else was done.
-pub run_is_rejected : (source : ImageSource) (failure : Failure) (run : Run) → run.new_input ≡ run.input → run.new_output ≡ run.output
-    → run.new_steps ≡ run.steps → Reports source failure run.errors run.new_errors → run.status ≡ 2
-    → IsRejection source failure run
-run_is_rejected source failure run read written changed reports status = record {
+pub run_is_rejected : (source : ImageSource) (failure : Failure) (hint : Option (List ℕ)) (run : Run) → run.new_input ≡ run.input
+    → run.new_output ≡ run.output
+    → run.new_steps ≡ run.steps → Reports source failure hint run.errors run.new_errors → run.status ≡ 2
+    → IsRejection source failure hint run
+run_is_rejected source failure hint run read written changed reports status = record {
   nothing_read = read;
   nothing_written = written;
   no_steps = changed;
   reports = reports;
   status = status;
 }
+
+-- The hint for a failure that is not one of the arguments is one for it, whatever the arguments.
+pub hint_of_failure : (hints : Bool) (arguments : List (List ℕ)) (failure : Failure) (hint : Option (List ℕ))
+    → failure ≡ Call OutOfMemory → hint ≡ hint_given hints failure → IsHintAt hints arguments failure hint
+hint_of_failure false arguments failure hint memory is = is
+hint_of_failure true arguments failure hint memory is =
+    subst (λ sentence. IfSome sentence (IsUsageHint arguments failure)) (sym is) (OfFailure (rw memory refl) refl)
 
 -- A task that was done, or that failed, is work on it.
 pub run_succeeds : (promise : Promise) (source : ImageSource) (limits : Limits) (work : Work) (result : Result Done Failure) (done : Done)

@@ -15,6 +15,7 @@ use Rattle.bootimg.specs.declared.command_line.Request.{Request}
 use Rattle.bootimg.specs.declared.command_line.extract.AllRequest.{AllRequest}
 use Rattle.bootimg.specs.declared.jobs.SourceFailure.{SourceFailure}
 use Rattle.bootimg.specs.declared.tasks.Done.{Done}
+use Rattle.bootimg.specs.declared.terminal.Terminal.{Terminal}
 use Rattle.bootimg.specs.Runs.{Inputs, Promise, Run, Work, no_input, work_of, with_input, Logs, IsLogged, HasStopped, Notes}
 use Rattle.bootimg.specs.Runs.{NotesCount, NotesAlignment, note_line, alignment_line, positions_line}
 use Rattle.bi_fit.specs.declared.kept.Kept.{Kept}
@@ -24,7 +25,7 @@ use Rattle.bootimg.specs.Runs.{WroteDifferences, NotAllWritten, NotCompared, IsC
 use Rattle.bootimg.specs.Runs.{IsExplainWork, WroteExplanation, ExplanationNotWritten, NoMemoryForExplanation, IsBuiltWork, WasBuilt}
 use Rattle.bootimg.specs.Runs.{WasNotBuilt, IsBuildWork, BuiltWithInput, BuiltOfFiles, PartNotRead, NoRoom, IsJobWork, IsHeldWork}
 use Rattle.bootimg.specs.Runs.{IsSavedWork, OutputSaved, OutputNotSaved, NoOutput, IsOutputRun, ToStandardOutput, ToFile, IsEnd, EndsWell}
-use Rattle.bootimg.specs.Runs.{EndsWithFailure, IsRequestRun, IsTextRun, IsWritten, IsNotWritten, IsUsage}
+use Rattle.bootimg.specs.Runs.{DidJob, EndsWithFailure, IsRequestRun, KeptFromTerminal, IsTextRun, IsWritten, IsNotWritten, IsUsage}
 use Rattle.bootimg.specs.declared.command_line.images.ImagesRequest.{ImagesRequest}
 use Rattle.bootimg.specs.SeveralImages.{AreHeld, AreSaved, IsImageDone, OneHasFailed, Streams, TextsNotSaved, TextsSaved}
 use Rattle.bootimg.specs.SeveralImages.{is_last}
@@ -71,8 +72,9 @@ not_read_keeps : (files : KnownFiles) (limits : Limits) (old new : Inputs) (fail
 not_read_keeps files limits old new failure source (InputNotRead read same) = read.not_read.same_reader
 not_read_keeps files limits old new failure source (FileNotRead name read same) = ap (λ trace. trace.reader) same
 
-rejection_keeps : (source : ImageSource) (failure : Failure) (run : Run) → IsRejection source failure run → KeepsStreams run
-rejection_keeps source failure run is = record {
+rejection_keeps : (source : ImageSource) (failure : Failure) (hint : Option (List ℕ)) (run : Run) → IsRejection source failure hint run
+    → KeepsStreams run
+rejection_keeps source failure hint run is = record {
   reader = ap (λ trace. trace.reader) is.nothing_read;
   writer = ap (λ trace. trace.writer) is.nothing_written;
   log = logs_keep _ _ _ is.reports;
@@ -178,15 +180,18 @@ output_run_keeps files job limits run outcome output (ToStandardOutput work) = j
 output_run_keeps files job limits run outcome output (ToFile name saved same) =
     record { reader = saved_work_keeps _ job limits _ _ _ _ saved; writer = ap (λ trace. trace.writer) same }
 
-end_keeps : (errors new_errors : WriteTrace) (status : ℕ) (outcome : Result Done SourceFailure) → IsEnd errors new_errors status outcome
+end_keeps : (hints : Bool) (errors new_errors : WriteTrace) (status : ℕ) (outcome : Result Done SourceFailure)
+    → IsEnd hints errors new_errors status outcome
     → new_errors.writer ≡ errors.writer
-end_keeps errors new_errors status outcome (EndsWell done same notes is) = notes_keep _ _ _ notes
-end_keeps errors new_errors status outcome (EndsWithFailure failed same reports is) = logs_keep _ _ _ reports
+end_keeps hints errors new_errors status outcome (EndsWell done same notes is) = notes_keep _ _ _ notes
+end_keeps hints errors new_errors status outcome (EndsWithFailure failed same reports is) = logs_keep _ _ _ reports
 
-request_run_keeps : (files : KnownFiles) (request : Request) (run : Run) → IsRequestRun files request run → KeepsStreams run
-request_run_keeps files request run is =
-    let keeps = output_run_keeps files request.job request.limits run is.outcome request.output is.done in
-    record { reader = keeps.reader; writer = keeps.writer; log = end_keeps _ _ _ _ is.end }
+request_run_keeps : (terminal : Terminal) (files : KnownFiles) (request : Request) (run : Run)
+    → IsRequestRun terminal files request run → KeepsStreams run
+request_run_keeps terminal files request run (DidJob elsewhere outcome done end) =
+    let keeps = output_run_keeps files request.job request.limits run outcome request.output done in
+    record { reader = keeps.reader; writer = keeps.writer; log = end_keeps _ _ _ _ _ end }
+request_run_keeps terminal files request run (KeptFromTerminal there rejection) = rejection_keeps _ _ _ _ rejection
 
 all_work_keeps : (files : KnownFiles) (request : AllRequest) (before after : Inputs) (outcome : Result Done SourceFailure)
     → IsAllWork files request before after outcome → after.input.reader ≡ before.input.reader
@@ -197,25 +202,25 @@ all_work_keeps files request before after outcome (PayloadsNotSaved file name pa
 all_work_keeps files request before after outcome (NotExtracted file image error why ends) = read_keeps _ _ _ _ _ _ image
 all_work_keeps files request before after outcome (NothingRead failure not ends) = not_read_keeps _ _ _ _ _ _ not
 
-all_run_keeps : (files : KnownFiles) (request : AllRequest) (run : Run) → IsAllRun files request run → KeepsStreams run
-all_run_keeps files request run is = record {
+all_run_keeps : (hints : Bool) (files : KnownFiles) (request : AllRequest) (run : Run) → IsAllRun hints files request run → KeepsStreams run
+all_run_keeps hints files request run is = record {
   reader = all_work_keeps files request _ _ _ is.done;
   writer = ap (λ trace. trace.writer) is.nothing_written;
-  log = end_keeps _ _ _ _ is.end;
+  log = end_keeps _ _ _ _ _ is.end;
 }
 
-text_run_keeps : (kind : ErrorKind) (text : List ℕ) (run : Run) → IsTextRun kind text run → KeepsStreams run
-text_run_keeps kind text run (IsWritten asked wrote errors input steps status) = record {
+text_run_keeps : (hints : Bool) (kind : ErrorKind) (text : List ℕ) (run : Run) → IsTextRun hints kind text run → KeepsStreams run
+text_run_keeps hints kind text run (IsWritten asked wrote errors input steps status) = record {
   reader = ap (λ trace. trace.reader) input;
   writer = wrote.same_writer;
   log = ap (λ trace. trace.writer) errors;
 }
-text_run_keeps kind text run (IsNotWritten asked error stopped reports input steps status) = record {
+text_run_keeps hints kind text run (IsNotWritten asked error stopped reports input steps status) = record {
   reader = ap (λ trace. trace.reader) input;
   writer = stopped.same_writer;
   log = logs_keep _ _ _ reports;
 }
-text_run_keeps kind text run (IsUsage why logs output input steps status) = record {
+text_run_keeps hints kind text run (IsUsage why logs output input steps status) = record {
   reader = ap (λ trace. trace.reader) input;
   writer = ap (λ trace. trace.writer) output;
   log = logs_keep _ _ _ logs;
@@ -229,57 +234,61 @@ pub record AreSameStreams (old new : Streams) : Type 0 where
   pub writer : new.output.writer ≡ old.output.writer
   pub log : new.errors.writer ≡ old.errors.writer
 
-image_done_keeps : (files : KnownFiles) (request : ImagesRequest) (in_memory : Bool) (source : ImageSource)
-    (outcome : Result Done SourceFailure) (old new : Streams) → IsImageDone files request in_memory source outcome old new
+image_done_keeps : (files : KnownFiles) (hints : Bool) (request : ImagesRequest) (in_memory : Bool) (source : ImageSource)
+    (outcome : Result Done SourceFailure) (old new : Streams) → IsImageDone files hints request in_memory source outcome old new
     → AreSameStreams old new
-image_done_keeps files request in_memory source outcome old new is =
+image_done_keeps files hints request in_memory source outcome old new is =
     let keeps = image_work_keeps files _ source request.limits _ old.steps new.steps is.work in
-    record { reader = keeps.reader; writer = keeps.writer; log = end_keeps _ _ _ _ is.end }
+    record { reader = keeps.reader; writer = keeps.writer; log = end_keeps _ _ _ _ _ is.end }
 
-pub done_in_turn_keeps : (files : KnownFiles) (request : ImagesRequest) (in_memory : Bool) (sources : List ImageSource)
+pub done_in_turn_keeps : (files : KnownFiles) (hints : Bool) (request : ImagesRequest) (in_memory : Bool) (sources : List ImageSource)
     (outcomes : List (Result Done SourceFailure)) (old new : Streams)
-    → AreDoneInTurn (IsImageDone files request in_memory) is_last sources outcomes old new
+    → AreDoneInTurn (IsImageDone files hints request in_memory) is_last sources outcomes old new
     → AreSameStreams old new
-done_in_turn_keeps files request in_memory sources outcomes old new (AllDone streams) = record { reader = refl; writer = refl; log = refl }
-done_in_turn_keeps files request in_memory sources outcomes old new (NextDone source later outcome others first middle last done not rest) =
-    let one = image_done_keeps files request in_memory source outcome old middle done in
-    let others = done_in_turn_keeps files request in_memory later others middle new rest in
+done_in_turn_keeps files hints request in_memory sources outcomes old new
+    (AllDone streams) = record { reader = refl; writer = refl; log = refl }
+done_in_turn_keeps files hints request in_memory sources outcomes old new
+    (NextDone source later outcome others first middle last done not rest) =
+    let one = image_done_keeps files hints request in_memory source outcome old middle done in
+    let others = done_in_turn_keeps files hints request in_memory later others middle new rest in
     record { reader = others.reader ∙ one.reader; writer = others.writer ∙ one.writer; log = others.log ∙ one.log }
-done_in_turn_keeps files request in_memory sources outcomes old new (LastDone source later outcome first last done is) =
-    image_done_keeps files request in_memory source outcome old new done
+done_in_turn_keeps files hints request in_memory sources outcomes old new (LastDone source later outcome first last done is) =
+    image_done_keeps files hints request in_memory source outcome old new done
 
-held_images_keep : (files : KnownFiles) (request : ImagesRequest) (before after : Inputs) (errors new_errors : WriteTrace) (status : ℕ)
-    (held : Option (List ℕ)) → AreHeld files request before after errors new_errors status held
+held_images_keep : (files : KnownFiles) (hints : Bool) (request : ImagesRequest) (before after : Inputs)
+    (errors new_errors : WriteTrace) (status : ℕ)
+    (held : Option (List ℕ)) → AreHeld files hints request before after errors new_errors status held
     → (after.input.reader ≡ before.input.reader) × (new_errors.writer ≡ errors.writer)
-held_images_keep files request before after errors new_errors status held are =
-    let keeps = done_in_turn_keeps files request true _ are.done.outcomes _ _ are.done.in_turn in
+held_images_keep files hints request before after errors new_errors status held are =
+    let keeps = done_in_turn_keeps files hints request true _ are.done.outcomes _ _ are.done.in_turn in
     (keeps.reader, keeps.log)
 
-saved_images_keep : (files : KnownFiles) (request : ImagesRequest) (name : Bor (List ℕ)) (before after : Inputs)
-    (errors new_errors : WriteTrace) (status : ℕ) → AreSaved files request name before after errors new_errors status
+saved_images_keep : (files : KnownFiles) (hints : Bool) (request : ImagesRequest) (name : Bor (List ℕ)) (before after : Inputs)
+    (errors new_errors : WriteTrace) (status : ℕ) → AreSaved files hints request name before after errors new_errors status
     → (after.input.reader ≡ before.input.reader) × (new_errors.writer ≡ errors.writer)
-saved_images_keep files request name before after errors new_errors status (TextsSaved output worked held less saved) =
-    held_images_keep _ request _ _ _ _ _ _ held
-saved_images_keep files request name before after errors new_errors status
+saved_images_keep files hints request name before after errors new_errors status (TextsSaved output worked held less saved) =
+    held_images_keep _ hints request _ _ _ _ _ _ held
+saved_images_keep files hints request name before after errors new_errors status
     (TextsNotSaved output worked middle other held less failure not reports is) =
-    let keeps = held_images_keep _ request _ _ _ _ _ _ held in
+    let keeps = held_images_keep _ hints request _ _ _ _ _ _ held in
     (keeps.0, logs_keep _ _ _ reports ∙ keeps.1)
-saved_images_keep files request name before after errors new_errors status (OneHasFailed held are is) =
-    held_images_keep _ request _ _ _ _ _ _ are
+saved_images_keep files hints request name before after errors new_errors status (OneHasFailed held are is) =
+    held_images_keep _ hints request _ _ _ _ _ _ are
 
-images_run_keeps : (files : KnownFiles) (request : ImagesRequest) (run : Run) (output : Option (Bor (List ℕ)))
-    → IsImagesRun files request run output → KeepsStreams run
-images_run_keeps files request run output (EachToStandardOutput done) =
-    let keeps = done_in_turn_keeps files request false _ done.outcomes (streams_before run) (streams_after run) done.in_turn in
+images_run_keeps : (files : KnownFiles) (hints : Bool) (request : ImagesRequest) (run : Run) (output : Option (Bor (List ℕ)))
+    → IsImagesRun files hints request run output → KeepsStreams run
+images_run_keeps files hints request run output (EachToStandardOutput done) =
+    let keeps = done_in_turn_keeps files hints request false _ done.outcomes (streams_before run) (streams_after run) done.in_turn in
     record { reader = keeps.reader; writer = keeps.writer; log = keeps.log }
-images_run_keeps files request run output (EachToFile name saved same) =
-    let keeps = saved_images_keep files request name _ _ run.errors run.new_errors run.status saved in
+images_run_keeps files hints request run output (EachToFile name saved same) =
+    let keeps = saved_images_keep files hints request name _ _ run.errors run.new_errors run.status saved in
     record { reader = keeps.0; writer = ap (λ trace. trace.writer) same; log = keeps.1 }
 
 -- A run keeps its streams.
-pub run_keeps : (arguments : List (List ℕ)) (files : KnownFiles) (run : Run) → IsRun arguments files run → KeepsStreams run
-run_keeps arguments files run (RanJob request is lengths ran) = request_run_keeps _ request _ ran
-run_keeps arguments files run (RanEach request is ran) = images_run_keeps _ request _ _ ran
-run_keeps arguments files run (ExtractedAll request is ran) = all_run_keeps _ request _ ran
-run_keeps arguments files run (Rejected failure why rejection) = rejection_keeps _ _ _ rejection
-run_keeps arguments files run (WroteText kind text answers is) = text_run_keeps _ _ _ is
+pub run_keeps : (terminal : Terminal) (arguments : List (List ℕ)) (files : KnownFiles) (run : Run)
+    → IsRun terminal arguments files run → KeepsStreams run
+run_keeps terminal arguments files run (RanJob request is lengths ran) = request_run_keeps _ _ request _ ran
+run_keeps terminal arguments files run (RanEach request is ran) = images_run_keeps _ _ request _ _ ran
+run_keeps terminal arguments files run (ExtractedAll request is ran) = all_run_keeps _ _ request _ ran
+run_keeps terminal arguments files run (Rejected failure why hint is_hint rejection) = rejection_keeps _ _ _ _ rejection
+run_keeps terminal arguments files run (WroteText kind text answers is) = text_run_keeps _ _ _ _ is

@@ -259,31 +259,32 @@ explain_takes_none (inr (inr (inr (inl is)))) = other_bytes (codes "explain") (c
 explain_takes_none (inr (inr (inr (inr never)))) = never
 
 -- What was done is the explanation of all causes, and how the run ends.
-explain_run : (run : Run) → IsRun (words_of_line explain_line) without_files run →
+explain_run : (run : Run) → IsRun no_terminal (words_of_line explain_line) without_files run →
     ((outcome : Result Done SourceFailure) × IsExplainWork None (work_of run outcome) × (run.new_steps ≡ run.steps)
-    × IsEnd run.errors run.new_errors run.status outcome)
+    × IsEnd false run.errors run.new_errors run.status outcome)
     ⊎ (run.status ≡ 2)
 unfolding program_app clap_on_literals
-explain_run run (RanJob request is lengths ran) =
+explain_run run (RanJob request is lengths (KeptFromTerminal there rejected)) = inr rejected.status
+explain_run run (RanJob request is lengths (DidJob elsewhere outcome done end)) =
     let name = command_is explain_line is.name is.options is.given (codes "explain") refl in
     let gives = subst (λ n. Gives (words_of_line explain_line) n is.options) name is.given in
     let job = explain_job is.options gives request.job (subst (λ n. IsJob n is.options request.job) name is.job) in
     let none = is.output ∙ option_is explain_line (codes "explain") is.options gives (codes "output") ∙ refl in
-    let work = standard_output without_files request.job request.limits run ran.outcome request.output none ran.done in
-    let explains = subst (λ job. IsJobWork without_files job request.limits (work_of run ran.outcome) run.steps run.new_steps) job work in
-    inl (ran.outcome, explains.0, explains.1, ran.end)
+    let work = standard_output without_files request.job request.limits run outcome request.output none done in
+    let explains = subst (λ job. IsJobWork without_files job request.limits (work_of run outcome) run.steps run.new_steps) job work in
+    inl (outcome, explains.0, explains.1, end)
 explain_run run (RanEach request is ran) =
     absurd (explain_takes_none
     (subst TakesImages (command_is explain_line is.name is.options is.given (codes "explain") refl) is.is.names.takes))
 explain_run run (ExtractedAll request is ran) =
     absurd (other_bytes (codes "extract") (codes "explain") refl (command_is explain_line (codes "extract") is.options is.given
     (codes "explain") refl))
-explain_run run (Rejected failure is rejected) = inr rejected.status
+explain_run run (Rejected failure is hint is_hint rejected) = inr rejected.status
 explain_run run (WroteText kind text is wrote) = absurd is
 
 -- A status is 0 or 2.
 two_statuses : (run : Run) (outcome : Result Done SourceFailure) → IsExplainWork None (work_of run outcome) →
-    IsEnd run.errors run.new_errors run.status outcome → (run.status ≡ 0) ⊎ (run.status ≡ 2)
+    IsEnd false run.errors run.new_errors run.status outcome → (run.status ≡ 0) ⊎ (run.status ≡ 2)
 two_statuses run outcome work (EndsWithFailure failed is reports status) = inr status
 two_statuses run outcome (WroteExplanation wrote other ended is same) (EndsWell done good notes status) =
     inl (status ∙ ap status_of (ap (λ (d : Done). d.good) (same_done outcome done other good is) ∙ ended.is_answer))
@@ -293,7 +294,7 @@ two_statuses run outcome (NoMemoryForExplanation was same) (EndsWell done good n
 
 -- What a run with the status 0 did.
 explains_well : (run : Run) (outcome : Result Done SourceFailure) → run.status ≡ 0 → IsExplainWork None (work_of run outcome) →
-    IsEnd run.errors run.new_errors run.status outcome →
+    IsEnd false run.errors run.new_errors run.status outcome →
     Writes run.output (explain_text None) run.new_output × (run.new_input ≡ run.input) × (run.new_errors ≡ run.errors)
 explains_well run outcome zero work (EndsWithFailure failed is reports status) = absurd (omega (arith, zero, status))
 explains_well run outcome zero (WroteExplanation wrote other ended is same) (EndsWell done good notes status) = (

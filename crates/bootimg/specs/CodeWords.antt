@@ -1,4 +1,4 @@
-use Rattle.std.specs.Prelude.{ℕ, ◌<◌, ◌^◌, ◌≡◌, List, Option, Some, None}
+use Rattle.std.specs.Prelude.{ℕ, ◌<◌, ◌^◌, ◌≡◌, List, Option, Some, None, map}
 use Rattle.bi_legacy.specs.Codes.{CodeName, os_names, arch_names, type_names, compression_names}
 use Rattle.bi_legacy.specs.Codes.{name_of_code}
 use Rattle.bi_norm.specs.FitBuilding.{ImageTextsModel}
@@ -23,6 +23,10 @@ given_names_of Os = given_os_names
 given_names_of Arch = given_arch_names
 given_names_of ImageType = given_type_names
 given_names_of Compression = compression_names
+
+-- The names without their codes.
+abbrev pub names_of_field : CodeField → List (List ℕ)
+names_of_field field = map (λ (entry : CodeName). entry.name) (given_names_of field)
 
 -- The argument is this code of a field: its name, or if no code of the field has this name, a
 -- number of at most 255.

@@ -86,7 +86,7 @@ use Rattle.clap.specs.declared.error.Error.{Error as ClapError}
 use Rattle.clap.specs.declared.error.kind.ErrorKind.{ErrorKind}
 use Rattle.clap.specs.declared.error.kind.ErrorKind.TheVariants as error_kind
 use Rattle.clap.specs.declared.parser.matches.ArgMatches.{ArgMatches}
-use Rattle.bootimg.specs.Program.{IsAmongNames, program_app}
+use Rattle.bootimg.specs.Program.{IsAmongNames, program_app, writes_image}
 
 -- What the arguments of the program request (profile of this project).
 
@@ -836,6 +836,7 @@ pub record IsRequest (arguments : List (List ℕ)) (request : Request) : Type 0 
   pub job : IsJob name options request.job
   pub limits : IsLimits (limit_of options) request.limits
   pub output : option_map (λ name. name.now) request.output ≡ option_of options (codes "output")
+  pub is_image : request.writes_image ≡ writes_image name
 
 -- The arguments request that all payloads of an image are extracted.
 pub record IsAllRequested (arguments : List (List ℕ)) (request : AllRequest) : Type 0 where

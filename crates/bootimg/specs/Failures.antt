@@ -24,6 +24,7 @@ use Rattle.bootimg.specs.declared.failure.Failure.TheVariants.{NoProperty, NoTex
 use Rattle.bootimg.specs.declared.failure.Failure.TheVariants.{NoChange, BadValue, BadImage}
 use Rattle.bootimg.specs.declared.failure.Failure.TheVariants.{BadConfiguration}
 use Rattle.bootimg.specs.declared.failure.Failure.TheVariants.{CannotOpen, NotWritten}
+use Rattle.bootimg.specs.declared.failure.Failure.TheVariants.{OutputIsTerminal}
 use Rattle.bootimg.specs.ValueWords.{value_words_text}
 
 -- The failures of the program, and the text of each (profile of this project).
@@ -96,6 +97,7 @@ failure_text (BadImage index) = codes "usage: bad image " ++ decimal index
 failure_text (BadConfiguration index) = codes "usage: bad configuration " ++ decimal index
 failure_text CannotOpen = codes "cannot be opened"
 failure_text NotWritten = codes "write failed"
+failure_text OutputIsTerminal = codes "standard output is a terminal, see -o"
 
 -- Whether a failure is about the image or the output file: the image is refused, it cannot be
 -- opened or read, or it does not have what is selected; or the output file cannot be written. The
@@ -110,6 +112,7 @@ is_about_image NoChange = false
 is_about_image BadValue = false
 is_about_image (BadImage index) = false
 is_about_image (BadConfiguration index) = false
+is_about_image OutputIsTerminal = false
 is_about_image failure = true
 
 -- What the line of a failure has before the text of the failure: the name of the file that the

@@ -49,20 +49,20 @@ pub record ImageOutcomesAreKnown : Type 0 where
       ≡ failed_r1 (Call (Refused bad_magic))
 
 -- Two images, of which the first has this outcome, were done in turn with these outcomes.
-abbrev pub AreTwoDone : KnownFiles → ImagesRequest → (one other : ImageSource)
+abbrev pub AreTwoDone : KnownFiles → (hints : Bool) → ImagesRequest → (one other : ImageSource)
     → (outcome : Result Done SourceFailure) → (later : List (Result Done SourceFailure))
     → (old new : Streams) → Type 0
-AreTwoDone files request one other outcome later old new =
-    AreDoneInTurn (IsImageDone files request false) is_last (one ∷ other ∷ []) (outcome ∷ later)
+AreTwoDone files hints request one other outcome later old new =
+    AreDoneInTurn (IsImageDone files hints request false) is_last (one ∷ other ∷ []) (outcome ∷ later)
     old new
 
 -- The second image follows after a refusal of the first, and not after a failed write.
 pub record NextImagesAreKnown : Type 0 where
-  pub after_refusal : (files : KnownFiles) (request : ImagesRequest) (other : ImageSource)
+  pub after_refusal : (files : KnownFiles) (hints : Bool) (request : ImagesRequest) (other : ImageSource)
       (later : List (Result Done SourceFailure)) (old new : Streams)
-      → AreTwoDone files request file_r1 other (failed_r1 (Call (Refused bad_magic))) later old new
+      → AreTwoDone files hints request file_r1 other (failed_r1 (Call (Refused bad_magic))) later old new
       → (outcome : Result Done SourceFailure) × (later ≡ outcome ∷ [])
-  pub after_write : (files : KnownFiles) (request : ImagesRequest) (other : ImageSource)
+  pub after_write : (files : KnownFiles) (hints : Bool) (request : ImagesRequest) (other : ImageSource)
       (later : List (Result Done SourceFailure)) (old new : Streams)
-      → AreTwoDone files request file_r1 other (failed_r1 (Call WriteFailed)) later old new
+      → AreTwoDone files hints request file_r1 other (failed_r1 (Call WriteFailed)) later old new
       → later ≡ []

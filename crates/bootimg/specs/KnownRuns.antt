@@ -1,4 +1,4 @@
-use Rattle.std.specs.Prelude.{◌≡◌, ℕ, true, false, List, codes, Ok, Err}
+use Rattle.std.specs.Prelude.{◌≡◌, ℕ, Bool, true, false, List, Option, codes, Ok, Err}
 use Rattle.std.specs.Global.{Vec}
 use Rattle.bi_base.specs.declared.fault.Cause.TheVariants.{BadMagic, BadHeaderCrc, TooLarge}
 use Rattle.bi_base.specs.declared.fault.Error.TheVariants.{Refused, OutOfMemory, ReadFailed}
@@ -29,7 +29,7 @@ use Rattle.bootimg.specs.declared.failure.Failure.TheVariants.{Call, NoSelection
 use Rattle.bootimg.specs.declared.failure.Failure.TheVariants.{BadValue, BadImage, CannotOpen}
 use Rattle.bootimg.specs.declared.failure.Failure.TheVariants.{BadConfiguration}
 use Rattle.bootimg.specs.declared.failure.Failure.TheVariants.{NoProperty, NoText, NoNumber}
-use Rattle.bootimg.specs.declared.failure.Failure.TheVariants.{NotWritten}
+use Rattle.bootimg.specs.declared.failure.Failure.TheVariants.{NotWritten, OutputIsTerminal}
 use Rattle.bootimg.specs.declared.tasks.Done.{Done}
 
 -- How runs end, by which a reader can judge the definitions.
@@ -39,14 +39,14 @@ use Rattle.bootimg.specs.declared.tasks.Done.{Done}
 pub record StatusesAreKnown : Type 0 where
   pub good : status_of true ≡ 0
   pub not_good : status_of false ≡ 1
-  pub done : (errors new_errors : WriteTrace) (status : ℕ) (done : Done)
-      → IsEnd errors new_errors status (Ok done) → status ≡ status_of done.good
-  pub failed : (errors new_errors : WriteTrace) (status : ℕ) (failed : SourceFailure)
-      → IsEnd errors new_errors status (Err failed) → status ≡ 2
-  pub rejected : (source : ImageSource) (failure : Failure) (run : Run)
-      → IsRejection source failure run → run.status ≡ 2
-  pub mistaken : (kind : ErrorKind) (text : List ℕ) (run : Run) → IsMistake kind
-      → IsTextRun kind text run → run.status ≡ 2
+  pub done : (hints : Bool) (errors new_errors : WriteTrace) (status : ℕ) (done : Done)
+      → IsEnd hints errors new_errors status (Ok done) → status ≡ status_of done.good
+  pub failed : (hints : Bool) (errors new_errors : WriteTrace) (status : ℕ)
+      (failed : SourceFailure) → IsEnd hints errors new_errors status (Err failed) → status ≡ 2
+  pub rejected : (source : ImageSource) (failure : Failure) (hint : Option (List ℕ)) (run : Run)
+      → IsRejection source failure hint run → run.status ≡ 2
+  pub mistaken : (hints : Bool) (kind : ErrorKind) (text : List ℕ) (run : Run) → IsMistake kind
+      → IsTextRun hints kind text run → run.status ≡ 2
 
 -- An image in the file `r1`.
 abbrev pub file_r1 : ImageSource
@@ -81,6 +81,8 @@ pub record FailureLinesAreKnown : Type 0 where
   pub bad_configuration : line_of_failure (BadConfiguration 3)
       ≡ codes "bootimg: usage: bad configuration 3\n"
   pub cannot_open : line_of_failure CannotOpen ≡ codes "bootimg: r1: cannot be opened\n"
+  pub output_is_terminal : line_of_failure OutputIsTerminal
+      ≡ codes "bootimg: standard output is a terminal, see -o\n"
   pub not_written : line_of_failure NotWritten ≡ codes "bootimg: r1: write failed\n"
   pub shown_name : failure_line (File (lent (codes "no file"))) CannotOpen
       ≡ codes "bootimg: no%20file: cannot be opened\n"

@@ -29,6 +29,7 @@ use Rattle.bootimg.specs.CommandLine.{HasJobLengths, sources_of}
 use Rattle.bootimg.specs.Explanations.{explain_text}
 use Rattle.bootimg.specs.declared.explanations.Topic.TheVariants as topic
 use Rattle.bootimg.specs.Failures.{failure_to_save}
+use Rattle.bootimg.specs.KnownHints.{no_terminal}
 use Rattle.bootimg.specs.KnownInputs.{one_file, two_files, without_files}
 use Rattle.bootimg.specs.Runs.{ArePartsRead, AreFirstRead, IsAllWork, IsExplainWork, IsHeldFailure}
 use Rattle.bootimg.specs.Runs.{IsOutputRun, IsPart, IsPartNotRead, IsPlanWork, Inputs}
@@ -125,10 +126,11 @@ pub record ExplainWorkIsKnown : Type 0 where
   pub reads_nothing : (work : Work) → IsExplainWork (Some (topic.Cause BadDataCrc)) work
       → work.new_input ≡ work.input
 
--- A whole run: standard input is `x`, both outputs are empty, and there are no files.
+-- A whole run without a terminal: standard input is `x`, both outputs are empty, and there are no
+-- files.
 abbrev pub RunsExplain : (left output errors : List ℕ) (steps : List FileStep) (status : ℕ) → Type 0
 RunsExplain left output errors steps status =
-    IsPlainRun (words_of_line (codes "explain")) without_files (Some []) (Some steps)
+    IsPlainRun no_terminal (words_of_line (codes "explain")) without_files (Some []) (Some steps)
     (Some (codes "x")) (Some left) (Some []) (Some output) (Some []) (Some errors) status
 
 -- With the status 0 it has written all explanations, and nothing else has changed. There is one

@@ -1,4 +1,4 @@
-use Rattle.std.specs.Prelude.{◌≡◌, ◌⊎◌, ◌<◌, ℕ, List, Option, None, Some, Ok}
+use Rattle.std.specs.Prelude.{◌≡◌, ◌⊎◌, ◌<◌, ℕ, Bool, List, Option, None, Some, Ok}
 use Rattle.std.specs.Borrow.{Bor}
 use Rattle.bi_base.specs.Traces.{WriteTrace}
 use Rattle.clap.specs.declared.error.kind.ErrorKind.{ErrorKind}
@@ -33,11 +33,11 @@ pub data LeavesFiles (arguments : List (List ℕ)) (input : Option (List ℕ)) (
       → LeavesFiles arguments input old new steps status
   -- The file that is named has the texts of all images, none of which was refused or failed, and
   -- each other name has what it had. The status is 0 or 1.
-  TextsAreThere : (request : ImagesRequest) (name : Bor (List ℕ)) (output : List ℕ)
-      (before after : Inputs) (errors new_errors : WriteTrace)
+  TextsAreThere : (hints : Bool) (request : ImagesRequest) (name : Bor (List ℕ))
+      (output : List ℕ) (before after : Inputs) (errors new_errors : WriteTrace)
       → IsImagesRequested arguments request → request.output ≡ Some name
       → before.input.remaining ≡ input
-      → AreHeld (Some old) request before after errors new_errors status (Some output)
+      → AreHeld (Some old) hints request before after errors new_errors status (Some output)
       → status < 2 → HasFile old new name.now output
       → LeavesFiles arguments input old new steps status
   -- The directory that is named has exactly the files of all payloads of the image that is read,

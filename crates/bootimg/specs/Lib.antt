@@ -13,6 +13,9 @@ pub mod Numbers
 pub mod Offsets
 pub mod ReadParts
 pub mod Tasks
+pub mod TakenWords
+pub mod RefusedWords
+pub mod Hints
 pub mod Runs
 pub mod SeveralImages
 pub mod ProgramRuns
@@ -30,3 +33,4 @@ pub mod KnownInputs
 pub mod KnownOrders
 pub mod KnownWorks
 pub mod KnownTasks
+pub mod KnownHints

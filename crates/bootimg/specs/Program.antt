@@ -1,5 +1,6 @@
 use Rattle.std.specs.Prelude.{◌≡◌, ◌⊎◌, ℕ, List, [], ◌∷◌, ◌++◌, Some, true, false, codes}
-use Rattle.std.specs.Prelude.{map}
+use Rattle.std.specs.Prelude.{Bool, bytes_eq, map}
+use Rattle.std.specs.List.{list_any}
 use Rattle.clap.specs.Lexer.{usize_max}
 use Rattle.clap.specs.Walk.{Rule}
 use Rattle.clap.specs.Simple.{App, Shape, new_rule, new_shape}
@@ -221,6 +222,16 @@ abbrev pub commands : List Shape
 commands =
     reading_commands
     ++ (checking_commands ++ (changing_commands ++ (building_commands ++ explain ∷ [])))
+
+-- The names of the commands that write an image or a payload, and not text.
+abbrev pub image_writers : List (List ℕ)
+image_writers =
+    codes "normalise" ∷ codes "update" ∷ codes "extract" ∷ codes "convert" ∷ codes "build-legacy"
+    ∷ codes "build-fit" ∷ []
+
+-- Whether the command of this name writes an image or a payload.
+abbrev pub writes_image : List ℕ → Bool
+writes_image name = list_any (λ writer. bytes_eq writer name) image_writers
 
 -- The name is one of these.
 abbrev pub IsAmongNames : List (List ℕ) → List ℕ → Type 0

@@ -1,4 +1,4 @@
-use Rattle.std.specs.Prelude.{◌≡◌, ℕ, false, List, Option, None, Some}
+use Rattle.std.specs.Prelude.{◌≡◌, ℕ, Bool, false, List, Option, None, Some}
 use Rattle.std.specs.Borrow.{Bor}
 use Rattle.bi_base.specs.Traces.{ReadsWell, WritesWell}
 use Rattle.clap.specs.declared.error.kind.ErrorKind.{ErrorKind}
@@ -6,9 +6,11 @@ use Rattle.bootimg.specs.declared.command_line.Request.{Request}
 use Rattle.bootimg.specs.declared.command_line.extract.AllRequest.{AllRequest}
 use Rattle.bootimg.specs.declared.command_line.source.ImageSource.TheVariants.{Standard}
 use Rattle.bootimg.specs.declared.failure.Failure.{Failure}
+use Rattle.bootimg.specs.declared.terminal.Terminal.{Terminal}
 use Rattle.bootimg.specs.CommandLine.{HasJobLengths, IsTextFor, IsRejected, IsRequest}
 use Rattle.bootimg.specs.CommandLine.{IsAllRequested, IsImagesRequested}
 use Rattle.bi_files.specs.Files.{FileStep, KnownFiles}
+use Rattle.bootimg.specs.Hints.{IsHintAt}
 use Rattle.bootimg.specs.Runs.{IsAllRun, IsRejection, IsRequestRun, IsTextRun, Run, inputs_after}
 use Rattle.bootimg.specs.Runs.{inputs_before}
 use Rattle.bootimg.specs.SeveralImages.{Streams, AreDone, AreSaved}
@@ -35,39 +37,43 @@ streams_after run = record {
 
 -- The images of a request were done with this output: standard output if no file is named, or else
 -- the file of this name, and then nothing was written to standard output.
-pub data IsImagesRun (files : KnownFiles) (request : ImagesRequest) (run : Run)
+pub data IsImagesRun (files : KnownFiles) (hints : Bool) (request : ImagesRequest) (run : Run)
     : (output : Option (Bor (List ℕ))) → Type 0
   where
     EachToStandardOutput :
-        AreDone files request false (streams_before run) (streams_after run) run.status
-        → IsImagesRun files request run None
+        AreDone files hints request false (streams_before run) (streams_after run) run.status
+        → IsImagesRun files hints request run None
     EachToFile : (name : Bor (List ℕ))
-        → AreSaved files request name (inputs_before run) (inputs_after run) run.errors
+        → AreSaved files hints request name (inputs_before run) (inputs_after run) run.errors
         run.new_errors run.status
-        → run.new_output ≡ run.output → IsImagesRun files request run (Some name)
+        → run.new_output ≡ run.output → IsImagesRun files hints request run (Some name)
 
 -- The program ran with these arguments: it did the job that they request, also with each of several
--- images, or extracted all payloads, rejected them, or wrote a text that clap has for them.
-pub data IsRun (arguments : List (List ℕ)) (files : KnownFiles) (run : Run) : Type 0 where
+-- images, or extracted all payloads, rejected them, or wrote a text that clap has for them. Where
+-- standard error is a terminal, a hint follows the line of a failure; where it is none, there are
+-- no hints.
+pub data IsRun (terminal : Terminal) (arguments : List (List ℕ)) (files : KnownFiles) (run : Run) : Type 0 where
   RanJob : (request : Request) → IsRequest arguments request → HasJobLengths request.job
-      → IsRequestRun files request run → IsRun arguments files run
+      → IsRequestRun terminal files request run → IsRun terminal arguments files run
   RanEach : (request : ImagesRequest) → IsImagesRequested arguments request
-      → IsImagesRun files request run request.output → IsRun arguments files run
+      → IsImagesRun files terminal.errors request run request.output
+      → IsRun terminal arguments files run
   ExtractedAll : (request : AllRequest) → IsAllRequested arguments request
-      → IsAllRun files request run → IsRun arguments files run
-  Rejected : (failure : Failure) → IsRejected arguments failure
-      → IsRejection Standard failure run → IsRun arguments files run
+      → IsAllRun terminal.errors files request run → IsRun terminal arguments files run
+  Rejected : (failure : Failure) → IsRejected arguments failure → (hint : Option (List ℕ))
+      → IsHintAt terminal.errors arguments failure hint
+      → IsRejection Standard failure hint run → IsRun terminal arguments files run
   WroteText : (kind : ErrorKind) (text : List ℕ) → IsTextFor arguments kind
-      → IsTextRun kind text run → IsRun arguments files run
+      → IsTextRun terminal.errors kind text run → IsRun terminal arguments files run
 
 -- The program ran over plain streams: it did what traces of these streams record, which begin when
 -- the run does.
-pub record IsPlainRun (arguments : List (List ℕ)) (files : KnownFiles)
+pub record IsPlainRun (terminal : Terminal) (arguments : List (List ℕ)) (files : KnownFiles)
     (steps new_steps : Option (List FileStep))
     (remaining new_remaining contents new_contents : Option (List ℕ))
     (errors new_errors : Option (List ℕ)) (status : ℕ) : Type 0 where
   pub run : Run
-  pub is_run : IsRun arguments files run
+  pub is_run : IsRun terminal arguments files run
   pub is_status : run.status ≡ status
   pub reads_well : ReadsWell run.input
   pub none_taken : run.input.taken ≡ 0

@@ -1,5 +1,5 @@
 use Rattle.std.specs.Prelude.{◌≡◌, ◌≢◌, ◌⊎◌, ◌++◌, ◌<◌, ℕ, Bool, true, false, List, []}
-use Rattle.std.specs.Prelude.{◌∷◌}
+use Rattle.std.specs.Prelude.{◌∷◌, ◌&&◌, is_some, not}
 use Rattle.std.specs.Prelude.{Option, None, Some, option_map}
 use Rattle.std.specs.Prelude.{Result, Ok, Err, codes}
 use Rattle.std.specs.Borrow.{Bor}
@@ -40,8 +40,10 @@ use Rattle.bootimg.specs.declared.command_line.source.ImageSource.{ImageSource}
 use Rattle.bootimg.specs.declared.command_line.source.ImageSource.TheVariants.{Standard, File}
 use Rattle.bootimg.specs.declared.failure.Failure.{Failure}
 use Rattle.bootimg.specs.declared.failure.Failure.TheVariants.{Call, CannotOpen}
+use Rattle.bootimg.specs.declared.failure.Failure.TheVariants.{OutputIsTerminal}
 use Rattle.bootimg.specs.declared.jobs.SourceFailure.{SourceFailure}
 use Rattle.bootimg.specs.declared.tasks.Done.{Done}
+use Rattle.bootimg.specs.declared.terminal.Terminal.{Terminal}
 use Rattle.bootimg.specs.CommandLine.{reads_input, sources_of}
 use Rattle.bootimg.specs.ComparedFiles.{IsCompareOutput, IsCompareFailure}
 use Rattle.bootimg.specs.ComparedFiles.{failure_of_comparing, refused_source}
@@ -50,6 +52,7 @@ use Rattle.bi_files.specs.Directories.{IsDirectorySaved, IsDirectoryNotSaved, Is
 use Rattle.bootimg.specs.Explanations.{explain_text}
 use Rattle.bootimg.specs.declared.explanations.Topic.{Topic}
 use Rattle.bootimg.specs.Failures.{failure_text, failure_to_save, name_text}
+use Rattle.bootimg.specs.Hints.{hint_given, hint_line}
 use Rattle.bi_files.specs.Files.{FileStep, KnownFiles, WasOpened, WasNotOpened, IsSaved, IsNotSaved}
 use Rattle.bi_files.specs.Files.{WereReadInTurn}
 use Rattle.bootimg.specs.Tasks.{EndedWith, plan_promise, status_of}
@@ -67,9 +70,10 @@ abbrev pub failure_line : ImageSource → Failure → List ℕ
 failure_line source failure =
     codes "bootimg: " ++ ((name_text source failure ++ failure_text failure) ++ 10 ∷ [])
 
--- The line of a failure was written.
-abbrev pub Reports : ImageSource → Failure → (old new : WriteTrace) → Type 0
-Reports source failure old new = Logs old (failure_line source failure) new
+-- The line of a failure was written, and after it that of a hint, if there is one.
+abbrev pub Reports : ImageSource → Failure → (hint : Option (List ℕ)) → (old new : WriteTrace)
+    → Type 0
+Reports source failure hint old new = Logs old (failure_line source failure ++ hint_line hint) new
 
 -- The line on the signature nodes of a normal form.
 abbrev pub note_line : (signatures : ℕ) → List ℕ
@@ -527,13 +531,15 @@ abbrev pub inputs_after : Run → Inputs
 inputs_after run = record { input = run.new_input; steps = run.new_steps }
 
 -- Nothing was read or written, no step with a file was taken, and a failure with an image from this
--- source was reported.
-pub record IsRejection (source : ImageSource) (failure : Failure) (run : Run) : Type 0 where
-  pub nothing_read : run.new_input ≡ run.input
-  pub nothing_written : run.new_output ≡ run.output
-  pub no_steps : run.new_steps ≡ run.steps
-  pub reports : Reports source failure run.errors run.new_errors
-  pub status : run.status ≡ 2
+-- source was reported, with this hint.
+pub record IsRejection (source : ImageSource) (failure : Failure) (hint : Option (List ℕ))
+    (run : Run) : Type 0
+  where
+    pub nothing_read : run.new_input ≡ run.input
+    pub nothing_written : run.new_output ≡ run.output
+    pub no_steps : run.new_steps ≡ run.steps
+    pub reports : Reports source failure hint run.errors run.new_errors
+    pub status : run.status ≡ 2
 
 -- A job was done with this output: standard output if no file is named, or else the file of this
 -- name, and then nothing was written to standard output.
@@ -546,29 +552,43 @@ pub data IsOutputRun (files : KnownFiles) (job : Job) (limits : Limits) (run : R
         → IsSavedWork files job limits name (inputs_before run) (inputs_after run) outcome
         → run.new_output ≡ run.output → IsOutputRun files job limits run outcome (Some name)
 
--- How a run ends: with the notes, if there is something to note, or with the line of a failure.
-pub data IsEnd (errors new_errors : WriteTrace) (status : ℕ) (outcome : Result Done SourceFailure)
-    : Type 0
+-- How a run ends: with the notes, if there is something to note, or with the line of a failure and
+-- its hint, if hints are given.
+pub data IsEnd (hints : Bool) (errors new_errors : WriteTrace) (status : ℕ)
+    (outcome : Result Done SourceFailure) : Type 0
   where
     EndsWell : (done : Done) → outcome ≡ Ok done → Notes done.kept errors new_errors
-        → status ≡ status_of done.good → IsEnd errors new_errors status outcome
+        → status ≡ status_of done.good → IsEnd hints errors new_errors status outcome
     EndsWithFailure : (failed : SourceFailure) → outcome ≡ Err failed
-        → Reports failed.source failed.failure errors new_errors → status ≡ 2
-        → IsEnd errors new_errors status outcome
+        → Reports failed.source failed.failure (hint_given hints failed.failure) errors new_errors
+        → status ≡ 2 → IsEnd hints errors new_errors status outcome
 
--- The job that is requested was done with the output that is requested.
-pub record IsRequestRun (files : KnownFiles) (request : Request) (run : Run) : Type 0 where
-  pub outcome : Result Done SourceFailure
-  pub done : IsOutputRun files request.job request.limits run outcome request.output
-  pub end : IsEnd run.errors run.new_errors run.status outcome
+-- Whether the output of a request would be an image or a payload on a terminal.
+abbrev pub is_for_terminal : Terminal → Request → Bool
+is_for_terminal terminal request =
+    (terminal.output && request.writes_image) && not (is_some request.output)
+
+-- The job that is requested was done with the output that is requested; or it would write an image
+-- or a payload to a terminal, and this was reported.
+pub data IsRequestRun (terminal : Terminal) (files : KnownFiles) (request : Request) (run : Run)
+    : Type 0
+  where
+    DidJob : is_for_terminal terminal request ≡ false → (outcome : Result Done SourceFailure)
+        → IsOutputRun files request.job request.limits run outcome request.output
+        → IsEnd terminal.errors run.errors run.new_errors run.status outcome
+        → IsRequestRun terminal files request run
+    KeptFromTerminal : is_for_terminal terminal request ≡ true
+        → IsRejection Standard OutputIsTerminal (hint_given terminal.errors OutputIsTerminal) run
+        → IsRequestRun terminal files request run
 
 -- All payloads that are requested were extracted, or that failed. Nothing was written to standard
 -- output.
-pub record IsAllRun (files : KnownFiles) (request : AllRequest) (run : Run) : Type 0 where
-  pub outcome : Result Done SourceFailure
-  pub done : IsAllWork files request (inputs_before run) (inputs_after run) outcome
-  pub nothing_written : run.new_output ≡ run.output
-  pub end : IsEnd run.errors run.new_errors run.status outcome
+pub record IsAllRun (hints : Bool) (files : KnownFiles) (request : AllRequest) (run : Run) : Type 0
+  where
+    pub outcome : Result Done SourceFailure
+    pub done : IsAllWork files request (inputs_before run) (inputs_after run) outcome
+    pub nothing_written : run.new_output ≡ run.output
+    pub end : IsEnd hints run.errors run.new_errors run.status outcome
 
 -- A text of this kind is what the arguments ask for: help or the version.
 abbrev pub IsAskedFor : ErrorKind → Type 0
@@ -581,15 +601,15 @@ IsMistake kind = (kind ≢ DisplayHelp) × (kind ≢ DisplayVersion)
 -- A text of this kind about the arguments was written: help or the version to standard
 -- output, or why the arguments are wrong to standard error. Nothing was read, and no step with a
 -- file was taken.
-pub data IsTextRun (kind : ErrorKind) (text : List ℕ) (run : Run) : Type 0 where
+pub data IsTextRun (hints : Bool) (kind : ErrorKind) (text : List ℕ) (run : Run) : Type 0 where
   IsWritten : IsAskedFor kind → WroteAndFlushed run.output text run.new_output
       → run.new_errors ≡ run.errors → run.new_input ≡ run.input → run.new_steps ≡ run.steps
-      → run.status ≡ 0 → IsTextRun kind text run
+      → run.status ≡ 0 → IsTextRun hints kind text run
   IsNotWritten : IsAskedFor kind → (error : Error)
       → WriteOrFlushStopped run.output text run.new_output error
-      → Reports Standard (Call error) run.errors run.new_errors
+      → Reports Standard (Call error) (hint_given hints (Call error)) run.errors run.new_errors
       → run.new_input ≡ run.input → run.new_steps ≡ run.steps → run.status ≡ 2
-      → IsTextRun kind text run
+      → IsTextRun hints kind text run
   IsUsage : IsMistake kind → Logs run.errors text run.new_errors → run.new_output ≡ run.output
       → run.new_input ≡ run.input → run.new_steps ≡ run.steps → run.status ≡ 2
-      → IsTextRun kind text run
+      → IsTextRun hints kind text run

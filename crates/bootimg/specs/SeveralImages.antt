@@ -22,6 +22,7 @@ use Rattle.bootimg.specs.declared.several.ImageEnd.{ImageEnd}
 use Rattle.bootimg.specs.declared.jobs.SourceFailure.{SourceFailure}
 use Rattle.bootimg.specs.declared.tasks.Done.{Done}
 use Rattle.bootimg.specs.Failures.{failure_to_save}
+use Rattle.bootimg.specs.Hints.{hint_given}
 use Rattle.bootimg.specs.Runs.{Inputs, IsEnd, IsImageWork, Reports, Work, failure_in_memory}
 use Rattle.bootimg.specs.Runs.{source_failure}
 use Rattle.bootimg.specs.Tasks.{placed_promise, status_of}
@@ -87,13 +88,14 @@ status_of_outcome (Ok done) = status_of done.good
 status_of_outcome (Err failed) = 2
 
 -- One image was read, its text was written and flushed, and then the line of its failure was
--- written, if it has one. `in_memory` is whether the output is held in memory.
-pub record IsImageDone (files : KnownFiles) (request : ImagesRequest) (in_memory : Bool)
-    (source : ImageSource) (outcome : Result Done SourceFailure) (old new : Streams) : Type 0
+-- written, if it has one, with a hint if hints are given. `in_memory` is whether the output is held
+-- in memory.
+pub record IsImageDone (files : KnownFiles) (hints : Bool) (request : ImagesRequest)
+    (in_memory : Bool) (source : ImageSource) (outcome : Result Done SourceFailure) (old new : Streams) : Type 0
   where
     pub work : IsImageWork files (image_promise request source) source request.limits
         (work_between old new outcome) old.steps new.steps
-    pub end : IsEnd old.errors new.errors (status_of_outcome outcome)
+    pub end : IsEnd hints old.errors new.errors (status_of_outcome outcome)
         (reported_outcome in_memory outcome)
 
 -- ---- one after another
@@ -110,11 +112,11 @@ is_last (Ok done) = false
 is_last (Err failed) = is_last_failure failed.failure
 
 -- One image was done, with this status, and it is known whether none follows.
-pub record IsImageEnd (files : KnownFiles) (request : ImagesRequest) (in_memory : Bool)
-    (source : ImageSource) (old new : Streams) (end : ImageEnd) : Type 0
+pub record IsImageEnd (files : KnownFiles) (hints : Bool) (request : ImagesRequest)
+    (in_memory : Bool) (source : ImageSource) (old new : Streams) (end : ImageEnd) : Type 0
   where
     pub outcome : Result Done SourceFailure
-    pub done : IsImageDone files request in_memory source outcome old new
+    pub done : IsImageDone files hints request in_memory source outcome old new
     pub status : end.status ≡ status_of_outcome outcome
     pub last : end.is_last ≡ is_last outcome
 
@@ -124,11 +126,11 @@ greatest_status [] = 0
 greatest_status (outcome ∷ later) = max (status_of_outcome outcome) (greatest_status later)
 
 -- The images of a request were done in turn, and the status is the greatest.
-pub record AreDone (files : KnownFiles) (request : ImagesRequest) (in_memory : Bool)
-    (old new : Streams) (status : ℕ) : Type 0
+pub record AreDone (files : KnownFiles) (hints : Bool) (request : ImagesRequest)
+    (in_memory : Bool) (old new : Streams) (status : ℕ) : Type 0
   where
     pub outcomes : List (Result Done SourceFailure)
-    pub in_turn : AreDoneInTurn (IsImageDone files request in_memory) is_last
+    pub in_turn : AreDoneInTurn (IsImageDone files hints request in_memory) is_last
         request.sources.items outcomes old new
     pub is_greatest : status ≡ greatest_status outcomes
 
@@ -136,15 +138,16 @@ pub record AreDone (files : KnownFiles) (request : ImagesRequest) (in_memory : B
 
 -- The images of a request were done with an output that is held in memory, and was empty before. If
 -- its bytes are known, they are these.
-pub record AreHeld (files : KnownFiles) (request : ImagesRequest) (before after : Inputs)
-    (errors new_errors : WriteTrace) (status : ℕ) (held : Option (List ℕ)) : Type 0
+pub record AreHeld (files : KnownFiles) (hints : Bool) (request : ImagesRequest)
+    (before after : Inputs) (errors new_errors : WriteTrace) (status : ℕ)
+    (held : Option (List ℕ)) : Type 0
   where
     pub memory : WriteTrace
     pub new_memory : WriteTrace
     pub empty : memory.contents ≡ Some []
     pub writes_well : WritesWell memory
     pub holds : new_memory.contents ≡ held
-    pub done : AreDone files request true
+    pub done : AreDone files hints request true
         (record {
           input = before.input;
           output = memory;
@@ -161,22 +164,25 @@ pub record AreHeld (files : KnownFiles) (request : ImagesRequest) (before after 
 
 -- The images of a request were done, and their texts were saved in the file of this name, or that
 -- failed. If an image was refused or failed, the file is as it was.
-pub data AreSaved (files : KnownFiles) (request : ImagesRequest) (name : Bor (List ℕ))
-    (before after : Inputs) (errors new_errors : WriteTrace) (status : ℕ) : Type 0
+pub data AreSaved (files : KnownFiles) (hints : Bool) (request : ImagesRequest)
+    (name : Bor (List ℕ)) (before after : Inputs) (errors new_errors : WriteTrace) (status : ℕ)
+    : Type 0
   where
     TextsSaved : (output : List ℕ) (worked : Option (List FileStep))
-        → AreHeld files request before (record { input = after.input; steps = worked })
+        → AreHeld files hints request before (record { input = after.input; steps = worked })
         errors new_errors status (Some output)
         → status < 2 → IsSaved files name.now output worked after.steps
-        → AreSaved files request name before after errors new_errors status
+        → AreSaved files hints request name before after errors new_errors status
     TextsNotSaved : (output : List ℕ) (worked : Option (List FileStep)) (middle : WriteTrace)
         (other : ℕ)
-        → AreHeld files request before (record { input = after.input; steps = worked })
+        → AreHeld files hints request before (record { input = after.input; steps = worked })
         errors middle other (Some output)
         → other < 2
         → (error : SaveError) → IsNotSaved files name.now output error worked after.steps
-        → Reports (File name) (failure_to_save error) middle new_errors → status ≡ 2
-        → AreSaved files request name before after errors new_errors status
+        → Reports (File name) (failure_to_save error) (hint_given hints (failure_to_save error))
+        middle new_errors
+        → status ≡ 2
+        → AreSaved files hints request name before after errors new_errors status
     OneHasFailed : (held : Option (List ℕ))
-        → AreHeld files request before after errors new_errors status held → status ≡ 2
-        → AreSaved files request name before after errors new_errors status
+        → AreHeld files hints request before after errors new_errors status held → status ≡ 2
+        → AreSaved files hints request name before after errors new_errors status

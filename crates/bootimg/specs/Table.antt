@@ -9,6 +9,8 @@ use Rattle.bootimg.specs.declared.command_line.table.CommandText.{CommandText}
 use Rattle.bootimg.specs.declared.command_line.table.OptionForm.{OptionForm}
 use Rattle.bootimg.specs.declared.command_line.table.OptionForm.TheVariants as form
 use Rattle.bootimg.specs.declared.command_line.table.OptionText.{OptionText}
+use Rattle.bootimg.specs.declared.command_line.takes.Place.{Place}
+use Rattle.bootimg.specs.declared.command_line.takes.Place.TheVariants as place
 
 -- What the table of commands and options means.
 
@@ -24,6 +26,17 @@ rule_of_form form.Positional name = positional name
 rule_of_form form.RequiredPositional name = required_positional name
 rule_of_form form.Positionals name = positionals name
 rule_of_form form.RequiredPositionals name = required_positionals name
+
+-- Where the words of an option stand: after `--NAME`, or where the usage has the argument.
+abbrev place_of_form : OptionForm → OptionText → Place
+place_of_form form.Positional option = place.Argument option.value_name
+place_of_form form.RequiredPositional option = place.Argument option.value_name
+place_of_form form.Positionals option = place.Argument option.value_name
+place_of_form form.RequiredPositionals option = place.Argument option.value_name
+place_of_form other option = place.Option option.name
+
+abbrev pub place_of_option : OptionText → Place
+place_of_option option = place_of_form option.form option
 
 -- The option of a text.
 abbrev pub rule_of_option : OptionText → Rule

@@ -241,16 +241,20 @@ fn run_fit_plan<'r, S: TracedRead, T: TracedWrite>(
     let compatibles = compatibles_of(alloc, &plan.configurations, &texts.compatibles)?;
     let lent = lend_configurations(alloc, &plan.configurations, texts, &compatibles)?;
     let descriptions = descriptions_of(alloc, &plan.images, &texts.images)?;
-    run_fit_builder(
-        alloc,
-        plan,
-        &lent,
-        &descriptions,
-        payloads,
-        limits,
-        input,
-        output,
-    )
+    let made = MadeSpecs {
+        configurations: &lent,
+        descriptions: &descriptions,
+    };
+    run_fit_builder(alloc, plan, made, payloads, limits, input, output)
+}
+
+/// What a plan gives for the configurations and the images of a flattened image tree.
+#[derive(Clone, Copy)]
+struct MadeSpecs<'r> {
+    /// The configurations.
+    configurations: &'r [ConfigurationSpec<'r>],
+    /// The description of each image, if it has one of its own.
+    descriptions: &'r [Option<&'r [u8]>],
 }
 
 /// Runs the command that builds the flattened image tree with these configurations, descriptions of
@@ -259,17 +263,16 @@ fn run_fit_plan<'r, S: TracedRead, T: TracedWrite>(
 fn run_fit_builder<S: TracedRead, T: TracedWrite>(
     alloc: Global,
     plan: &FitPlan<'_>,
-    configurations: &[ConfigurationSpec<'_>],
-    descriptions: &[Option<&[u8]>],
+    made: MadeSpecs<'_>,
     payloads: &[Part<'_>],
     limits: Limits,
     input: &mut S,
     output: &mut T,
 ) -> Result<(), Error>
     requires one_each { length payloads.now ≡ length plan.now.images.items }
-    requires lent { configuration_spec_models configurations.now
+    requires lent { configuration_spec_models made.configurations.now
         ≡ planned_configurations plan.now.own_texts plan.now.configurations.items }
-    requires described { descriptions_models descriptions.now
+    requires described { descriptions_models made.descriptions.now
         ≡ planned_descriptions plan.now.own_texts plan.now.images.items }
     ensures { IsTracedPipe (fit_promise plan.now payloads.now limits) limits (S.trace input.old)
         (S.trace input.new) (T.trace output.old) (T.trace output.new) result }
@@ -278,11 +281,11 @@ fn run_fit_builder<S: TracedRead, T: TracedWrite>(
         head: plan.head,
         images: &plan.images,
         plan: PlanSpec {
-            configurations,
+            configurations: made.configurations,
             default: plan.default,
             algorithms: &plan.algorithms,
             texts: &plan.texts,
-            descriptions,
+            descriptions: made.descriptions,
         },
         payloads,
         form: plan.form,

@@ -12,9 +12,11 @@ mod image;
 mod images;
 mod options;
 mod part;
+mod refused;
 mod show;
 mod source;
 mod table;
+mod takes;
 mod texts;
 mod update;
 mod values;
@@ -51,12 +53,14 @@ pub use images::ImagesRequest;
 use images::{image_sources, names_images};
 use options::{flag, form, format, limits, number};
 pub use part::PartSource;
+pub use refused::{RefusedWord, refused_word};
 pub use show::ShowForm;
 use show::show_form;
 pub use source::{ComparePlan, ImageSource};
 use source::{compare_plan, source};
 use std::alloc::{AllocError, AllocFailed, Global};
-use table::program;
+use table::{program, writes_image};
+pub use takes::{Place, Takes};
 pub use texts::{NamedText, OwnTexts, text_named, texts_named};
 use update::changes;
 pub use values::{GetPlan, ValueWords};
@@ -121,6 +125,8 @@ pub struct Request<'a> {
     pub limits: Limits,
     /// The name of the output file. Without one the output goes to standard output.
     pub output: Option<&'a str>,
+    /// Whether the output is an image or a payload, and not text.
+    pub writes_image: bool,
 }
 
 /// What the arguments request.
@@ -210,6 +216,7 @@ pub fn parse_arguments<'a>(alloc: Global, arguments: &'a [&'a str]) -> Result<Or
         job,
         limits,
         output: options.get_str("output"),
+        writes_image: writes_image(name),
     }))
 }
 

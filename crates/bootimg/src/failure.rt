@@ -8,10 +8,14 @@ ghost use Rattle.bootimg.specs.ErrorLines.{Extends, line_of};
 ghost use Rattle.bootimg.specs.Failures.{error_text, failure_of, failure_text as text_of};
 ghost use Rattle.bootimg.specs.Failures.{failure_to_save};
 ghost use Rattle.bootimg.specs.Failures.{is_about_image as is_about_image_of};
+ghost use Rattle.bootimg.specs.Hints.{failure_hint, hint_of_error, hint_text};
+ghost use Rattle.bootimg.specs.Hints.{is_about_word as is_about_word_of};
 ghost use Rattle.bootimg.specs.ValueWords.{value_words_text};
 
 use crate::command_line::ValueWords;
 use crate::error_line::ErrorLine;
+use crate::hints::Hint;
+use crate::messages::Message;
 use bi_base::{Error, Fault, TracedWrite};
 use bi_commands::extract::ExtractError;
 use bi_files::SaveError;
@@ -61,6 +65,8 @@ pub enum Failure<'a> {
     CannotOpen,
     /// The output file cannot be written.
     NotWritten,
+    /// An image or a payload would be written to a terminal.
+    OutputIsTerminal,
 }
 
 impl<'a> Failure<'a> {
@@ -73,7 +79,42 @@ impl<'a> Failure<'a> {
             Failure::Call(error) => matches!(error, Error::Refused(_) | Error::ReadFailed),
             Failure::NoSelection | Failure::NoChange | Failure::BadValue => false,
             Failure::BadImage(_) | Failure::BadConfiguration(_) => false,
+            Failure::OutputIsTerminal => false,
             _ => true,
+        }
+    }
+
+    /// Returns whether a word of the arguments may be the reason for the failure.
+    pub fn is_about_word(self) -> bool
+        ensures { result ≡ is_about_word_of self.entry }
+    {
+        matches!(self, Failure::BadValue | Failure::BadImage(_))
+    }
+
+    /// Returns the hint for the failure, whatever the arguments.
+    pub fn hint(self) -> Hint<'static>
+        ensures { hint_text result ≡ failure_hint self.entry }
+    {
+        match self {
+            Failure::Call(error) => error_hint(error),
+            Failure::WrongKind => Hint::Sentence(
+                "--part and fields are for a legacy image, --image, --config, --default and paths \
+                 for a FIT",
+            ),
+            Failure::NoProperty(_) | Failure::NoText(_) | Failure::NoNumber(_) => {
+                Hint::Sentence("bootimg describe prints what the image has")
+            }
+            Failure::NoSelection => Hint::Sentence("see bootimg extract --help"),
+            Failure::NoChange => Hint::Sentence("see bootimg update --help"),
+            Failure::BadValue => Hint::Message(Message::BadValue),
+            Failure::BadImage(_) => Hint::Message(Message::BadImage),
+            Failure::BadConfiguration(_) => Hint::Message(Message::BadConfiguration),
+            Failure::CannotOpen => Hint::Message(Message::CannotOpen),
+            Failure::NotWritten => Hint::Message(Message::WriteFailed),
+            Failure::OutputIsTerminal => {
+                Hint::Sentence("-o FILE writes it to a file, and > FILE or | COMMAND also do")
+            }
+            _ => Hint::Sentence("bootimg list prints what the image holds"),
         }
     }
 
@@ -109,7 +150,20 @@ impl<'a> Failure<'a> {
             }
             Failure::CannotOpen => line.put(b"cannot be opened"),
             Failure::NotWritten => line.put(b"write failed"),
+            Failure::OutputIsTerminal => line.put(b"standard output is a terminal, see -o"),
         }
+    }
+}
+
+/// Returns the hint for an error of a call.
+fn error_hint(error: Error) -> Hint<'static>
+    ensures { hint_text result ≡ hint_of_error error }
+{
+    match error {
+        Error::Refused(fault) => Hint::Cause(fault.cause),
+        Error::OutOfMemory => Hint::Message(Message::OutOfMemory),
+        Error::ReadFailed => Hint::Message(Message::ReadFailed),
+        Error::WriteFailed => Hint::Message(Message::WriteFailed),
     }
 }
 

@@ -13,6 +13,8 @@ ghost use Rattle.bootimg.specs.KnownRequests.{AllowedWordsAreKnown, ChangesAreKn
 ghost use Rattle.bootimg.specs.KnownRequests.{AllRequestsAreKnown, SelectionsAreKnown};
 ghost use Rattle.bootimg.specs.KnownRequests.{GetPlansAreKnown, PlansAreKnown};
 ghost use Rattle.bootimg.specs.KnownImages.{ImageOutcomesAreKnown, NextImagesAreKnown};
+ghost use Rattle.bootimg.specs.KnownHints.{FailureHintsAreKnown, ImageWritersAreKnown};
+ghost use Rattle.bootimg.specs.KnownHints.{RefusedWordsAreKnown};
 ghost use Rattle.bootimg.specs.KnownRuns.{StatusesAreKnown, FailureLinesAreKnown};
 ghost use Rattle.bootimg.specs.KnownRuns.{ExtractLinesAreKnown, CompareLinesAreKnown};
 ghost use Rattle.bootimg.specs.KnownRuns.{NotesAreKnown, ValueLinesAreKnown};
@@ -143,6 +145,14 @@ pub fn compare_lines_are_known()
 /// The notes on signature nodes, on an alignment and on fixed positions are known lines.
 pub fn notes_are_known()
     ensures { NotesAreKnown }
+{}
+
+/// The hints for words that are not taken are known, with names that are near them; so are those for
+/// failures, and there is none where no hints are given. It is known which commands write images.
+pub fn hints_are_known()
+    ensures words { RefusedWordsAreKnown }
+    ensures failures { FailureHintsAreKnown }
+    ensures writers { ImageWritersAreKnown }
 {}
 
 /// One of several images has a known name, and its outcome a known status. No image follows after a

@@ -8,6 +8,7 @@ mod error_line;
 mod explanations;
 mod extractions;
 mod failure;
+mod hints;
 mod jobs;
 mod known_requests;
 mod known_runs;
@@ -20,12 +21,14 @@ mod requests;
 mod run;
 mod several;
 mod tasks;
+mod terminal;
 
 use bi_files::SystemFiles;
 use run::run_with_files;
 use std::alloc::{AllocError, Global};
-use std::io::{self, Write};
+use std::io::{self, IsTerminal, Write};
 use std::process::ExitCode;
+use terminal::Terminal;
 
 fn main(rt: HostRuntime) -> ExitCode {
     let alloc = rt.alloc();
@@ -35,9 +38,14 @@ fn main(rt: HostRuntime) -> ExitCode {
     let Ok(words) = as_strs(alloc, &strings) else {
         return out_of_memory(&rt);
     };
+    let terminal = Terminal {
+        output: rt.stdout().is_terminal(),
+        errors: rt.stderr().is_terminal(),
+    };
     ExitCode::from(run_with_files(
         alloc,
         &words,
+        terminal,
         &mut SystemFiles {
             runtime: &rt,
             alloc,

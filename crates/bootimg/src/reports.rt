@@ -1,32 +1,38 @@
 //! The lines that the program writes to standard error.
 
-ghost use Rattle.std.specs.Prelude.{◌≡◌};
+ghost use Rattle.std.specs.Prelude.{◌≡◌, option_map};
 ghost use Rattle.bootimg.specs.ErrorLines.{Extends, line_of};
 ghost use Rattle.bootimg.specs.Failures.{name_text};
+ghost use Rattle.bootimg.specs.Hints.{hint_line, hint_text};
 ghost use Rattle.bootimg.specs.Runs.{Notes, NotesAlignment, NotesCount, Reports};
 ghost use Rattle.bootimg.specs.Runs.{alignment_line, failure_line, note_line, positions_line};
 
 use crate::command_line::ImageSource;
 use crate::error_line::ErrorLine;
 use crate::failure::Failure;
+use crate::hints::Hint;
 use bi_base::TracedWrite;
 use bi_norm::Kept;
 
 /// The exit status after any failure.
 pub const FAILED: u8 = 2;
 
-/// Writes the line of a failure with an image from this source, and returns the exit status. The
-/// line has the name of the file if the failure is about the image. A failed write is ignored.
+/// Writes the line of a failure with an image from this source, and a hint after it, if there is
+/// one, and returns the exit status. The line has the name of the file if the failure is about the
+/// image. A failed write is ignored.
 pub fn report_failure<E: TracedWrite>(
     source: ImageSource<'_>,
     failure: Failure<'_>,
+    hint: Option<Hint<'_>>,
     errors: &mut E,
 ) -> u8
-    ensures line { Reports source.entry failure.entry (E.trace errors.old) (E.trace errors.new) }
+    ensures line { Reports source.entry failure.entry (option_map hint_text hint.entry)
+        (E.trace errors.old) (E.trace errors.new) }
     ensures status { result ≡ 2 }
 {
     let mut line = ErrorLine::new(errors);
     put_failure(source, failure, &mut line);
+    put_hint(hint, &mut line);
     line.write_held();
     FAILED
 }
@@ -44,6 +50,18 @@ fn put_failure<E: TracedWrite>(
     put_source(source, failure, line);
     failure.put_text(line);
     line.put(b"\n");
+}
+
+/// Appends the line of a hint, if there is one.
+fn put_hint<E: TracedWrite>(hint: Option<Hint<'_>>, line: &mut ErrorLine<'_, E>)
+    ensures { Extends (line_of E.trace line.old)
+        (hint_line (option_map hint_text hint.entry)) (line_of E.trace line.new) }
+{
+    if let Some(hint) = hint {
+        line.put(b"bootimg: hint: ");
+        hint.put_text(line);
+        line.put(b"\n");
+    }
 }
 
 /// Appends the name of the file, if the failure is about an image in a file.

@@ -1,12 +1,14 @@
 //! Doing what the arguments request.
 
-ghost use Rattle.std.specs.Prelude.{◌≡◌, IfOk, IfErr, Ok, Some};
+ghost use Rattle.std.specs.Prelude.{◌≡◌, IfOk, IfErr, Ok, Some, option_map};
 ghost use Rattle.bootimg.specs.CommandLine.{HasJobLengths};
+ghost use Rattle.bootimg.specs.Hints.{hint_given, hint_text};
 ghost use Rattle.bootimg.specs.Runs.{failure_in_memory, IsEnd, IsHeldFailure, IsHeldWork};
 ghost use Rattle.bootimg.specs.Runs.{IsSavedWork};
 
 use crate::command_line::{ImageSource, Job};
 use crate::failure::Failure;
+use crate::hints::Hint;
 use crate::jobs::{SourceFailure, do_job};
 use crate::reports::{put_notes, report_failure};
 use crate::tasks::Done;
@@ -15,17 +17,31 @@ use bi_files::{FileSystem, save};
 use std::alloc::Global;
 
 /// Writes the notes or the line of the failure to standard error, if there are any, and returns the
-/// exit status.
-pub fn conclude<E: TracedWrite>(outcome: Result<Done, SourceFailure<'_>>, errors: &mut E) -> u8
-    ensures { IsEnd (E.trace errors.old) (E.trace errors.new) result outcome.entry }
+/// exit status. `hints` is whether a hint follows the line of the failure.
+pub fn conclude<E: TracedWrite>(
+    hints: bool,
+    outcome: Result<Done, SourceFailure<'_>>,
+    errors: &mut E,
+) -> u8
+    ensures { IsEnd hints (E.trace errors.old) (E.trace errors.new) result outcome.entry }
 {
     match outcome {
         Ok(done) => {
             put_notes(done.kept, errors);
             done.status()
         }
-        Err(failed) => report_failure(failed.source, failed.failure, errors),
+        Err(failed) => {
+            let hint = hint_if(hints, failed.failure);
+            report_failure(failed.source, failed.failure, hint, errors)
+        }
     }
+}
+
+/// Returns the hint for a failure, if hints are given.
+pub fn hint_if(hints: bool, failure: Failure<'_>) -> Option<Hint<'static>>
+    ensures { option_map hint_text result ≡ hint_given hints failure.entry }
+{
+    if hints { Some(failure.hint()) } else { None }
 }
 
 /// Does a job, saves the output in the file of this name, and returns how that ended. After a

@@ -3,21 +3,24 @@
 ghost use Rattle.std.specs.Prelude.{◌≡◌, ◌↔◌, IfNone, IfSome, IsTrue, List, None, Option};
 ghost use Rattle.bi_base.specs.Traces.{ReadTrace};
 ghost use Rattle.bi_files.specs.Files.{FileStep, SavesNothing, no_files};
-ghost use Rattle.bootimg.specs.CommandLine.{texts_of};
+ghost use Rattle.bootimg.specs.CommandLine.{HasJobLengths, texts_of};
 ghost use Rattle.bi_files.specs.Directories.{SavesNoDirectory};
 ghost use Rattle.bootimg.specs.LeftFiles.{LeavesKnownFiles};
-ghost use Rattle.bootimg.specs.Runs.{IsTextRun, IsMistake};
+ghost use Rattle.bootimg.specs.Runs.{IsRequestRun, IsTextRun, IsMistake};
+ghost use Rattle.bootimg.specs.Runs.{is_for_terminal as is_for_terminal_of};
 ghost use Rattle.bootimg.specs.ProgramRuns.{IsPlainRun, IsRun};
 ghost use Rattle.clap.specs.declared.error.kind.ErrorKind.{ErrorKind};
 
-use crate::command_line::{ImageSource, NoRequest, Order, parse_arguments};
+use crate::command_line::{ImageSource, NoRequest, Order, Request, parse_arguments};
 use crate::extractions::extract_to_directory;
 use crate::failure::Failure;
+use crate::hints::usage_hint;
 use crate::jobs::do_job;
 use crate::reports::{FAILED, report_failure};
-use crate::requests::{conclude, do_job_to_file};
+use crate::requests::{conclude, do_job_to_file, hint_if};
 use crate::several::do_images;
 use crate::tasks::SUCCESS;
+use crate::terminal::Terminal;
 use bi_base::{
     Error, TracedRead, TracedReader, TracedWrite, TracedWriter, write_all, write_and_flush,
 };
@@ -30,18 +33,27 @@ use std::io::{Read, Write};
 pub fn run<'a, R: Read, W: Write, E: Write>(
     alloc: Global,
     arguments: &'a [&'a str],
+    terminal: Terminal,
     reader: &mut R,
     writer: &mut W,
     errors: &mut E,
 ) -> u8
-    ensures run { IsPlainRun (texts_of arguments.entry.now) no_files None None
+    ensures run { IsPlainRun terminal (texts_of arguments.entry.now) no_files None None
         (R.remaining reader.old) (R.remaining reader.new)
         (W.contents writer.old) (W.contents writer.new)
         (E.contents errors.old) (E.contents errors.new) result }
     ensures saves_nothing { SavesNothing no_files }
     ensures saves_no_directory { SavesNoDirectory no_files }
 {
-    run_with_files(alloc, arguments, &mut NoFiles, reader, writer, errors)
+    run_with_files(
+        alloc,
+        arguments,
+        terminal,
+        &mut NoFiles,
+        reader,
+        writer,
+        errors,
+    )
 }
 
 /// Runs the program with these arguments, without its own name, and returns the exit status: 0
@@ -58,20 +70,26 @@ pub fn run<'a, R: Read, W: Write, E: Write>(
 /// next. The exit status is the greatest. No image follows after a failed write, or if memory runs
 /// out. A named output file has the texts of all images, or is as it was if one of them failed.
 ///
+/// `terminal` is whether standard output and standard error are terminals. If standard output is
+/// one, and the arguments name no output file, an image or a payload is not written: this is a
+/// failure, and nothing is read.
+///
 /// A failure is written to `errors`: one line, or clap's text if it rejects the arguments. The line
-/// has the name of the file, if the failure is about an image in a file or the output file. After
+/// has the name of the file, if the failure is about an image in a file or the output file. If
+/// standard error is a terminal, a line with a hint follows it. After
 /// the normal form of a flattened image tree with signature nodes, also an updated one, a note with
 /// their number is written to `errors`. In the form External, so are notes on the alignment and the
 /// fixed positions that payloads lose, if they do. A failed write to `errors` is ignored.
 pub fn run_with_files<'a, R: Read, W: Write, E: Write, F: FileSystem>(
     alloc: Global,
     arguments: &'a [&'a str],
+    terminal: Terminal,
     files: &mut F,
     reader: &mut R,
     writer: &mut W,
     errors: &mut E,
 ) -> u8
-    ensures { IsPlainRun (texts_of arguments.entry.now) (F.known files.old)
+    ensures { IsPlainRun terminal (texts_of arguments.entry.now) (F.known files.old)
         (F.steps files.old) (F.steps files.new)
         (R.remaining reader.old) (R.remaining reader.new)
         (W.contents writer.old) (W.contents writer.new)
@@ -80,7 +98,15 @@ pub fn run_with_files<'a, R: Read, W: Write, E: Write, F: FileSystem>(
     let mut input = TracedReader::new(reader);
     let mut output = TracedWriter::new(writer);
     let mut log = TracedWriter::new(errors);
-    run_traced(alloc, arguments, files, &mut input, &mut output, &mut log)
+    run_traced(
+        alloc,
+        arguments,
+        terminal,
+        files,
+        &mut input,
+        &mut output,
+        &mut log,
+    )
 }
 
 /// Runs the program over files in memory, as `run_with_files` does, and returns the exit status, or
@@ -93,6 +119,7 @@ pub fn run_with_files<'a, R: Read, W: Write, E: Write, F: FileSystem>(
 pub fn run_in_memory<'a, 'b, R: Read, W: Write, E: Write>(
     alloc: Global,
     arguments: &'a [&'a str],
+    terminal: Terminal,
     files: &mut MemoryFiles<'b>,
     reader: &mut R,
     writer: &mut W,
@@ -107,7 +134,7 @@ pub fn run_in_memory<'a, 'b, R: Read, W: Write, E: Write>(
     if files.has_lost_steps() {
         return None;
     }
-    let status = run_with_files(alloc, arguments, files, reader, writer, errors);
+    let status = run_with_files(alloc, arguments, terminal, files, reader, writer, errors);
     if files.has_lost_steps() {
         None
     } else {
@@ -120,12 +147,13 @@ pub fn run_in_memory<'a, 'b, R: Read, W: Write, E: Write>(
 pub fn run_traced<'a, S: TracedRead, T: TracedWrite, E: TracedWrite, F: FileSystem>(
     alloc: Global,
     arguments: &'a [&'a str],
+    terminal: Terminal,
     files: &mut F,
     input: &mut S,
     output: &mut T,
     errors: &mut E,
 ) -> u8
-    ensures { IsRun (texts_of arguments.entry.now) (F.known files.old) (record {
+    ensures { IsRun terminal (texts_of arguments.entry.now) (F.known files.old) (record {
       input = S.trace input.old;
       new_input = S.trace input.new;
       output = T.trace output.old;
@@ -137,37 +165,90 @@ pub fn run_traced<'a, S: TracedRead, T: TracedWrite, E: TracedWrite, F: FileSyst
       status = result;
     }) }
 {
+    let hints = terminal.errors;
     match parse_arguments(alloc, arguments) {
-        Ok(Order::Do(request)) => match &request.output {
-            None => {
-                let outcome = do_job(alloc, &request.job, request.limits, files, input, output);
-                conclude(outcome, errors)
-            }
-            Some(name) => {
-                let outcome = do_job_to_file(
-                    alloc,
-                    &request.job,
-                    request.limits,
-                    *name,
-                    files,
-                    input,
-                );
-                conclude(outcome, errors)
-            }
-        },
-        Ok(Order::DoEach(request)) => do_images(alloc, &request, files, input, output, errors),
-        Ok(Order::ExtractAll(request)) => {
-            conclude(extract_to_directory(alloc, &request, files, input), errors)
+        Ok(Order::Do(request)) => {
+            run_request(alloc, &request, terminal, files, input, output, errors)
         }
-        Err(NoRequest::Failure(failure)) => report_failure(ImageSource::Standard, failure, errors),
+        Ok(Order::DoEach(request)) => {
+            do_images(alloc, hints, &request, files, input, output, errors)
+        }
+        Ok(Order::ExtractAll(request)) => {
+            let outcome = extract_to_directory(alloc, &request, files, input);
+            conclude(hints, outcome, errors)
+        }
+        Err(NoRequest::Failure(failure)) => {
+            let hint = usage_hint(alloc, hints, arguments, failure);
+            report_failure(ImageSource::Standard, failure, hint, errors)
+        }
         Err(NoRequest::Text(text)) => match clap_text(alloc, &text) {
-            Ok(bytes) => print(&bytes, text.use_stderr(), output, errors),
+            Ok(bytes) => print(&bytes, text.use_stderr(), hints, output, errors),
             Err(error) => {
                 let failure = Failure::Call(Error::from(error));
-                report_failure(ImageSource::Standard, failure, errors)
+                report_failure(
+                    ImageSource::Standard,
+                    failure,
+                    hint_if(hints, failure),
+                    errors,
+                )
             }
         },
     }
+}
+
+/// Does the job of a request, and returns the exit status. If an image or a payload would be
+/// written to a terminal, nothing is read or written, and that is the failure. Requires: if the job
+/// is to build a flattened image tree, it has as many lengths or files as images.
+fn run_request<'a, S: TracedRead, T: TracedWrite, E: TracedWrite, F: FileSystem>(
+    alloc: Global,
+    request: &Request<'a>,
+    terminal: Terminal,
+    files: &mut F,
+    input: &mut S,
+    output: &mut T,
+    errors: &mut E,
+) -> u8
+    requires lengths { HasJobLengths request.now.job }
+    ensures { IsRequestRun terminal (F.known files.old) request.now (record {
+      input = S.trace input.old;
+      new_input = S.trace input.new;
+      output = T.trace output.old;
+      new_output = T.trace output.new;
+      errors = E.trace errors.old;
+      new_errors = E.trace errors.new;
+      steps = F.steps files.old;
+      new_steps = F.steps files.new;
+      status = result;
+    }) }
+{
+    let hints = terminal.errors;
+    if is_for_terminal(request, terminal) {
+        let failure = Failure::OutputIsTerminal;
+        return report_failure(
+            ImageSource::Standard,
+            failure,
+            hint_if(hints, failure),
+            errors,
+        );
+    }
+    let (job, limits) = (&request.job, request.limits);
+    match &request.output {
+        None => {
+            let outcome = do_job(alloc, job, limits, files, input, output);
+            conclude(hints, outcome, errors)
+        }
+        Some(name) => {
+            let outcome = do_job_to_file(alloc, job, limits, *name, files, input);
+            conclude(hints, outcome, errors)
+        }
+    }
+}
+
+/// Returns whether an image or a payload would be written to a terminal.
+fn is_for_terminal(request: &Request<'_>, terminal: Terminal) -> bool
+    ensures { result ≡ is_for_terminal_of terminal request.now }
+{
+    terminal.output && request.writes_image && request.output.is_none()
 }
 
 /// Returns the text of clap: help, the version, or why it rejects the arguments.
@@ -176,16 +257,17 @@ fn clap_text(alloc: Global, text: &clap::Error) -> Result<String, AllocError> {
 }
 
 /// Writes a text of the command line, to standard error or standard output, and returns the exit
-/// status.
+/// status. `hints` is whether a hint follows the line of a failure.
 fn print<T: TracedWrite, E: TracedWrite>(
     text: &str,
     is_usage: bool,
+    hints: bool,
     output: &mut T,
     errors: &mut E,
 ) -> u8
     ensures { (kind : ErrorKind) (input : ReadTrace) (steps : Option (List FileStep))
         → IsTrue is_usage ↔ IsMistake kind
-        → IsTextRun kind text.now (record {
+        → IsTextRun hints kind text.now (record {
           input = input;
           new_input = input;
           output = T.trace output.old;
@@ -203,6 +285,14 @@ fn print<T: TracedWrite, E: TracedWrite>(
     }
     match write_and_flush(output, text.as_bytes()) {
         Ok(()) => SUCCESS,
-        Err(error) => report_failure(ImageSource::Standard, Failure::Call(error), errors),
+        Err(error) => {
+            let failure = Failure::Call(error);
+            report_failure(
+                ImageSource::Standard,
+                failure,
+                hint_if(hints, failure),
+                errors,
+            )
+        }
     }
 }

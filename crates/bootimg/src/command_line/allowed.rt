@@ -37,7 +37,7 @@ fn allowed_kinds(options: &ArgMatches<'_>) -> Result<Allowed, Failure<'static>>
 
 /// Parses words for kinds of concerns, with a comma between each two. Returns None if one of them
 /// is not that for a kind.
-fn parse_allowed(text: &str) -> Option<Allowed>
+pub fn parse_allowed(text: &str) -> Option<Allowed>
     ensures some { IfSome result (IsAllowed (listed_words text.now)) }
     ensures none { IfNone result (NoneIs (IsAllowed (listed_words text.now))) }
 {

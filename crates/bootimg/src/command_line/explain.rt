@@ -27,7 +27,7 @@ pub fn explained_topic(options: &ArgMatches<'_>) -> Result<Option<Topic>, Failur
 
 /// Returns what a message is about. Returns None if no name is at its beginning or after its last
 /// colon and space.
-fn parse_topic(argument: &str) -> Option<Topic>
+pub fn parse_topic(argument: &str) -> Option<Topic>
     ensures some { IfSome result (IsAbout argument.now) }
     ensures none { IfNone result (NoneIs (IsAbout argument.now)) }
 {

@@ -38,7 +38,7 @@ pub fn get_plan<'a>(alloc: Global, options: &ArgMatches<'a>) -> Result<GetPlan<'
 }
 
 /// Parses the value of `--as`, or its absence. Returns None for any other text.
-fn parse_form(argument: Option<&str>) -> Option<ValueForm>
+pub fn parse_form(argument: Option<&str>) -> Option<ValueForm>
     ensures some { IfSome result (λ form. option_map (λ text. text.now) argument.entry
         ≡ form_argument form) }
     ensures exactly { (form : Form)

@@ -29,7 +29,7 @@ pub fn algorithms(alloc: Global, options: &ArgMatches<'_>) -> Result<Vec<Algo>, 
 }
 
 /// Parses `none`, or names of algorithms. Fails as `parse_algorithms` does.
-fn parse_hashes(alloc: Global, text: &str) -> Result<Vec<Algo>, NoRequest>
+pub fn parse_hashes(alloc: Global, text: &str) -> Result<Vec<Algo>, NoRequest>
     ensures algorithms { IfOk result (λ algorithms. AreHashesOf text.now algorithms.items) }
     ensures failure { IfErr result (IsFailureOutcome (IsBadValue (AreHashesOf text.now))) }
 {

@@ -30,15 +30,23 @@ pub struct ImageWord<'a> {
 
 /// The fields of the text of an image, between its colons.
 #[derive(Clone, Copy)]
-struct ImageFields<'a> {
-    name: &'a str,
-    image_type: &'a str,
-    arch: &'a str,
-    os: &'a str,
-    compression: &'a str,
-    load: &'a str,
-    entry: &'a str,
-    length: &'a str,
+pub struct ImageFields<'a> {
+    /// The name.
+    pub name: &'a str,
+    /// The image type.
+    pub image_type: &'a str,
+    /// The processor architecture.
+    pub arch: &'a str,
+    /// The operating system.
+    pub os: &'a str,
+    /// The compression.
+    pub compression: &'a str,
+    /// The load address.
+    pub load: &'a str,
+    /// The entry point.
+    pub entry: &'a str,
+    /// The length of the payload, or `@FILE`.
+    pub length: &'a str,
 }
 
 /// Parses `NAME:TYPE:ARCH:OS:COMPRESSION:LOAD:ENTRY:LEN`, where LEN may be `@FILE`. Returns None
@@ -51,7 +59,7 @@ pub fn parse_image(argument: &str) -> Option<ImageWord<'_>>
 }
 
 /// Splits the text of an image at its colons. Returns None if it has not eight fields.
-fn split_image(argument: &str) -> Option<ImageFields<'_>>
+pub fn split_image(argument: &str) -> Option<ImageFields<'_>>
     ensures some { IfSome result (λ fields. parts_of argument.now ≡ list_of fields) }
     ensures none { IfNone result ((fields : ImageFields) → parts_of argument.now
         ≢ list_of fields) }
@@ -138,7 +146,7 @@ fn node_texts<'a>(
 }
 
 /// Parses an address, or `-` for none. Returns None exactly for any other text.
-fn parse_address(argument: &str) -> Option<Option<u32>>
+pub fn parse_address(argument: &str) -> Option<Option<u32>>
     ensures some { IfSome result (IsAddress argument.now) }
     ensures none { IfNone result (NoneIs (IsAddress argument.now)) }
 {

@@ -28,7 +28,7 @@ pub fn limits(options: &ArgMatches<'_>) -> Result<Limits, Failure<'static>>
 }
 
 /// Parses the limit for a file. Returns None exactly for any text but a number of 64 to 0x7fffffff.
-fn parse_limits(argument: &str) -> Option<Limits>
+pub fn parse_limits(argument: &str) -> Option<Limits>
     ensures some { IfSome result (IsLimits argument.now) }
     ensures none { IfNone result (NoneIs (IsLimits argument.now)) }
 {
@@ -55,7 +55,7 @@ pub fn form(options: &ArgMatches<'_>) -> Result<Form, Failure<'static>>
 
 /// Parses an alignment. Returns None exactly for any text but a number that is a power of two from
 /// 4 to 1048576.
-fn parse_align(argument: &str) -> Option<Align>
+pub fn parse_align(argument: &str) -> Option<Align>
     ensures some { IfSome result (IsAlignOf argument.now) }
     ensures none { IfNone result (NoneIs (IsAlignOf argument.now)) }
 {

@@ -1,13 +1,27 @@
 //! The program with its commands and options: a table, and what builds clap's command of it.
 
-ghost use Rattle.std.specs.Prelude.{◌≡◌, false, IfOk, map};
+ghost use Rattle.std.specs.Prelude.{◌≡◌, ◌&&◌, false, IfOk, bytes_eq, map};
+ghost use Rattle.std.specs.List.{list_any};
 ghost use Rattle.clap.specs.Words.{app_of, new_rule, rule_of, shape_of};
 ghost use Rattle.bootimg.specs.Program.{building_commands, changing_commands, checking_commands};
 ghost use Rattle.bootimg.specs.Program.{program_app, reading_commands, value_option};
-ghost use Rattle.bootimg.specs.Table.{rule_of_option, shape_of_text, with_subcommands};
+ghost use Rattle.bootimg.specs.Program.{writes_image as writes_image_of};
+ghost use Rattle.bootimg.specs.Table.{place_of_option, rule_of_option, shape_of_text};
+ghost use Rattle.bootimg.specs.Table.{with_subcommands};
 ghost use Rattle.clap.specs.declared.builder.command.Command.TheViews.{out-Command};
 
+mod options;
+
+use crate::command_line::takes::{Place, Takes};
 use clap::{Arg, ArgAction, Command};
+pub use options::TAKING_OPTIONS;
+use options::{
+    ALIGN, ALL, ALLOW, ARCH, AS, CAUSE, COMPATIBLE, COMPRESSION, CONFIG, CONFIGURATIONS, DEFAULT,
+    DEFAULT_NAME, DESCRIBE_CONFIGURATION, DESCRIBE_IMAGE, DESCRIPTION, ENTRY, ESCAPED,
+    EXTERNAL_BUILT, EXTERNAL_NORMAL, FILE, FILES, HASH, HASHES, IGNORE, IMAGE, IMAGES, INDEX, JSON,
+    KEY, LAYOUT, LENGTHS, LIMIT, LOAD, NAME, NEW_TIME, OFFSET, ONE, OS, OTHER, OUTPUT, PART, QUIET,
+    REQUIRED_FILE, SIGNED, TIME, TYPE, WHERE,
+};
 use std::alloc::{AllocError, Global};
 
 /// The default of `--limit`, in bytes: the greatest limit.
@@ -43,7 +57,7 @@ const AFTER_HELP: &str =
 
 /// How an option is given.
 #[derive(Clone, Copy)]
-enum OptionForm {
+pub enum OptionForm {
     /// `--NAME`.
     Flag,
     /// `--NAME VALUE`, required.
@@ -68,11 +82,32 @@ enum OptionForm {
 
 /// An option of a command.
 #[derive(Clone, Copy)]
-struct OptionText {
-    name: &'static str,
-    value_name: &'static str,
-    help: &'static str,
-    form: OptionForm,
+pub struct OptionText {
+    /// Its name, without `--`.
+    pub name: &'static str,
+    /// The name of its value in the usage.
+    pub value_name: &'static str,
+    /// What `--help` says of it.
+    pub help: &'static str,
+    /// How it is given.
+    pub form: OptionForm,
+    /// Which words it takes.
+    pub takes: Takes,
+}
+
+impl OptionText {
+    /// Returns where the words of the option stand.
+    pub fn place(&self) -> Place
+        ensures { result ≡ place_of_option self.now }
+    {
+        match self.form {
+            OptionForm::Positional
+            | OptionForm::RequiredPositional
+            | OptionForm::Positionals
+            | OptionForm::RequiredPositionals => Place::Argument(self.value_name),
+            _ => Place::Option(self.name),
+        }
+    }
 }
 
 /// A command of the program.
@@ -83,7 +118,29 @@ struct CommandText {
     about: &'static str,
     usage: &'static str,
     after_help: &'static str,
+    /// Whether its output is an image or a payload, and not text.
+    writes_image: bool,
     options: &'static [OptionText],
+}
+
+/// Returns whether the command of this name writes an image or a payload, and not text.
+pub fn writes_image(name: &str) -> bool
+    ensures { result ≡ writes_image_of name.now }
+{
+    some_writes_image(&READING_COMMANDS, name)
+        || some_writes_image(&CHANGING_COMMANDS, name)
+        || some_writes_image(&BUILDING_COMMANDS, name)
+        || some_writes_image(&CHECKING_COMMANDS, name)
+}
+
+/// Returns whether one of these commands has a name, and writes an image or a payload.
+fn some_writes_image(texts: &[CommandText], name: &str) -> bool
+    ensures { result ≡ list_any (λ text. text.writes_image && bytes_eq text.name.now name.now)
+        texts.now }
+{
+    texts
+        .iter()
+        .any(|text| text.writes_image && text.name == name)
 }
 
 /// Builds the program with its commands and options. Fails if memory runs out.
@@ -215,340 +272,6 @@ fn with_value<'a>(argument: Arg<'a>, option: &OptionText) -> Arg<'a>
         .action(ArgAction::Set)
 }
 
-const FILE: OptionText = OptionText {
-    name: "file",
-    value_name: "IMAGE",
-    help: "The image: a file. Without IMAGE, or if it is -, standard input is read",
-    form: OptionForm::Positional,
-};
-
-const FILES: OptionText = OptionText {
-    help: "Each image: a file, or standard input if it is -. Without IMAGE, standard input is read",
-    form: OptionForm::Positionals,
-    ..FILE
-};
-
-const REQUIRED_FILE: OptionText = OptionText {
-    help: "The image: a file, or standard input if it is -",
-    form: OptionForm::RequiredPositional,
-    ..FILE
-};
-
-const WHERE: OptionText = OptionText {
-    name: "where",
-    value_name: "WHERE",
-    help: "Each value: the PATH of a node and the NAME of a property, as describe prints them, or \
-         of a legacy image one of name, time, load, entry, os, arch, type, compression",
-    form: OptionForm::RequiredPositionals,
-};
-
-const AS: OptionText = OptionText {
-    name: "as",
-    value_name: "FORM",
-    help: "How values are written: text, each text of a value without quotes; number, 0x and \
-         hexadecimal digits; raw, the bytes of one value",
-    form: OptionForm::Optional,
-};
-
-const ONE: OptionText = OptionText {
-    name: "one",
-    value_name: "ONE",
-    help: "The first image: a file, or standard input if it is -",
-    form: OptionForm::RequiredPositional,
-};
-
-const OTHER: OptionText = OptionText {
-    name: "other",
-    value_name: "OTHER",
-    help: "The second image: a file, or standard input if it is -",
-    form: OptionForm::RequiredPositional,
-};
-
-const IGNORE: OptionText = OptionText {
-    name: "ignore",
-    value_name: "WORD[,WORD]..",
-    help: "What is left out of both images: time, signatures, or alone in its option the PATH of a \
-         node or 'PATH NAME' of a property, as describe prints them, or part-N; may be given any \
-         number of times",
-    form: OptionForm::Repeated,
-};
-
-const QUIET: OptionText = OptionText {
-    name: "quiet",
-    value_name: "",
-    help: "Write nothing: the exit status is the result",
-    form: OptionForm::Flag,
-};
-
-const JSON: OptionText = OptionText {
-    name: "json",
-    value_name: "",
-    help: "Write JSON instead of lines",
-    form: OptionForm::Flag,
-};
-
-const LAYOUT: OptionText = OptionText {
-    name: "layout",
-    value_name: "",
-    help: "Also show the regions of the file by their offsets",
-    form: OptionForm::Flag,
-};
-
-const LIMIT: OptionText = OptionText {
-    name: "limit",
-    value_name: "N",
-    help: "Refuse an image of more than N bytes: 64 to 2147483647, or in hexadecimal with 0x",
-    form: OptionForm::Default(GREATEST_LIMIT),
-};
-
-const OUTPUT: OptionText = OptionText {
-    name: "output",
-    value_name: "FILE",
-    help: "Write the output to FILE, which is replaced atomically, instead of standard output",
-    form: OptionForm::Short('o'),
-};
-
-const ALLOW: OptionText = OptionText {
-    name: "allow",
-    value_name: "KIND[,KIND]..",
-    help: "Leave out the lines of these kinds, a comma-separated list",
-    form: OptionForm::Optional,
-};
-
-const SIGNED: OptionText = OptionText {
-    name: "signed",
-    value_name: "",
-    help: "Also find each configuration that has no signature, and that there is none",
-    form: OptionForm::Flag,
-};
-
-const NEW_TIME: OptionText = OptionText {
-    name: "time",
-    value_name: "N",
-    help: "Set the time of creation: seconds since 1970, as a number below 2^32",
-    form: OptionForm::Optional,
-};
-
-const HASHES: OptionText = OptionText {
-    name: "hashes",
-    value_name: "",
-    help: "Compute the digest of each hash node with a known algorithm again",
-    form: OptionForm::Flag,
-};
-
-const EXTERNAL_NORMAL: OptionText = OptionText {
-    name: "external",
-    value_name: "",
-    help: "Write the payloads of a FIT after the tree, not inside it",
-    form: OptionForm::Flag,
-};
-
-const ALIGN: OptionText = OptionText {
-    name: "align",
-    value_name: "N",
-    help: "With --external: place payloads at multiples of N, a power of two from 4 to 1048576",
-    form: OptionForm::Optional,
-};
-
-const EXTERNAL_BUILT: OptionText = OptionText {
-    help: "Write the payloads after the tree, not inside it",
-    ..EXTERNAL_NORMAL
-};
-
-const PART: OptionText = OptionText {
-    name: "part",
-    value_name: "N",
-    help: "Write part N, counted from 0, of a legacy image",
-    form: OptionForm::Optional,
-};
-
-const IMAGE: OptionText = OptionText {
-    name: "image",
-    value_name: "NAME",
-    help: "Write the payload of image NAME of a FIT",
-    form: OptionForm::Optional,
-};
-
-const CONFIG: OptionText = OptionText {
-    name: "config",
-    value_name: "NAME",
-    help: "Write a payload that configuration NAME of a FIT lists",
-    form: OptionForm::Optional,
-};
-
-const DEFAULT: OptionText = OptionText {
-    name: "default",
-    value_name: "",
-    help: "Write a payload that the default configuration of a FIT lists",
-    form: OptionForm::Flag,
-};
-
-const ALL: OptionText = OptionText {
-    name: "all",
-    value_name: "",
-    help: "Write each part or payload to a file of its own in the new directory DIR, with -o DIR",
-    form: OptionForm::Flag,
-};
-
-const ESCAPED: OptionText = OptionText {
-    name: "escaped",
-    value_name: "",
-    help: "NAME is as list prints it: percent-encoded",
-    form: OptionForm::Flag,
-};
-
-const OFFSET: OptionText = OptionText {
-    name: "offset",
-    value_name: "N",
-    help: "Where the image begins in the input: its first N bytes are skipped",
-    form: OptionForm::Default(ZERO),
-};
-
-const KEY: OptionText = OptionText {
-    name: "key",
-    value_name: "KEY",
-    help: "With --config or --default: the list, one of kernel, fdt, ramdisk, firmware, \
-         loadables, script",
-    form: OptionForm::Default(KERNEL_KEY),
-};
-
-const INDEX: OptionText = OptionText {
-    name: "index",
-    value_name: "N",
-    help: "With --config or --default: the entry of the list, counted from 0",
-    form: OptionForm::Default(ZERO),
-};
-
-const CAUSE: OptionText = OptionText {
-    name: "cause",
-    value_name: "NAME",
-    help: "A cause or another message as an error prints it, or a kind of concerns as check prints \
-         it; without NAME each one is explained",
-    form: OptionForm::Positional,
-};
-
-const OS: OptionText = OptionText {
-    name: "os",
-    value_name: "OS",
-    help: "The operating system: a name that mkimage has, or a number of at most 255",
-    form: OptionForm::Required,
-};
-
-const ARCH: OptionText = OptionText {
-    name: "arch",
-    value_name: "ARCH",
-    help: "The processor architecture: a name that mkimage has, or a number of at most 255",
-    form: OptionForm::Required,
-};
-
-const TYPE: OptionText = OptionText {
-    name: "type",
-    value_name: "TYPE",
-    help: "The image type: a name that mkimage has, or a number of at most 255",
-    form: OptionForm::Required,
-};
-
-const COMPRESSION: OptionText = OptionText {
-    name: "compression",
-    value_name: "COMPRESSION",
-    help: "The compression: a name that mkimage has, or a number of at most 255",
-    form: OptionForm::Default(NO_COMPRESSION),
-};
-
-const NAME: OptionText = OptionText {
-    name: "name",
-    value_name: "NAME",
-    help: "The name of the image: at most 32 bytes",
-    form: OptionForm::Optional,
-};
-
-const TIME: OptionText = OptionText {
-    name: "time",
-    value_name: "N",
-    help: "The time of creation: seconds since 1970, as a number below 2^32",
-    form: OptionForm::Default(ZERO),
-};
-
-const LOAD: OptionText = OptionText {
-    name: "load",
-    value_name: "N",
-    help: "The load address: a decimal number, or hexadecimal with 0x",
-    form: OptionForm::Default(ZERO),
-};
-
-const ENTRY: OptionText = OptionText {
-    name: "entry",
-    value_name: "N",
-    help: "The entry point: a decimal number, or hexadecimal with 0x",
-    form: OptionForm::Default(ZERO),
-};
-
-const LENGTHS: OptionText = OptionText {
-    name: "lengths",
-    value_name: "LEN",
-    help: "Each part: its length in bytes, in standard input, or @FILE for the bytes of FILE",
-    form: OptionForm::Positionals,
-};
-
-const CONFIGURATIONS: OptionText = OptionText {
-    name: "config",
-    value_name: "NAME:KEY=IMAGE[,IMAGE]..[:KEY=..]..",
-    help: "A configuration with its lists of images, KEY one of kernel, fdt, ramdisk, firmware, \
-         loadables, script; may be given any number of times",
-    form: OptionForm::Repeated,
-};
-
-const DEFAULT_NAME: OptionText = OptionText {
-    name: "default",
-    value_name: "NAME",
-    help: "The default configuration, one of those of --config; else it is the first",
-    form: OptionForm::Optional,
-};
-
-const COMPATIBLE: OptionText = OptionText {
-    name: "compatible",
-    value_name: "NAME:TEXT",
-    help: "A board that configuration NAME of --config is for, such as acme,one; may be given any \
-         number of times",
-    form: OptionForm::Repeated,
-};
-
-const DESCRIBE_CONFIGURATION: OptionText = OptionText {
-    name: "describe-config",
-    value_name: "NAME:TEXT",
-    help: "The description of configuration NAME of --config, once for each; else that of the tree",
-    form: OptionForm::Repeated,
-};
-
-const DESCRIBE_IMAGE: OptionText = OptionText {
-    name: "describe-image",
-    value_name: "NAME:TEXT",
-    help: "The description of image NAME, once for each; else that of the tree",
-    form: OptionForm::Repeated,
-};
-
-const HASH: OptionText = OptionText {
-    name: "hash",
-    value_name: "ALGO[,ALGO]..",
-    help: "The hash nodes of each image: of crc32, md5, sha1, sha256, sha384, sha512, in this \
-         order, or none; without the option sha256",
-    form: OptionForm::Optional,
-};
-
-const DESCRIPTION: OptionText = OptionText {
-    name: "description",
-    value_name: "TEXT",
-    help: "The description of the tree, and of each image and configuration without its own",
-    form: OptionForm::Optional,
-};
-
-const IMAGES: OptionText = OptionText {
-    name: "images",
-    value_name: "IMAGE",
-    help: "Each image, with the length of its payload or @FILE",
-    form: OptionForm::Positionals,
-};
-
 /// The commands that write what an image is.
 static READING_COMMANDS: [CommandText; 4] = [
     CommandText {
@@ -566,6 +289,7 @@ static READING_COMMANDS: [CommandText; 4] = [
                  more bytes than those of the output, as mkimage -E -B aligns them: --align keeps\n\
                  that. Unless N is 4, the output is not a normal form but means the same thing.\n\n\
                  Example: bootimg normalise kernel.uimage > normal.uimage",
+        writes_image: true,
         options: &[EXTERNAL_NORMAL, ALIGN, OFFSET, LIMIT, OUTPUT, FILE],
     },
     CommandText {
@@ -585,6 +309,7 @@ static READING_COMMANDS: [CommandText; 4] = [
                  --limit also bounds the payloads of a FIT together, and so the paths that its\n\
                  signatures must cover. The exit status is 0 even if a verdict is not good.\n\n\
                  Example: bootimg show --layout kernel.itb",
+        writes_image: false,
         options: &[LAYOUT, JSON, OFFSET, LIMIT, OUTPUT, FILE],
     },
     CommandText {
@@ -599,6 +324,7 @@ static READING_COMMANDS: [CommandText; 4] = [
                  payload, and what each configuration lists, but not where loaders put it:\n\
                  describe does. Sizes and offsets are in bytes.\n\n\
                  Example: bootimg list kernel.uimage",
+        writes_image: false,
         options: &[JSON, OFFSET, LIMIT, OUTPUT, FILES],
     },
     CommandText {
@@ -613,6 +339,7 @@ static READING_COMMANDS: [CommandText; 4] = [
                  payload or part has a line with its size and SHA-256. Neither the payloads\n\
                  together nor the description may be longer than the limit.\n\n\
                  Example: bootimg describe kernel.itb",
+        writes_image: false,
         options: &[JSON, OFFSET, LIMIT, OUTPUT, FILE],
     },
 ];
@@ -638,6 +365,7 @@ static CHECKING_COMMANDS: [CommandText; 4] = [
                  Example: bootimg compare yesterday.itb today.itb\n\
                  Example: bootimg compare --ignore time \
                  --ignore '/images/kernel-1 load' a.itb b.itb",
+        writes_image: false,
         options: &[IGNORE, QUIET, JSON, LIMIT, OUTPUT, ONE, OTHER],
     },
     CommandText {
@@ -652,6 +380,7 @@ static CHECKING_COMMANDS: [CommandText; 4] = [
                  if a FIT has no hash node, so that nothing is checked: bootimg check finds what\n\
                  is not protected.\n\n\
                  Example: bootimg verify kernel.itb",
+        writes_image: false,
         options: &[JSON, OFFSET, LIMIT, OUTPUT, FILES],
     },
     CommandText {
@@ -686,6 +415,7 @@ static CHECKING_COMMANDS: [CommandText; 4] = [
                  The exit status is 0 if nothing was found, and 1 if something was.\n\n\
                  Example: bootimg check --allow weak-hash,trailing kernel.itb\n\
                  Example: bootimg check --signed kernel.itb",
+        writes_image: false,
         options: &[ALLOW, SIGNED, JSON, OFFSET, LIMIT, OUTPUT, FILES],
     },
     CommandText {
@@ -702,6 +432,7 @@ static CHECKING_COMMANDS: [CommandText; 4] = [
                  --limit also bounds the bytes that the headers inside the file name together.\n\n\
                  The exit status is 0 if an image was found, and 1 if none was.\n\n\
                  Example: bootimg scan flash.bin",
+        writes_image: false,
         options: &[JSON, OFFSET, LIMIT, OUTPUT, FILES],
     },
 ];
@@ -722,6 +453,7 @@ static CHANGING_COMMANDS: [CommandText; 4] = [
                  Signature nodes are kept, and not checked: a note on standard error has their\n\
                  number, if there are any.\n\n\
                  Example: bootimg update --hashes --time 1700000000 kernel.itb > new.itb",
+        writes_image: true,
         options: &[
             NEW_TIME,
             HASHES,
@@ -750,6 +482,7 @@ static CHANGING_COMMANDS: [CommandText; 4] = [
                  payload of an image is no property: extract writes it.\n\n\
                  Example: bootimg get kernel.itb /images/kernel-1 load /configurations default\n\
                  Example: bootimg get --as number kernel.uimage load",
+        writes_image: false,
         options: &[AS, OFFSET, LIMIT, OUTPUT, REQUIRED_FILE, WHERE],
     },
     CommandText {
@@ -772,6 +505,7 @@ static CHANGING_COMMANDS: [CommandText; 4] = [
                  Example: bootimg extract --part 1 multi.uimage > ramdisk\n\
                  Example: bootimg extract --default --key fdt kernel.itb > board.dtb\n\
                  Example: bootimg extract --all -o parts kernel.itb",
+        writes_image: true,
         options: &[
             PART, IMAGE, CONFIG, DEFAULT, ALL, KEY, INDEX, ESCAPED, OFFSET, LIMIT, OUTPUT, FILE,
         ],
@@ -787,6 +521,7 @@ static CHANGING_COMMANDS: [CommandText; 4] = [
                  devicetree, in this order. Each payload has its SHA-256, and configuration\n\
                  conf-1 lists the images.\n\n\
                  Example: bootimg convert kernel.uimage > kernel.itb",
+        writes_image: true,
         options: &[OFFSET, LIMIT, OUTPUT, FILE],
     },
 ];
@@ -813,6 +548,7 @@ static BUILDING_COMMANDS: [CommandText; 2] = [
              --entry 0x8000 < zImage > uImage\n\
              Example: bootimg build-legacy --os linux --arch arm --type multi --load 0x8000 \
              --entry 0x8000 @zImage @initrd > uImage",
+        writes_image: true,
         options: &[
             OS,
             ARCH,
@@ -850,6 +586,7 @@ static BUILDING_COMMANDS: [CommandText; 2] = [
              k:kernel:arm64:linux:gzip:0x80000:0x80000:@Image.gz \
              d:flat_dt:arm64:linux:none:-:-:@a.dtb e:flat_dt:arm64:linux:none:-:-:@b.dtb \
              o:flat_dt:arm64:linux:none:-:-:@b.dtbo > boards.itb",
+        writes_image: true,
         options: &[
             CONFIGURATIONS,
             DEFAULT_NAME,
@@ -882,5 +619,6 @@ static EXPLAIN: CommandText = CommandText {
              Example: bootimg explain BadMagic\n\
              Example: bootimg explain 'Truncated at 12'\n\
              Example: bootimg explain uncovered",
+    writes_image: false,
     options: &[OUTPUT, CAUSE],
 };

@@ -98,4 +98,5 @@ returns-clause-order c = record {
   job = c.in_ok-job.ensures.job;
   limits = c.in_ok-limits.ensures.value;
   output = c.get_str.ensures;
+  is_image = c.writes_image.ensures;
 }

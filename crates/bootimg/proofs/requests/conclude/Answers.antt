@@ -1,8 +1,12 @@
-use Rattle.bootimg.specs.Runs.{EndsWell, EndsWithFailure}
+use Rattle.std.proofs.Common.{subst}
+use Rattle.bootimg.specs.Runs.{EndsWell, EndsWithFailure, Reports}
 use Rattle.bootimg.proofs.requests.conclude.Goals as goal
 
 pub returns-in-Ok : goal.returns-in-Ok
 returns-in-Ok g c = EndsWell c.in-Ok.done c.in-Ok.is c.put_notes.ensures c.status.ensures
 
 pub returns-in-Err : goal.returns-in-Err
-returns-in-Err g c = EndsWithFailure c.in-Err.failed c.in-Err.is c.report_failure.ensures.line c.report_failure.ensures.status
+returns-in-Err g c =
+    EndsWithFailure c.in-Err.failed c.in-Err.is
+    (subst (λ hint. Reports c.in-Err.failed.source c.in-Err.failed.failure hint _ _) c.hint_if-hint.ensures c.report_failure.ensures.line)
+    c.report_failure.ensures.status

@@ -1,7 +1,9 @@
 use Rattle.std.proofs.Common.{refl, rules, subst}
 use Rattle.bi_base.specs.Sinks.{Wrote}
 use Rattle.bi_base.specs.Writing.{WroteAll, WriteStopped, WriteOrFlushStopped}
-use Rattle.bootimg.specs.Runs.{IsUsage, IsNotWritten}
+use Rattle.bootimg.specs.declared.command_line.source.ImageSource.TheVariants.{Standard}
+use Rattle.bootimg.specs.declared.failure.Failure.TheVariants.{Call}
+use Rattle.bootimg.specs.Runs.{IsUsage, IsNotWritten, Reports}
 use Rattle.bootimg.proofs.RunFacts.{asked_for, line_is_logged}
 use Rattle.bootimg.proofs.run.print.Goals as goal
 
@@ -21,4 +23,6 @@ returns-in-Err g c kind input steps is_usage =
     IsNotWritten (asked_for kind c.args.is_usage is_usage (search rules)) c.in-Err.error
     (subst (λ bytes. WriteOrFlushStopped (trace c.args.output.now) bytes (trace c.write_and_flush.new.target) c.in-Err.error)
     c.as_bytes-2.ensures.value c.in-Err.ensures)
-    c.report_failure.ensures.line refl refl c.report_failure.ensures.status
+    (subst (λ hint. Reports Standard (Call c.in-Err.error) hint (g.E.TracedWrite.trace c.args.errors.now) _) c.hint_if.ensures
+    c.report_failure.ensures.line)
+    refl refl c.report_failure.ensures.status

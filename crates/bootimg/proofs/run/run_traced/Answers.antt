@@ -5,31 +5,14 @@ use Rattle.bootimg.specs.declared.command_line.Order.TheVariants as order
 use Rattle.bootimg.specs.declared.command_line.NoRequest.TheVariants as outcome
 use Rattle.bootimg.specs.declared.failure.Failure.TheVariants.{Call}
 use Rattle.bootimg.specs.ProgramRuns.{ExtractedAll, RanEach, RanJob, Rejected, WroteText}
-use Rattle.bootimg.proofs.ImageRuns.{to_file, to_standard_output}
-use Rattle.bootimg.proofs.RunFacts.{run_is_rejected}
+use Rattle.bootimg.proofs.RunFacts.{hint_of_failure, run_is_rejected}
 use Rattle.bootimg.proofs.run.run_traced.Goals as goal
-
-pub returns-in-None : goal.returns-in-None
-returns-in-None g c =
-    let is : c.in-Ok-Do.field-0 ≡ order.Do c.in-Ok-Do.request = search rules in
-    RanJob c.in-Ok-Do.request (subst (λ o. IsOrder (texts_of c.args.arguments.now) o) is c.in-Ok-Do.ensures.order)
-    (subst (λ o. HasOrderLengths o) is c.in-Ok-Do.ensures.lengths)
-    (record {
-      outcome = c.do_job-outcome.result;
-      done = to_standard_output _ _ _ _ _ _ c.in-None.is c.do_job-outcome.ensures.work;
-      end = c.conclude.ensures;
-    })
 
 pub returns-in-Ok-Do : goal.returns-in-Ok-Do
 returns-in-Ok-Do g c =
     let is : c.in-Ok-Do.field-0 ≡ order.Do c.in-Ok-Do.request = search rules in
     RanJob c.in-Ok-Do.request (subst (λ o. IsOrder (texts_of c.args.arguments.now) o) is c.in-Ok-Do.ensures.order)
-    (subst (λ o. HasOrderLengths o) is c.in-Ok-Do.ensures.lengths)
-    (record {
-      outcome = c.do_job_to_file-outcome.result;
-      done = to_file _ _ _ _ _ _ c.in-Some.name c.in-Some.is c.do_job_to_file-outcome.ensures refl;
-      end = c.conclude-in-Some.ensures;
-    })
+    (subst (λ o. HasOrderLengths o) is c.in-Ok-Do.ensures.lengths) c.run_request.ensures
 
 pub returns-in-Ok-DoEach : goal.returns-in-Ok-DoEach
 returns-in-Ok-DoEach g c =
@@ -42,17 +25,18 @@ returns-in-Ok-ExtractAll g c =
     let is : c.in-Ok-ExtractAll.field-0 ≡ order.ExtractAll c.in-Ok-ExtractAll.request = search rules in
     ExtractedAll c.in-Ok-ExtractAll.request (subst (λ o. IsOrder (texts_of c.args.arguments.now) o) is c.in-Ok-ExtractAll.ensures.order)
     (record {
-      outcome = c.extract_to_directory.result;
-      done = c.extract_to_directory.ensures;
+      outcome = c.extract_to_directory-outcome.result;
+      done = c.extract_to_directory-outcome.ensures;
       nothing_written = refl;
-      end = c.conclude-in-Ok-ExtractAll.ensures;
+      end = c.conclude.ensures;
     })
 
 pub returns-in-Err-Failure : goal.returns-in-Err-Failure
 returns-in-Err-Failure g c =
     let is : c.in-Err-Failure.field-0 ≡ outcome.Failure c.in-Err-Failure.failure = search rules in
     Rejected c.in-Err-Failure.failure (subst (λ o. IsNoRequest (texts_of c.args.arguments.now) o) is c.in-Err-Failure.ensures.failure)
-    (run_is_rejected _ _ _ refl refl refl c.report_failure.ensures.line c.report_failure.ensures.status)
+    _ c.usage_hint-hint.ensures
+    (run_is_rejected _ _ _ _ refl refl refl c.report_failure.ensures.line c.report_failure.ensures.status)
 
 pub returns-in-Ok : goal.returns-in-Ok
 returns-in-Ok g c =
@@ -62,5 +46,6 @@ returns-in-Ok g c =
 
 pub returns : goal.returns
 returns g c =
-    Rejected _ (NoMemory (ap (λ error. Call error) c.from.ensures))
-    (run_is_rejected _ _ _ refl refl refl c.report_failure-in-Err.ensures.line c.report_failure-in-Err.ensures.status)
+    Rejected _ (NoMemory (ap (λ error. Call error) c.from.ensures)) _
+    (hint_of_failure _ _ _ _ (ap (λ error. Call error) c.from.ensures) c.hint_if.ensures)
+    (run_is_rejected _ _ _ _ refl refl refl c.report_failure-in-Err.ensures.line c.report_failure-in-Err.ensures.status)

@@ -5,7 +5,7 @@ use Rattle.bootimg.proofs.several.do_each.Given as goal
 -- The images so far were done, and the status is the greatest.
 abbrev pub invariant-loop-source : goal.invariant-loop-source
 invariant-loop-source g l =
-    HaveBeenDone (g.F.FileSystem.known l.initial.files) l.request l.is_held (take l.source-index l.sources)
+    HaveBeenDone (g.F.FileSystem.known l.initial.files) l.plan.hints l.plan.request.now l.plan.is_held (take l.source-index l.sources)
     (record {
       input = g.S.TracedRead.trace l.initial.input;
       output = g.T.TracedWrite.trace l.initial.output;

@@ -5,7 +5,7 @@ use Rattle.bootimg.proofs.several.do_each_in_memory.Goals as goal
 pub returns-clause-held : goal.returns-clause-held
 returns-clause-held g c =
     let done = c.do_each-status.ensures.done in
-    let keeps = done_in_turn_keeps _ c.args.request.now _ _ done.outcomes _ _ done.in_turn in
+    let keeps = done_in_turn_keeps _ c.args.hints c.args.request.now _ _ done.outcomes _ _ done.in_turn in
     let writer = sym c.new-memory.ensures.same_writer ∙ sym keeps.writer in
     record {
       memory = _;
