@@ -6,6 +6,8 @@ pub mod ComparedPlans
 pub mod ListedTexts
 pub mod KeyLists
 pub mod ConfigurationFacts
+pub mod EditOptionFacts
+pub mod EditPlans
 pub mod NamedTexts
 pub mod AlgorithmFacts
 pub mod PlanFailures

@@ -34,7 +34,12 @@ use Rattle.bootimg.specs.Tasks.{EndedWith}
 -- How tasks on small files end is known.
 
 ends : (good : Bool) → EndedWith good (without_notes good)
-ends good = record { is_answer = refl; no_signatures = refl; says_nothing = record { alignment = refl; positions = refl } }
+ends good = record {
+  is_answer = refl;
+  no_signatures = refl;
+  says_nothing = record { alignment = refl; positions = refl };
+  none_inside = refl;
+}
 
 -- ---- getting values
 
@@ -92,7 +97,7 @@ task_ends_are_known one_legacy scans pages objects =
     let got = field_values_are_known one_legacy in
     let extracted = (extracts_are_known one_legacy).second_part in
     record {
-      normalise = ((kept_of_normal_forms_is_known one_legacy).external, refl);
+      normalise = ((kept_of_normal_forms_is_known one_legacy).external, (refl, refl));
       layout = (pages.kernel, ends _);
       no_layout = (pages.no_layout, ends _);
       page_in_json = (objects.kernel, ends _);
@@ -113,8 +118,8 @@ task_ends_are_known one_legacy scans pages objects =
         done = λ done other is. updated.text form other is.0.output.is;
         text = λ other is. updated.text form other is;
       };
-      updated = λ form. (updates.legacy form, refl);
-      lost_alignment = (updates.external, refl);
+      updated = λ form. (updates.legacy form, (refl, refl));
+      lost_alignment = (updates.external, (refl, refl));
       get = λ plan form_is names_are. record {
         done = λ done other is. only_got Shown load_and_name _ got.two plan form_is names_are other is.0;
         text = λ other is. only_got Shown load_and_name _ got.two plan form_is names_are other is;

@@ -77,7 +77,7 @@ no_update_task options time flag (task.Verify format) is = other_bytes (codes "u
 no_update_task options time flag (task.Check policy format) is = other_bytes (codes "update") (codes "check") refl is.0
 no_update_task options time flag (task.Scan format) is = other_bytes (codes "update") (codes "scan") refl is.0
 no_update_task options time flag (task.Update changes form) is =
-    is.1.0.some (no_time_given _ time changes.time is.1.0.time, is.1.0.hashes.not_given flag)
+    is.1.1.0.some (no_time_given _ time changes.time is.1.1.0.time, is.1.1.0.hashes.not_given flag)
 no_update_task options time flag (task.Get plan) is = other_bytes (codes "update") (codes "get") refl is.0
 no_update_task options time flag (task.Extract selection) is = other_bytes (codes "update") (codes "extract") refl is.0
 no_update_task options time flag task.Convert is = other_bytes (codes "update") (codes "convert") refl is.0

@@ -66,7 +66,7 @@ use Rattle.bootimg.specs.declared.tasks.Done.{Done}
 
 -- A job ended with this answer, and there is nothing to note.
 abbrev pub without_notes : (good : Bool) → Done
-without_notes good = record { good = good; kept = kept None 0 }
+without_notes good = record { good = good; kept = kept None 0; inside = 0 }
 
 -- These kinds are allowed, and signatures are not asked for.
 abbrev pub policy_of_kinds : Allowed → Policy
@@ -76,7 +76,8 @@ policy_of_kinds allowed = record { allowed = allowed; signed = false }
 -- text that is normalised or updated may lose the alignment of its payloads.
 pub record TaskEndsAreKnown : Type 0 where
   pub normalise : TaskDone (task.Normalise External) widest
-      (record { good = true; kept = kept (Some 4096) 0 }) (three_aligned 4096 4096) three_external
+      (record { good = true; kept = kept (Some 4096) 0; inside = 0 }) (three_aligned 4096 4096)
+      three_external
   pub layout : TaskDone (task.Show (show_form.Page (record { layout = true }))) widest
       (without_notes true) kernel_file_with_rest kernel_page
   pub no_layout : TaskDone (task.Show (show_form.Page (record { layout = false }))) widest
@@ -117,7 +118,8 @@ pub record TaskEndsAreKnown : Type 0 where
       → TaskDone (task.Update (only_time 5) form) widest (without_notes true) multi_file
       (legacy_text (record multi_image { time = 5 }))
   pub lost_alignment : TaskDone (task.Update no_changes External) widest
-      (record { good = true; kept = kept (Some 4096) 0 }) (three_aligned 4096 4096) three_external
+      (record { good = true; kept = kept (Some 4096) 0; inside = 0 }) (three_aligned 4096 4096)
+      three_external
   pub get : (plan : GetPlan) → plan.form ≡ Shown
       → value_name_models plan.names.items ≡ FieldAt field.Load ∷ FieldAt field.Name ∷ []
       → Makes (task.Get plan) kernel_file (codes "0x00008000\nk\n")

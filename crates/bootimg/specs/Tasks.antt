@@ -5,6 +5,7 @@ use Rattle.bi_base.specs.declared.fault.Error.TheVariants.{Refused, OutOfMemory,
 use Rattle.bi_base.specs.declared.fault.Error.TheVariants.{WriteFailed}
 use Rattle.bi_base.specs.Commands.{CommandPromise, PromiseLaws}
 use Rattle.bi_base.specs.Limits.{Limits}
+use Rattle.bi_edit.specs.declared.edit_notes.EditNotes.{EditNotes}
 use Rattle.bi_fit.specs.Kept.{SaysNothing}
 use Rattle.bi_norm.specs.Converting.{IsConvertedFile, IsConvertError}
 use Rattle.bi_norm.specs.NormalForm.{IsNormalForm, IsNormaliseError, IsNormaliseKept}
@@ -54,6 +55,13 @@ pub record EndedWith (good : Bool) (done : Done) : Type 0 where
   pub is_answer : done.good ≡ good
   pub no_signatures : done.kept.signatures ≡ 0
   pub says_nothing : SaysNothing done.kept
+  pub none_inside : done.inside ≡ 0
+
+-- A job ended well, with what a user should know after an edit.
+pub record EndedWithNotes (notes : EditNotes) (done : Done) : Type 0 where
+  pub is_good : done.good ≡ true
+  pub same_kept : done.kept ≡ notes.kept
+  pub same_inside : done.inside ≡ notes.inside
 
 -- An image is shown in this way: as a page, or as JSON.
 abbrev pub IsShownAs : ShowForm → Limits → (input output : List ℕ) → Type 0
@@ -66,7 +74,7 @@ IsShownAs show_form.Json limits input output = IsShownObject limits input output
 -- found an image. The answer of any other task is good.
 abbrev pub TaskDone : Task → Limits → Done → (input output : List ℕ) → Type 0
 TaskDone (Normalise form) limits done input output =
-    IsNormaliseKept limits form done.kept input output × (done.good ≡ true)
+    IsNormaliseKept limits form done.kept input output × (done.good ≡ true) × (done.inside ≡ 0)
 TaskDone (Show how) limits done input output =
     IsShownAs how limits input output × EndedWith true done
 TaskDone (ListImage format) limits done input output =
@@ -82,6 +90,7 @@ TaskDone (Scan format) limits done input output =
     (found : Bool) × IsScanOutput format limits found input output × EndedWith found done
 TaskDone (Update changes form) limits done input output =
     IsUpdateKept changes limits form done.kept input output × (done.good ≡ true)
+    × (done.inside ≡ 0)
 TaskDone (Get plan) limits done input output =
     IsTextOfValues plan.form (value_name_models plan.names.items) limits input output
     × EndedWith true done

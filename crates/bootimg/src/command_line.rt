@@ -3,6 +3,7 @@
 mod allowed;
 mod build;
 mod configurations;
+mod edits;
 mod explain;
 mod extract;
 mod get;
@@ -23,7 +24,8 @@ mod values;
 
 ghost use Rattle.std.specs.Prelude.{◌≡◌, ◌≢◌, false, true, IfOk, IfErr, IsFalse, IsTrue, codes};
 ghost use Rattle.bi_base.specs.declared.fault.Error.TheVariants.{OutOfMemory};
-ghost use Rattle.bootimg.specs.CommandLine.{HasJobLengths, HasOrderDepth, HasOrderLengths};
+ghost use Rattle.bootimg.specs.CommandLine.{AsksForNoEdit, HasJobLengths, HasOrderDepth};
+ghost use Rattle.bootimg.specs.CommandLine.{HasOrderLengths};
 ghost use Rattle.bootimg.specs.CommandLine.{IsFailureOutcome, IsImagesFailure, IsImagesRequest};
 ghost use Rattle.bootimg.specs.CommandLine.{IsJob, IsNoRequest, IsOrder, IsOutcomeOf, IsTask};
 ghost use Rattle.bootimg.specs.CommandLine.{IsTaskFailure, NamesImages, NamesNoMore, SelectsAll};
@@ -45,6 +47,8 @@ use build::{fit_plan, legacy_plan};
 use clap::ArgMatches;
 use clap::error::ErrorKind;
 pub use configurations::ConfigurationWord;
+pub use edits::EditPlan;
+use edits::{asks_for_edits, edit_plan};
 use explain::explained_topic;
 pub use extract::{AllRequest, Selected};
 use extract::{all_request, selection};
@@ -110,6 +114,8 @@ pub enum Job<'a> {
     Run(ImagePlan<'a>),
     /// Compare two images.
     Compare(ComparePlan<'a>),
+    /// Edit an image.
+    Edit(EditPlan<'a>),
     /// Write what this means, or what each cause of a refusal and each kind of concerns means.
     Explain(Option<Topic>),
     /// Build an image.
@@ -268,6 +274,9 @@ fn parse_job<'a>(alloc: Global, name: &str, options: &ArgMatches<'a>) -> Result<
     if name == "compare" {
         return Ok(Job::Compare(compare_plan(alloc, options)?));
     }
+    if asks_for_edits(name, options) {
+        return Ok(Job::Edit(edit_plan(alloc, options)?));
+    }
     if name == "explain" {
         return Ok(Job::Explain(explained_topic(options)?));
     }
@@ -293,7 +302,7 @@ fn parse_job<'a>(alloc: Global, name: &str, options: &ArgMatches<'a>) -> Result<
 
 /// Returns the task of the command of this name with the options. Fails as `parse_arguments` does.
 /// Requires: the name is that of a command other than `compare`, `explain`, `build-legacy` and
-/// `build-fit`, and `extract` does not have `--all`.
+/// `build-fit`, `extract` does not have `--all`, and `update` has no edit.
 fn parse_task<'a>(
     alloc: Global,
     name: &str,
@@ -301,6 +310,7 @@ fn parse_task<'a>(
 ) -> Result<Task<'a>, NoRequest>
     requires command { IsCommandName name.now }
     requires not_all { name.now ≡ codes "extract" → SelectsAll options.now false }
+    requires no_edit { name.now ≡ codes "update" → AsksForNoEdit options.now }
     requires no_comparison { name.now ≢ codes "compare" }
     requires no_explanation { name.now ≢ codes "explain" }
     requires no_build_legacy { name.now ≢ codes "build-legacy" }

@@ -26,7 +26,10 @@ returns-clause-task c =
       | in-scan w ↦ subst is_task (sym w.result-is) (w.in-scan.is, w.format-in-scan.ensures)
       | in-update+in_ok-changes-in-update+in_ok-form-in-update w ↦ subst is_task (sym w.result-is) (
         w.in-update.is,
-        (w.in_ok-changes-in-update.ensures.changes, w.in_ok-form-in-update.ensures.form),
+        (
+          c.requires.no_edit w.in-update.is,
+          (w.in_ok-changes-in-update.ensures.changes, w.in_ok-form-in-update.ensures.form),
+        ),
       )
       | in-get+in_ok-get_plan-in-get w ↦ subst is_task (sym w.result-is) (w.in-get.is, w.in_ok-get_plan-in-get.ensures.plan)
       | in-extract+in_ok-selection-in-extract w ↦ subst is_task (sym w.result-is) (
@@ -43,4 +46,4 @@ returns-in_err-form-in-update-clause-failure c =
     outcome_weaker (IsFormFailure options)
     (IsTaskFailure c.args.name.now options) c.from_residual-in_err-form-in-update.result (Failure c.in_err-form-in-update.field-0.0)
     c.from_residual-in_err-form-in-update.ensures.1 (inl c.in_err-form-in-update.ensures.failure)
-    (λ failure bad. NotFormedChanged named c.in_ok-changes-in-update.field-0 c.in_ok-changes-in-update.ensures.changes bad)
+    (λ failure bad. NotFormedChanged named (c.requires.no_edit named) c.in_ok-changes-in-update.field-0 c.in_ok-changes-in-update.ensures.changes bad)
