@@ -26,7 +26,7 @@ use Rattle.bootimg.proofs.FirstFailureFacts.{change_fails, no_edits}
 use Rattle.bootimg.proofs.RequestFacts.{all_requests_are_known, file_is_named, flag_is}
 use Rattle.bootimg.proofs.RequestFacts.{number_of_argument, option_is, value_is}
 use Rattle.bootimg.proofs.OptionFacts.{found_values}
-use Rattle.bootimg.proofs.TaskNames.{list_task, no_update_task, verify_task}
+use Rattle.bootimg.proofs.TaskNames.{list_task, no_task_updates, verify_task}
 
 -- What whole command lines request, or why they request nothing, is known.
 
@@ -161,23 +161,20 @@ update_rejected line name only none failure (NotAll options is all fails) =
 update_rejected line name only none failure (NoMemory is) = inr is
 
 -- No job is an update without a change.
-no_update_job : (options : ArgMatches) → AsksForNoEdit options → option_of options (codes "time") ≡ None →
-    hashes_flag options ≡ Some (codes "false") → (job : Job) → ¬ (IsJob (codes "update") options job)
-no_update_job options none time flag (Run plan) is = no_update_task options time flag plan.task is.task
-no_update_job options none time flag (Compare plan) is = other_bytes (codes "update") (codes "compare") refl is.0
-no_update_job options none time flag (Edit plan) is = is.1.0 none
-no_update_job options none time flag (Explain cause) is = other_bytes (codes "update") (codes "explain") refl is.0
-no_update_job options none time flag (Build (build.Legacy plan)) is = other_bytes (codes "update") (codes "build-legacy") refl is.0
-no_update_job options none time flag (Build (build.Fit plan)) is = other_bytes (codes "update") (codes "build-fit") refl is.0
+no_update_job : (options : ArgMatches) → AsksForNoEdit options → (job : Job) → ¬ (IsJob (codes "update") options job)
+no_update_job options none (Run plan) is = no_task_updates plan.task is.task.0
+no_update_job options none (Compare plan) is = other_bytes (codes "update") (codes "compare") refl is.0
+no_update_job options none (Edit plan) is = is.1.0 none
+no_update_job options none (Explain cause) is = other_bytes (codes "update") (codes "explain") refl is.0
+no_update_job options none (Build (build.Legacy plan)) is = other_bytes (codes "update") (codes "build-legacy") refl is.0
+no_update_job options none (Build (build.Fit plan)) is = other_bytes (codes "update") (codes "build-fit") refl is.0
 
 -- Each failure of `scan` is that of a bad value.
 scan_failure : (options : ArgMatches) (failure : Failure) → IsTaskFailure (codes "scan") options failure → failure ≡ BadValue
 scan_failure options failure (NotFormed name fails) = fails.0
 scan_failure options failure (NotShown name fails) = fails.0
 scan_failure options failure (NotAllowed name fails) = fails.0
-scan_failure options failure (NotChanged name none fails) = absurd (other_bytes (codes "scan") (codes "update") refl name)
-scan_failure options failure (NotFormedChanged name none changes are fails) = fails.0
-scan_failure options failure (NotEdited name asks fails) = fails.0
+scan_failure options failure (NotEdited name fails) = absurd (other_bytes (codes "scan") (codes "update") refl name)
 scan_failure options failure (NotNamed name fails) = fails.0
 scan_failure options failure (NotSelected name all fails) = absurd (other_bytes (codes "scan") (codes "extract") refl name)
 scan_failure options failure (NotPlaced given is fails) = fails.0
@@ -192,9 +189,7 @@ list_failure : (options : ArgMatches) (failure : Failure) → IsTaskFailure (cod
 list_failure options failure (NotFormed name fails) = fails.0
 list_failure options failure (NotShown name fails) = fails.0
 list_failure options failure (NotAllowed name fails) = fails.0
-list_failure options failure (NotChanged name none fails) = absurd (other_bytes (codes "list") (codes "update") refl name)
-list_failure options failure (NotFormedChanged name none changes are fails) = fails.0
-list_failure options failure (NotEdited name asks fails) = fails.0
+list_failure options failure (NotEdited name fails) = absurd (other_bytes (codes "list") (codes "update") refl name)
 list_failure options failure (NotNamed name fails) = fails.0
 list_failure options failure (NotSelected name all fails) = absurd (other_bytes (codes "list") (codes "extract") refl name)
 list_failure options failure (NotPlaced given is fails) = fails.0
@@ -242,9 +237,7 @@ all_failure : (options : ArgMatches) → all_flag options ≡ Some (codes "true"
 all_failure options flag failure (NotFormed name fails) = fails.0
 all_failure options flag failure (NotShown name fails) = fails.0
 all_failure options flag failure (NotAllowed name fails) = fails.0
-all_failure options flag failure (NotChanged name none fails) = absurd (other_bytes (codes "extract") (codes "update") refl name)
-all_failure options flag failure (NotFormedChanged name none changes are fails) = fails.0
-all_failure options flag failure (NotEdited name asks fails) = fails.0
+all_failure options flag failure (NotEdited name fails) = absurd (other_bytes (codes "extract") (codes "update") refl name)
 all_failure options flag failure (NotNamed name fails) = fails.0
 all_failure options flag failure (NotSelected name all fails) = absurd (true≢false (sym (all.given flag)))
 all_failure options flag failure (NotPlaced given is fails) = fails.0
@@ -278,29 +271,11 @@ pub rejections_are_known : RejectionsAreKnown
 unfolding program_app clap_on_literals
 rejections_are_known = record {
   no_change = update_rejected (codes "update") refl
-      (λ options is.
-      let line = codes "update" in
-      let name = codes "update" in
-      (change_fails options (no_edits line options is refl refl refl refl)
-      (option_is line name options is (codes "time") ∙ refl) (flag_is line name options is (codes "hashes") ∙ refl)
-      (value_is line name options is (codes "offset") (codes "0") ∙ refl)).1)
-      (λ options is.
-      let line = codes "update" in
-      let name = codes "update" in
-      no_update_job options (no_edits line options is refl refl refl refl) (option_is line name options is (codes "time") ∙ refl)
-      (flag_is line name options is (codes "hashes") ∙ refl));
+      (λ options is. (change_fails options (no_edits (codes "update") options is refl refl refl refl refl refl)).1)
+      (λ options is. no_update_job options (no_edits (codes "update") options is refl refl refl refl refl refl));
   change_before_limit = update_rejected (codes "update --limit 1") refl
-      (λ options is.
-      let line = codes "update --limit 1" in
-      let name = codes "update" in
-      (change_fails options (no_edits line options is refl refl refl refl)
-      (option_is line name options is (codes "time") ∙ refl) (flag_is line name options is (codes "hashes") ∙ refl)
-      (value_is line name options is (codes "offset") (codes "0") ∙ refl)).1)
-      (λ options is.
-      let line = codes "update --limit 1" in
-      let name = codes "update" in
-      no_update_job options (no_edits line options is refl refl refl refl) (option_is line name options is (codes "time") ∙ refl)
-      (flag_is line name options is (codes "hashes") ∙ refl));
+      (λ options is. (change_fails options (no_edits (codes "update --limit 1") options is refl refl refl refl refl refl)).1)
+      (λ options is. no_update_job options (no_edits (codes "update --limit 1") options is refl refl refl refl refl refl));
   two_inputs = two_inputs_rejected;
   bad_limit = scan_rejected;
   no_directory = all_rejected;

@@ -367,20 +367,10 @@ IsNewTime None None = ⊤
 IsNewTime (Some argument) (Some time) = IsNumber argument time
 IsNewTime argument time = ⊥
 
--- The options request these changes, of which there is one at least.
-pub record IsChanges (options : ArgMatches) (changes : Changes) : Type 0 where
+-- The options request this time and these digests, or neither.
+pub record AreChanges (options : ArgMatches) (changes : Changes) : Type 0 where
   pub time : IsNewTime (option_of options (codes "time")) changes.time
   pub hashes : ChangesHashes options changes.hashes
-  pub some : ¬ ((changes.time ≡ None) × (changes.hashes ≡ false))
-
--- The failure of options that request no changes: that nothing is to change, or else that the time
--- is not a number.
-abbrev pub IsChangesFailure : ArgMatches → Failure → Type 0
-IsChangesFailure options NoChange =
-    (option_of options (codes "time") ≡ None) × ChangesHashes options false
-IsChangesFailure options BadValue = (argument : List ℕ)
-    × (option_of options (codes "time") ≡ Some argument) × NoneIs (IsNumber argument)
-IsChangesFailure options failure = ⊥
 
 -- The values of `--remove`, of `--set` and of `--payload`.
 abbrev pub removal_arguments : ArgMatches → List (List ℕ)
@@ -400,11 +390,13 @@ keep_form_flag options = one_text (found_of options) (codes "keep-form")
 abbrev pub KeepsForm : ArgMatches → Bool → Type 0
 KeepsForm options keeps = IsFlag (keep_form_flag options) keeps
 
--- None of `--remove`, `--set`, `--payload` and `--keep-form` is given.
+-- None of `--remove`, `--set`, `--payload`, `--time`, `--hashes` and `--keep-form` is given.
 pub record AsksForNoEdit (options : ArgMatches) : Type 0 where
   pub no_removal : removal_arguments options ≡ []
   pub no_setting : set_arguments options ≡ []
   pub no_payload : payload_arguments options ≡ []
+  pub no_time : option_of options (codes "time") ≡ None
+  pub no_hashes : ChangesHashes options false
   pub no_form : KeepsForm options false
 
 -- One of them is.
@@ -423,10 +415,12 @@ pub record IsFormChoice (options : ArgMatches) (chosen : FormChoice) : Type 0 wh
   pub keeps_form : KeepsForm options keeps
   pub is_choice : IsFormChoiceWith keeps options chosen
 
--- The options request this time and these digests, or neither.
-pub record AreChanges (options : ArgMatches) (changes : Changes) : Type 0 where
-  pub time : IsNewTime (option_of options (codes "time")) changes.time
-  pub hashes : ChangesHashes options changes.hashes
+-- The options give no such form: the value of `--align` is not good, or `--keep-form` is given with
+-- another form.
+pub data HasNoFormChoice (options : ArgMatches) : Type 0 where
+  NoForm : HasNoForm options → HasNoFormChoice options
+  TwoForms : KeepsForm options true → (form : Form) → IsForm options form → form ≢ Embedded
+      → HasNoFormChoice options
 
 -- The options of `update` edit an image by this plan.
 pub record IsEditPlan (options : ArgMatches) (plan : EditPlan) : Type 0 where
@@ -439,6 +433,17 @@ pub record IsEditPlan (options : ArgMatches) (plan : EditPlan) : Type 0 where
   pub is_choice : IsFormChoice options plan.choice
   pub offset : IsNumber (given_offset options) plan.offset
   pub source : IsImageSource (option_of options (codes "file")) plan.source
+
+-- One of the options of `update` has a bad value.
+abbrev pub HasBadEdits : ArgMatches → Type 0
+HasBadEdits options = NoneIs (IsEditPlan options) ⊎ HasNoFormChoice options
+
+-- The failure of options of `update` that are no such plan: that nothing is requested, or else that
+-- of a bad value.
+abbrev pub IsEditPlanFailure : ArgMatches → Failure → Type 0
+IsEditPlanFailure options NoChange = AsksForNoEdit options
+IsEditPlanFailure options BadValue = AsksForEdits options × HasBadEdits options
+IsEditPlanFailure options failure = ⊥
 
 -- ---- get
 
@@ -758,7 +763,6 @@ name_of_task (task.Describe format) = codes "describe"
 name_of_task (task.Verify format) = codes "verify"
 name_of_task (task.Check policy format) = codes "check"
 name_of_task (task.Scan format) = codes "scan"
-name_of_task (task.Update changes form) = codes "update"
 name_of_task (task.Get plan) = codes "get"
 name_of_task (task.Extract selection) = codes "extract"
 name_of_task task.Convert = codes "convert"
@@ -773,8 +777,6 @@ AreTaskOptions options (task.Verify format) = IsFormat options format
 AreTaskOptions options (task.Check policy format) =
     IsPolicy options policy × IsFormat options format
 AreTaskOptions options (task.Scan format) = IsFormat options format
-AreTaskOptions options (task.Update changes form) =
-    AsksForNoEdit options × IsChanges options changes × IsForm options form
 AreTaskOptions options (task.Get plan) = IsGetPlan options plan
 AreTaskOptions options (task.Extract selection) =
     SelectsAll options false × IsSelected options selection
@@ -815,12 +817,7 @@ pub data IsTaskFailure (name : List ℕ) (options : ArgMatches) (failure : Failu
       → IsTaskFailure name options failure
   NotAllowed : name ≡ codes "check" → IsBadValue (IsAllowedBy (allow_option options)) failure
       → IsTaskFailure name options failure
-  NotChanged : name ≡ codes "update" → AsksForNoEdit options → IsChangesFailure options failure
-      → IsTaskFailure name options failure
-  NotFormedChanged : name ≡ codes "update" → AsksForNoEdit options → (changes : Changes)
-      → IsChanges options changes → IsFormFailure options failure
-      → IsTaskFailure name options failure
-  NotEdited : name ≡ codes "update" → AsksForEdits options → IsBadValue (IsEditPlan options) failure
+  NotEdited : name ≡ codes "update" → IsEditPlanFailure options failure
       → IsTaskFailure name options failure
   NotNamed : name ≡ codes "get" → IsBadValue (IsGetPlan options) failure
       → IsTaskFailure name options failure

@@ -36,7 +36,9 @@ pub record FieldWordsAreKnown : Type 0 where
 
 -- What is asked for, and the form.
 pub record EditOptionsAreKnown : Type 0 where
-  pub no_edit : HoldsFor (codes "update --time 5 --external") (codes "update") AsksForNoEdit
+  pub no_edit : HoldsFor (codes "update --external") (codes "update") AsksForNoEdit
+  pub time : HoldsFor (codes "update --time 5") (codes "update") AsksForEdits
+  pub hashes : HoldsFor (codes "update --hashes") (codes "update") AsksForEdits
   pub removal : HoldsFor (codes "update --remove /a") (codes "update") AsksForEdits
   pub setting : HoldsFor (codes "update --set /a") (codes "update") AsksForEdits
   pub payload : HoldsFor (codes "update --payload a") (codes "update") AsksForEdits

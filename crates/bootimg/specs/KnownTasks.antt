@@ -9,7 +9,6 @@ use Rattle.bi_base.specs.Writing.{Writes}
 use Rattle.bi_blob.specs.KnownTexts.{smallest_text}
 use Rattle.bi_commands.specs.KnownChoices.{lent}
 use Rattle.bi_commands.specs.KnownParts.{given_parts, mixed_parts}
-use Rattle.bi_commands.specs.KnownUpdates.{no_changes, only_time}
 use Rattle.bi_commands.specs.declared.parts.Part.{Part}
 use Rattle.bi_commands.specs.declared.parts.Part.TheVariants.{Bytes}
 use Rattle.bi_common.specs.KnownWords.{lines}
@@ -111,15 +110,6 @@ pub record TaskEndsAreKnown : Type 0 where
       two_objects
   pub nothing_found : TaskDone (task.Scan Lines) (scan_limits 162) (without_notes false)
       (codes "hello") []
-  pub update : (form : Form)
-      → Makes (task.Update (only_time 5) form) multi_file
-      (legacy_text (record multi_image { time = 5 }))
-  pub updated : (form : Form)
-      → TaskDone (task.Update (only_time 5) form) widest (without_notes true) multi_file
-      (legacy_text (record multi_image { time = 5 }))
-  pub lost_alignment : TaskDone (task.Update no_changes External) widest
-      (record { good = true; kept = kept (Some 4096) 0; inside = 0 }) (three_aligned 4096 4096)
-      three_external
   pub get : (plan : GetPlan) → plan.form ≡ Shown
       → value_name_models plan.names.items ≡ FieldAt field.Load ∷ FieldAt field.Name ∷ []
       → Makes (task.Get plan) kernel_file (codes "0x00008000\nk\n")

@@ -20,7 +20,6 @@ use bi_commands::format::Format;
 use bi_commands::list::Lister;
 use bi_commands::scan::Scanner;
 use bi_commands::show::JsonPresenter;
-use bi_commands::update::update_with_kept;
 use bi_commands::verify::Verifier;
 use bi_edit::EditNotes;
 use bi_norm::{Kept, convert_into, normalise_with_kept};
@@ -153,10 +152,6 @@ impl<'a> Task<'a> {
             Task::Scan(format) => {
                 let found = Scanner { format: *format }.run(alloc, image, limits, sink)?;
                 return Ok(Done::with_answer(found));
-            }
-            Task::Update(changes, form) => {
-                let kept = update_with_kept(alloc, image, *changes, *form, limits, sink)?;
-                return Ok(Done::with_kept(kept));
             }
             Task::Get(plan) => match plan.getter().run(alloc, image, limits, sink) {
                 Ok(()) => return Ok(Done::with_answer(true)),

@@ -1,15 +1,17 @@
 //! The options of `update` that edit an image.
 
 ghost use Rattle.std.specs.Prelude.{◌≡◌, ◌++◌, ◌↔◌, IfOk, IfErr, OnOk, IsTrue, IsFalse, List};
-ghost use Rattle.std.specs.Prelude.{codes, map, option_map};
+ghost use Rattle.std.specs.Prelude.{map, option_map};
 ghost use Rattle.std.specs.List.{AllZip};
 ghost use Rattle.bi_blob.specs.Tree.{AreDistinct};
 ghost use Rattle.bi_edit.specs.declared.edit.Edit.{Edit as EditModel};
 ghost use Rattle.bi_edit.specs.EditWords.{IsRemovalWord};
-ghost use Rattle.bootimg.specs.CommandLine.{AsksForEdits, AsksForNoEdit, IsBadValue, IsEditPlan};
-ghost use Rattle.bootimg.specs.CommandLine.{IsFailureOutcome, IsFormChoice, IsNewTime};
-ghost use Rattle.bootimg.specs.CommandLine.{texts_of};
+ghost use Rattle.bootimg.specs.CommandLine.{AsksForEdits, AsksForNoEdit, HasBadEdits};
+ghost use Rattle.bootimg.specs.CommandLine.{HasNoFormChoice, IsBadValue, IsEditPlan};
+ghost use Rattle.bootimg.specs.CommandLine.{IsEditPlanFailure, IsFailureOutcome, IsFormChoice};
+ghost use Rattle.bootimg.specs.CommandLine.{IsNewTime, texts_of};
 ghost use Rattle.bootimg.specs.EditOptions.{ArePayloadWords, IsNewPayload, changing_edits};
+ghost use Rattle.bootimg.specs.declared.failure.Failure.TheVariants.{BadValue};
 
 mod settings;
 
@@ -24,6 +26,7 @@ use bi_edit::{Edit, FormChoice};
 use bi_norm::Form;
 use clap::ArgMatches;
 use settings::add_settings;
+pub use settings::parse_set_word;
 use std::alloc::{AllocError, Global};
 use std::collections::BTreeSet;
 
@@ -44,34 +47,43 @@ pub struct EditPlan<'a> {
     pub source: ImageSource<'a>,
 }
 
-/// Returns whether the command of this name is `update` with `--remove`, `--set`, `--payload` or
-/// `--keep-form`.
-pub fn asks_for_edits(name: &str, options: &ArgMatches<'_>) -> bool
-    ensures edits { IsTrue result → (name.now ≡ codes "update") × AsksForEdits options.now }
-    ensures no_edit { IsFalse result → name.now ≡ codes "update" → AsksForNoEdit options.now }
+/// Returns what the options of `update` edit. Fails with NoChange if they request nothing, else with
+/// BadValue if one of their values is malformed, if two are of one place, or if `--keep-form` is
+/// given with another form, or with OutOfMemory.
+///
+/// Takes n log n time for n words.
+pub fn edit_plan<'a>(alloc: Global, options: &ArgMatches<'a>) -> Result<EditPlan<'a>, NoRequest>
+    ensures plan { IfOk result (λ plan. AsksForEdits options.now × IsEditPlan options.now plan) }
+    ensures failure { IfErr result (IsFailureOutcome (IsEditPlanFailure options.now)) }
 {
-    name == "update" && some_edit_is_given(options)
+    if asks_for_edits(options) {
+        requested_edits(alloc, options)
+    } else {
+        Err(NoRequest::Failure(Failure::NoChange))
+    }
 }
 
-/// Returns whether `--remove`, `--set`, `--payload` or `--keep-form` is given.
-fn some_edit_is_given(options: &ArgMatches<'_>) -> bool
+/// Returns whether `--remove`, `--set`, `--payload`, `--time`, `--hashes` or `--keep-form` is given.
+fn asks_for_edits(options: &ArgMatches<'_>) -> bool
     ensures edits { IsTrue result → AsksForEdits options.now }
     ensures no_edit { IsFalse result → AsksForNoEdit options.now }
 {
     !all_values(options, "remove").is_empty()
         || !all_values(options, "set").is_empty()
         || !all_values(options, "payload").is_empty()
+        || options.get_str("time").is_some()
+        || flag(options, "hashes")
         || flag(options, "keep-form")
 }
 
-/// Returns what the options of `update` edit. Fails with BadValue if one of their values is
-/// malformed, if two are of one place, or if `--keep-form` is given with another form, or with
-/// OutOfMemory.
-///
-/// Takes n log n time for n words.
-pub fn edit_plan<'a>(alloc: Global, options: &ArgMatches<'a>) -> Result<EditPlan<'a>, NoRequest>
+/// Returns what the options of `update` edit. Fails as `edit_plan` does if they request something.
+fn requested_edits<'a>(
+    alloc: Global,
+    options: &ArgMatches<'a>,
+) -> Result<EditPlan<'a>, NoRequest>
     ensures plan { IfOk result (IsEditPlan options.now) }
-    ensures failure { IfErr result (IsFailureOutcome (IsBadValue (IsEditPlan options.now))) }
+    ensures failure { IfErr result (IsFailureOutcome
+        (λ failure. (failure ≡ BadValue) × HasBadEdits options.now)) }
 {
     let removals = all_values(options, "remove");
     let changes = Changes {
@@ -203,7 +215,7 @@ fn are_of_distinct_images(alloc: Global, payloads: &[PayloadWord<'_>]) -> Result
 /// `--keep-form` is given with another form.
 fn form_choice(options: &ArgMatches<'_>) -> Result<FormChoice, Failure<'static>>
     ensures choice { IfOk result (IsFormChoice options.now) }
-    ensures bad { IfErr result (IsBadValue (IsFormChoice options.now)) }
+    ensures bad { IfErr result (λ failure. (failure ≡ BadValue) × HasNoFormChoice options.now) }
 {
     let given = form(options)?;
     if !flag(options, "keep-form") {

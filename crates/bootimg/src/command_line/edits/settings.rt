@@ -66,7 +66,7 @@ fn add_each_setting<'a>(
 
 /// Parses the word for a new value: of a property if it begins with a slash, and else of a field.
 /// Returns None exactly for any other word. Fails only with OutOfMemory.
-fn parse_set_word<'a>(alloc: Global, word: &str) -> Result<Option<Edit<'a>>, Error>
+pub fn parse_set_word<'a>(alloc: Global, word: &str) -> Result<Option<Edit<'a>>, Error>
     ensures some { IfOk result (λ found. IfSome found (IsSetWord word.now)) }
     ensures none { IfOk result (λ found. IfNone found
         ((edit : EditModel) → IsSetWord word.now edit → ⊥)) }

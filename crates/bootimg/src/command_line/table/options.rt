@@ -130,7 +130,7 @@ pub const REMOVE: OptionText = OptionText {
     help: "Remove the node at a PATH with all below it, or a property: 'PATH NAME', as describe \
          prints them; may be given any number of times",
     form: OptionForm::Repeated,
-    takes: Takes::Anything,
+    takes: Takes::Removal,
 };
 
 pub const SET: OptionText = OptionText {
@@ -141,7 +141,7 @@ pub const SET: OptionText = OptionText {
          legacy image: 'FIELD VALUE', FIELD one of name, time, load, entry, os, arch, compression; \
          may be given any number of times",
     form: OptionForm::Repeated,
-    takes: Takes::Anything,
+    takes: Takes::NewValue,
 };
 
 pub const PAYLOAD: OptionText = OptionText {
@@ -150,7 +150,7 @@ pub const PAYLOAD: OptionText = OptionText {
     help: "Take the payload of an image of a FIT, or of part IMAGE of a legacy image, from the \
          file FILE; may be given any number of times",
     form: OptionForm::Repeated,
-    takes: Takes::Anything,
+    takes: Takes::NewPayload,
 };
 
 pub const KEEP_FORM: OptionText = OptionText {
@@ -422,7 +422,7 @@ pub const IMAGES: OptionText = OptionText {
 
 /// The options and arguments whose words can be judged one by one. Those of the same name take the
 /// same words in each command.
-pub static TAKING_OPTIONS: [OptionText; 18] = [
+pub static TAKING_OPTIONS: [OptionText; 21] = [
     OS,
     ARCH,
     TYPE,
@@ -437,6 +437,9 @@ pub static TAKING_OPTIONS: [OptionText; 18] = [
     PART,
     KEY,
     INDEX,
+    REMOVE,
+    SET,
+    PAYLOAD,
     CAUSE,
     ALIGN,
     OFFSET,
