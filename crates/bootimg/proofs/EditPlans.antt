@@ -1,13 +1,21 @@
-use Rattle.std.proofs.Common.{◌≡◌, ◌<◌, ◌+◌, ◌++◌, ◌∙◌, ℕ, zero, suc, Bor, List, [], ◌∷◌, get_or, length, take, ap, sym, subst, arith}
+use Rattle.std.proofs.Common.{◌≡◌, ◌<◌, ◌+◌, ◌++◌, ◌×◌, ◌∙◌, ℕ, zero, suc, Bor, List, [], ◌∷◌, Option, None, Some, Result, Ok, Err, IfErr, codes, get_or, length, take}
+use Rattle.std.proofs.Common.{ap, inl, inr, subst, sym, arith}
 use Rattle.std.proofs.lemmas.List.{append_assoc}
 use Rattle.std.specs.List.{AllZip}
+use Rattle.std.specs.Result.{IsErrAnd}
+use Rattle.bi_base.specs.declared.fault.Error.{Error}
+use Rattle.bi_base.specs.declared.fault.Error.TheVariants.{OutOfMemory}
 use Rattle.bi_edit.specs.declared.edit.Edit.{Edit}
-use Rattle.bi_fit.specs.declared.form.Form.{Form}
-use Rattle.bi_edit.specs.declared.form_choice.FormChoice.{FormChoice}
-use Rattle.bi_edit.specs.declared.form_choice.FormChoice.TheVariants as choice
+use Rattle.bi_edit.specs.EditWords.{IsRemovalWord}
 use Rattle.clap.specs.declared.parser.matches.ArgMatches.{ArgMatches}
-use Rattle.bootimg.specs.CommandLine.{HasNoForm, IsEditPlan, IsForm, IsFormChoice, NoneIs, texts_of}
-use Rattle.bootimg.specs.declared.command_line.edits.EditPlan.{EditPlan}
+use Rattle.bootimg.specs.CommandLine.{HasBadEdits, HasNoFormChoice, IsBadValue, IsFailureOutcome, IsNewTime, NoneIs, given_offset, option_of}
+use Rattle.bootimg.specs.CommandLine.{payload_arguments, removal_arguments, set_arguments, texts_of}
+use Rattle.bootimg.specs.EditOptions.{ArePayloadWords, AreSetWords}
+use Rattle.bootimg.specs.Numbers.{IsNumber}
+use Rattle.bootimg.specs.declared.command_line.NoRequest.{NoRequest}
+use Rattle.bootimg.specs.declared.command_line.NoRequest.TheVariants as outcome
+use Rattle.bootimg.specs.declared.failure.Failure.{Failure}
+use Rattle.bootimg.specs.declared.failure.Failure.TheVariants.{BadValue, Call}
 use Rattle.bootimg.proofs.CommandLines.{texts_push, zip_push}
 
 -- Words are parsed one by one, and a word that is for nothing is a bad value.
@@ -28,3 +36,46 @@ module _ {T : Type 0} (Is : List ℕ → T → Type 0) where
   no_words (word ∷ words) zero d within none (value ∷ values) are = none value are.0
   no_words (word ∷ words) (suc index) d within none (value ∷ values) are =
       no_words words index d (omega (arith, within)) none values are.1
+
+-- A call fails only if memory runs out.
+pub out_of_memory : {T : Type 0} (Is : Failure → Type 0) (result : Result T NoRequest) (error : Error) →
+    IsErrAnd result (λ given. given ≡ outcome.Failure (Call error)) → error ≡ OutOfMemory → IfErr result (IsFailureOutcome Is)
+out_of_memory Is (Ok value) error is memory = tt
+out_of_memory Is (Err given) error is memory = subst (λ o. IsFailureOutcome Is o) (sym is) (inr (ap Call memory))
+
+-- A word that is no number is no new time.
+pub no_new_time : (text : Option (List ℕ)) (argument : List ℕ) → text ≡ Some argument → NoneIs (IsNumber argument) → NoneIs (IsNewTime text)
+no_new_time text argument is none = λ time given. by time (subst (λ t. IsNewTime t time) is given) where
+  by : (time : Option ℕ) → IsNewTime (Some argument) time → ⊥
+  by None given = given
+  by (Some number) given = none number given
+
+-- ---- plans
+
+-- The edits of a plan, in their order.
+pub edits_in_order : (none one two all removed set changing : List Edit) → none ≡ [] → one ≡ none ++ removed → two ≡ one ++ set →
+    all ≡ two ++ changing → all ≡ removed ++ (set ++ changing)
+edits_in_order none one two all removed set changing e0 e1 e2 e3 = rw (e3, e2, e1, e0) (append_assoc removed set changing)
+
+-- A bad value of one option is a bad value of `update`.
+module _ (options : ArgMatches) (failure : Failure) where
+  pub bad_new_time : IsBadValue (IsNewTime (option_of options (codes "time"))) failure → (failure ≡ BadValue) × HasBadEdits options
+  bad_new_time bad = (bad.0, inl (λ plan is. bad.1 is.changes.time is.are_changes.time))
+
+  pub bad_removals : (words : List (List ℕ)) → words ≡ removal_arguments options → IsBadValue (AllZip IsRemovalWord words) failure →
+      (failure ≡ BadValue) × HasBadEdits options
+  bad_removals words same bad =
+      (bad.0, inl (λ plan is. bad.1 is.edits.removed (subst (λ w. AllZip IsRemovalWord w is.edits.removed) (sym same) is.edits.are_removals)))
+
+  pub bad_settings : (words : List (List ℕ)) → words ≡ set_arguments options → IsBadValue (AreSetWords words) failure →
+      (failure ≡ BadValue) × HasBadEdits options
+  bad_settings words same bad =
+      (bad.0, inl (λ plan is. bad.1 is.edits.set (subst (λ w. AreSetWords w is.edits.set) (sym same) is.edits.are_settings)))
+
+  pub bad_payloads : (words : List (List ℕ)) → words ≡ payload_arguments options → IsBadValue (ArePayloadWords words) failure →
+      (failure ≡ BadValue) × HasBadEdits options
+  bad_payloads words same bad =
+      (bad.0, inl (λ plan is. bad.1 plan.payloads.items (subst (λ w. ArePayloadWords w plan.payloads.items) (sym same) is.payloads)))
+
+  pub bad_offset : IsBadValue (IsNumber (given_offset options)) failure → (failure ≡ BadValue) × HasBadEdits options
+  bad_offset bad = (bad.0, inl (λ plan is. bad.1 plan.offset is.offset))

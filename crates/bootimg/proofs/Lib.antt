@@ -7,7 +7,9 @@ pub mod ListedTexts
 pub mod KeyLists
 pub mod ConfigurationFacts
 pub mod EditOptionFacts
+pub mod DistinctPlaces
 pub mod EditPlans
+pub mod EditRuns
 pub mod NamedTexts
 pub mod AlgorithmFacts
 pub mod PlanFailures

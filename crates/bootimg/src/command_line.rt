@@ -161,6 +161,14 @@ impl From<clap::Error> for NoRequest {
     }
 }
 
+impl From<Error> for NoRequest {
+    ghost from_gives = { λ error result. result ≡ outcome.Failure (Call error) };
+
+    fn from(error: Error) -> NoRequest {
+        NoRequest::Failure(Failure::Call(error))
+    }
+}
+
 impl From<AllocError> for NoRequest {
     ghost from_gives = { λ _ result. result ≡ outcome.Failure (Call OutOfMemory) };
 

@@ -1,8 +1,12 @@
 //! Editing the image that the arguments name.
 
-ghost use Rattle.std.specs.Prelude.{◌≡◌, ◌++◌, IfOk, IfErr, List, length};
+ghost use Rattle.std.specs.Prelude.{◌≡◌, ◌≤◌, ◌++◌, ℕ, IfOk, IfErr, List, length};
+ghost use Rattle.bi_base.specs.Commands.{CommandFailed};
 ghost use Rattle.bi_base.specs.Traces.{ReadTrace};
+ghost use Rattle.bi_base.specs.Writing.{WroteAndFlushed, WriteOrFlushStopped};
 ghost use Rattle.bi_edit.specs.declared.edit.Edit.{Edit as EditModel};
+ghost use Rattle.bi_edit.specs.declared.edit_error.EditError.TheVariants.{Failed};
+ghost use Rattle.bi_edit.specs.EditedFiles.{IsEdited, IsEditFileError, IsEditOutput};
 ghost use Rattle.bootimg.specs.EditedImages.{ArePayloadEdits, IsFailureOfEditing};
 ghost use Rattle.bootimg.specs.EditedImages.{IsWithoutImage, contents_of};
 ghost use Rattle.bootimg.specs.Runs.{ArePayloadsRead, IsEditedWork, IsEditWork};
@@ -80,6 +84,8 @@ fn read_payloads<'a, F: FileSystem>(
 }
 
 /// Edits an image with payloads of these contents, writes the text, and returns how that ended.
+/// Requires: the image is not longer than the limit on files, and there are as many contents as
+/// payloads.
 fn edit_with<'a, T: TracedWrite>(
     alloc: Global,
     plan: EditPlan<'a>,
@@ -88,6 +94,8 @@ fn edit_with<'a, T: TracedWrite>(
     limits: Limits,
     output: &mut T,
 ) -> Result<Done, SourceFailure<'a>>
+    requires short { length image.now ≤ limits.file }
+    requires one_each { length contents.now ≡ length plan.entry.payloads.items }
     ensures { (old new : ReadTrace) → IsEditedWork plan.entry limits image.now
         (contents_of contents.now) (record {
           input = old;
@@ -106,20 +114,39 @@ fn edit_with<'a, T: TracedWrite>(
         source,
     } = plan;
     let edits = with_payloads(alloc, edits, payloads, contents)?;
-    let file = image_at(image, offset as usize);
     let editor = Editor {
         edits: &edits,
         choice,
     };
-    let mut sink = BufferedSink::new(output);
-    let notes = match editor.run(alloc, file, limits, &mut sink) {
-        Ok(notes) => notes,
-        Err(error) => return job_failed(source, failure_of(&removal_words, file, error)),
-    };
-    match sink.finish() {
-        Ok(()) => Ok(Done::with_notes(notes)),
-        Err(error) => job_failed(source, Failure::Call(error)),
+    let file = image_at(image, offset as usize);
+    match run_editor(alloc, editor, file, limits, output) {
+        Ok(notes) => Ok(Done::with_notes(notes)),
+        Err(error) => job_failed(source, failure_of(&removal_words, file, error)),
     }
+}
+
+/// Runs an editor on a file, writes the text and flushes. Requires: the file is not longer than the
+/// limit on files.
+fn run_editor<T: TracedWrite>(
+    alloc: Global,
+    editor: Editor<'_>,
+    file: &[u8],
+    limits: Limits,
+    output: &mut T,
+) -> Result<EditNotes, EditError>
+    requires short { length file.now ≤ limits.file }
+    ensures written { IfOk result (λ notes. (text : List ℕ)
+        × IsEditOutput editor.edits.now editor.choice limits notes file.now text
+        × WroteAndFlushed (T.trace output.old) text (T.trace output.new)) }
+    ensures failed { IfErr result (CommandFailed WriteOrFlushStopped (λ cause. Failed cause)
+        (IsEdited editor.edits.now editor.choice limits file.now)
+        (IsEditFileError editor.edits.now editor.choice limits file.now)
+        (T.trace output.old) (T.trace output.new)) }
+{
+    let mut sink = BufferedSink::new(output);
+    let notes = editor.run(alloc, file, limits, &mut sink)?;
+    sink.finish()?;
+    Ok(notes)
 }
 
 /// Returns these edits, and after them those that give the images of these words the contents of

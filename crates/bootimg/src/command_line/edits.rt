@@ -139,11 +139,9 @@ fn add_removals<'a>(
         (IsBadValue (AllZip IsRemovalWord (texts_of words.now)))) }
 {
     for word in words {
-        match parse_removal(alloc, word.as_bytes()) {
-            Ok(Some(edit)) => edits.push(edit)?,
-            Ok(None) => return Err(NoRequest::Failure(Failure::BadValue)),
-            Err(error) => return Err(NoRequest::Failure(Failure::Call(error))),
-        }
+        let found = parse_removal(alloc, word.as_bytes())?;
+        let edit = found.ok_or(Failure::BadValue)?;
+        edits.push(edit)?;
     }
     Ok(())
 }
@@ -188,11 +186,9 @@ fn parse_each_payload<'a>(
 {
     let mut payloads = Vec::with_capacity(alloc, words.len())?;
     for word in words {
-        match parse_payload(alloc, word) {
-            Ok(Some(payload)) => payloads.push(payload)?,
-            Ok(None) => return Err(NoRequest::Failure(Failure::BadValue)),
-            Err(error) => return Err(NoRequest::Failure(Failure::Call(error))),
-        }
+        let found = parse_payload(alloc, word)?;
+        let payload = found.ok_or(Failure::BadValue)?;
+        payloads.push(payload)?;
     }
     Ok(payloads)
 }

@@ -55,11 +55,9 @@ fn add_each_setting<'a>(
         (IsBadValue (AllZip IsSetWord (texts_of words.now)))) }
 {
     for word in words {
-        match parse_set_word(alloc, word) {
-            Ok(Some(edit)) => edits.push(edit)?,
-            Ok(None) => return Err(NoRequest::Failure(Failure::BadValue)),
-            Err(error) => return Err(NoRequest::Failure(Failure::Call(error))),
-        }
+        let found = parse_set_word(alloc, word)?;
+        let edit = found.ok_or(Failure::BadValue)?;
+        edits.push(edit)?;
     }
     Ok(())
 }

@@ -1,0 +1,15 @@
+use Rattle.std.proofs.Common.{inl, refl, sym, ◌∙◌, subst, true≢false, map}
+use Rattle.std.specs.List.{AllZip}
+use Rattle.bi_blob.specs.Tree.{AreDistinct}
+use Rattle.bi_edit.specs.declared.words.PayloadWord.{PayloadWord}
+use Rattle.bootimg.specs.CommandLine.{IsBadValue, texts_of}
+use Rattle.bootimg.specs.EditOptions.{ArePayloadWords, IsNewPayload}
+use Rattle.bootimg.proofs.CommandLines.{outcome_weaker}
+use Rattle.bootimg.proofs.command_line.edits.parse_payloads.Goals as goal
+
+pub returns-in_err-payloads-clause-failure : goal.returns-in_err-payloads-clause-failure
+returns-in_err-payloads-clause-failure c =
+    let words = texts_of c.args.words.now in
+    outcome_weaker (IsBadValue (AllZip IsNewPayload words)) (IsBadValue (ArePayloadWords words)) c.from_residual.result
+    c.in_err-payloads.field-0.0 c.from_residual.ensures.1 c.in_err-payloads.ensures.failure
+    (λ failure bad. (bad.0, λ payloads are. bad.1 payloads are.each))
