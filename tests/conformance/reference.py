@@ -840,31 +840,11 @@ def notes_on_places(image, text, is_aligned=False):
         yield f"{positions} fixed positions of payloads were not kept"
 
 
-def update(file, options):
-    image, time = read(file, options["limit"]), options.get("time")
-    if isinstance(image, Legacy):
-        time = image.time if time is None else time
-        return legacy_text(time, image.load, image.entry, image.codes, image.name, image.payloads(), options["limit"])
-    if options["hashes"]:
-        image.check_payloads(options["limit"])
-        for node, payload, _, _ in image.images:
-            for child, name, _, _ in image.verdicts(node, payload):
-                if payload is not None and name in DIGESTS:
-                    child.properties[b"value"] = DIGESTS[name](payload)
-    if time is not None:
-        image.blob.root.properties[b"timestamp"] = cell(time)
-    return normal_fit(image, options)
-
-
 # Edits.
 
 
 EDITS = ("remove", "set", "payload", "keep-form")
 WRONG_KIND = "the selection does not fit this kind of image"
-
-
-def update_or_edit(files, options):
-    return edit(files, options) if any(options[option] for option in EDITS) else of_image(update)(files, options)
 
 
 def edit(files, options):
@@ -1814,7 +1794,7 @@ COMMANDS = {
     "check": (of_image(check), {"allow": (kinds, ()), "signed": FLAG, "json": FLAG, **OFFSET}),
     "show": (of_image(show), {"layout": FLAG, "json": FLAG, **OFFSET}),
     "scan": (of_image(scan), {"json": FLAG, **OFFSET}),
-    "update": (update_or_edit, {
+    "update": (edit, {
         "remove": (lambda texts: [removal_of(text) for text in texts], []),
         "set": (lambda texts: each_once([setting_of(text) for text in texts]), []),
         "payload": (lambda texts: each_once([payload_of(text) for text in texts]), []),
