@@ -1,4 +1,4 @@
-use Rattle.std.proofs.Common.{◌≡◌, ◌<◌, ◌+◌, ◌++◌, ◌×◌, ◌∙◌, ℕ, zero, suc, Bor, List, [], ◌∷◌, Option, None, Some, Result, Ok, Err, IfErr, codes, get_or, length, take}
+use Rattle.std.proofs.Common.{◌≡◌, ◌<◌, ◌+◌, ◌++◌, ◌×◌, ◌∙◌, ℕ, zero, suc, Bor, List, [], ◌∷◌, Option, None, Some, Result, Ok, Err, IfErr, IfOk, codes, get_or, length, take}
 use Rattle.std.proofs.Common.{ap, inl, inr, subst, sym, arith}
 use Rattle.std.proofs.lemmas.List.{append_assoc}
 use Rattle.std.specs.List.{AllZip}
@@ -8,11 +8,13 @@ use Rattle.bi_base.specs.declared.fault.Error.TheVariants.{OutOfMemory}
 use Rattle.bi_edit.specs.declared.edit.Edit.{Edit}
 use Rattle.bi_edit.specs.EditWords.{IsRemovalWord}
 use Rattle.clap.specs.declared.parser.matches.ArgMatches.{ArgMatches}
-use Rattle.bootimg.specs.CommandLine.{HasBadEdits, HasNoFormChoice, IsBadValue, IsFailureOutcome, IsNewTime, NoneIs, given_offset, option_of}
+use Rattle.bootimg.specs.CommandLine.{AsksForEdits, HasBadEdits, IsBadValue, IsEditPlan, IsEditPlanFailure, IsFailureOutcome, IsNewTime, NoneIs}
+use Rattle.bootimg.specs.CommandLine.{given_offset, option_of}
 use Rattle.bootimg.specs.CommandLine.{payload_arguments, removal_arguments, set_arguments, texts_of}
 use Rattle.bootimg.specs.EditOptions.{ArePayloadWords, AreSetWords}
 use Rattle.bootimg.specs.Numbers.{IsNumber}
 use Rattle.bootimg.specs.declared.command_line.NoRequest.{NoRequest}
+use Rattle.bootimg.specs.declared.command_line.edits.EditPlan.{EditPlan}
 use Rattle.bootimg.specs.declared.command_line.NoRequest.TheVariants as outcome
 use Rattle.bootimg.specs.declared.failure.Failure.{Failure}
 use Rattle.bootimg.specs.declared.failure.Failure.TheVariants.{BadValue, Call}
@@ -79,3 +81,17 @@ module _ (options : ArgMatches) (failure : Failure) where
 
   pub bad_offset : IsBadValue (IsNumber (given_offset options)) failure → (failure ≡ BadValue) × HasBadEdits options
   bad_offset bad = (bad.0, inl (λ plan is. bad.1 plan.offset is.offset))
+
+-- What is requested is a plan, or a bad value.
+pub asked_plan : (options : ArgMatches) (result : Result EditPlan NoRequest) → AsksForEdits options → IfOk result (IsEditPlan options) →
+    IfOk result (λ plan. AsksForEdits options × IsEditPlan options plan)
+asked_plan options (Ok plan) asks is = (asks, is)
+asked_plan options (Err failed) asks is = tt
+
+pub asked_failure : (options : ArgMatches) (result : Result EditPlan NoRequest) → AsksForEdits options →
+    IfErr result (IsFailureOutcome (λ failure. (failure ≡ BadValue) × HasBadEdits options)) →
+    IfErr result (IsFailureOutcome (IsEditPlanFailure options))
+asked_failure options (Ok plan) asks is = tt
+asked_failure options (Err (outcome.Text text)) asks is = absurd is
+asked_failure options (Err (outcome.Failure failure)) asks (inl bad) = inl (subst (IsEditPlanFailure options) (sym bad.0) (asks, bad.1))
+asked_failure options (Err (outcome.Failure failure)) asks (inr memory) = inr memory

@@ -77,10 +77,7 @@ fn asks_for_edits(options: &ArgMatches<'_>) -> bool
 }
 
 /// Returns what the options of `update` edit. Fails as `edit_plan` does if they request something.
-fn requested_edits<'a>(
-    alloc: Global,
-    options: &ArgMatches<'a>,
-) -> Result<EditPlan<'a>, NoRequest>
+fn requested_edits<'a>(alloc: Global, options: &ArgMatches<'a>) -> Result<EditPlan<'a>, NoRequest>
     ensures plan { IfOk result (IsEditPlan options.now) }
     ensures failure { IfErr result (IsFailureOutcome
         (λ failure. (failure ≡ BadValue) × HasBadEdits options.now)) }

@@ -1,4 +1,4 @@
-use Rattle.std.proofs.Common.{◌≡◌, ◌∙◌, codes, refl, subst, sym}
+use Rattle.std.proofs.Common.{◌≡◌, ◌∙◌, inr, subst}
 use Rattle.std.specs.List.{AllZip}
 use Rattle.bi_edit.specs.EditWords.{IsRemovalWord}
 use Rattle.clap.specs.declared.parser.matches.ArgMatches.{ArgMatches}
@@ -49,6 +49,12 @@ returns-in_err-number-clause-failure c =
     let options = c.args.options.now in
     fails_with (IsBad options) c.from_residual-in_err-number.result c.in_err-number.field-0.0 c.from_residual-in_err-number.ensures.1
     (bad_offset options c.in_err-number.field-0.0 c.in_err-number.ensures.bad)
+
+pub returns-in_err-form_choice-clause-failure : goal.returns-in_err-form_choice-clause-failure
+returns-in_err-form_choice-clause-failure c =
+    let bad = c.in_err-form_choice.ensures.bad in
+    fails_with (IsBad c.args.options.now) c.from_residual-in_err-form_choice.result c.in_err-form_choice.field-0.0
+    c.from_residual-in_err-form_choice.ensures.1 (bad.0, inr bad.1)
 
 pub returns-clause-plan : goal.returns-clause-plan
 returns-clause-plan c =
