@@ -9,7 +9,9 @@ pub mod ConfigurationFacts
 pub mod EditOptionFacts
 pub mod DistinctPlaces
 pub mod EditPlans
+pub mod PayloadPlans
 pub mod EditRuns
+pub mod SetWords
 pub mod NamedTexts
 pub mod AlgorithmFacts
 pub mod PlanFailures

@@ -68,12 +68,22 @@ fn asks_for_edits(options: &ArgMatches<'_>) -> bool
     ensures edits { IsTrue result → AsksForEdits options.now }
     ensures no_edit { IsFalse result → AsksForNoEdit options.now }
 {
-    !all_values(options, "remove").is_empty()
-        || !all_values(options, "set").is_empty()
-        || !all_values(options, "payload").is_empty()
-        || options.get_str("time").is_some()
-        || flag(options, "hashes")
-        || flag(options, "keep-form")
+    if !all_values(options, "remove").is_empty() {
+        return true;
+    }
+    if !all_values(options, "set").is_empty() {
+        return true;
+    }
+    if !all_values(options, "payload").is_empty() {
+        return true;
+    }
+    if options.get_str("time").is_some() {
+        return true;
+    }
+    if flag(options, "hashes") {
+        return true;
+    }
+    flag(options, "keep-form")
 }
 
 /// Returns what the options of `update` edit. Fails as `edit_plan` does if they request something.
@@ -136,8 +146,9 @@ fn add_removals<'a>(
         (IsBadValue (AllZip IsRemovalWord (texts_of words.now)))) }
 {
     for word in words {
-        let found = parse_removal(alloc, word.as_bytes())?;
-        let edit = found.ok_or(Failure::BadValue)?;
+        let Some(edit) = parse_removal(alloc, word.as_bytes())? else {
+            return Err(NoRequest::Failure(Failure::BadValue));
+        };
         edits.push(edit)?;
     }
     Ok(())

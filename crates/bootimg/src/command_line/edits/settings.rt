@@ -1,14 +1,15 @@
 //! The option `--set` of `update`.
 
-ghost use Rattle.std.specs.Prelude.{◌≡◌, ◌++◌, ◌↔◌, IfOk, IfErr, IfSome, IfNone, OnOk, IsTrue, List};
-ghost use Rattle.std.specs.Prelude.{map};
+ghost use Rattle.std.specs.Prelude.{◌≡◌, ◌≢◌, ◌++◌, ◌↔◌, IfOk, IfErr, IfSome, IfNone, OnOk, IsTrue};
+ghost use Rattle.std.specs.Prelude.{List, codes, map};
 ghost use Rattle.std.specs.List.{AllZip};
 ghost use Rattle.bi_blob.specs.Tree.{AreDistinct};
 ghost use Rattle.bi_base.specs.declared.fault.Error.TheVariants.{OutOfMemory};
 ghost use Rattle.bi_edit.specs.declared.edit.Edit.{Edit as EditModel};
 ghost use Rattle.bi_edit.specs.declared.edit.FieldValue.{FieldValue as FieldModel};
 ghost use Rattle.bootimg.specs.CommandLine.{IsBadValue, IsFailureOutcome, texts_of};
-ghost use Rattle.bootimg.specs.EditOptions.{AreSetWords, IsFieldWord, IsSetWord, set_place};
+ghost use Rattle.bootimg.specs.EditOptions.{AreSetWords, IsFieldText, IsFieldWord, IsSetWord};
+ghost use Rattle.bootimg.specs.EditOptions.{field_to_set, set_place};
 
 use crate::codes::{CodeField, parse_code};
 use crate::command_line::NoRequest;
@@ -55,8 +56,9 @@ fn add_each_setting<'a>(
         (IsBadValue (AllZip IsSetWord (texts_of words.now)))) }
 {
     for word in words {
-        let found = parse_set_word(alloc, word)?;
-        let edit = found.ok_or(Failure::BadValue)?;
+        let Some(edit) = parse_set_word(alloc, word)? else {
+            return Err(NoRequest::Failure(Failure::BadValue));
+        };
         edits.push(edit)?;
     }
     Ok(())
@@ -93,16 +95,36 @@ fn parse_field(alloc: Global, word: &str) -> Result<Option<FieldValue>, Error>
     let Some((field, text)) = word.split_once(' ') else {
         return Ok(None);
     };
-    Ok(match field {
-        "name" => name_shown_as(alloc, text.as_bytes())?.map(FieldValue::Name),
-        "time" => parse_number(text).map(FieldValue::Time),
-        "load" => parse_number(text).map(FieldValue::Load),
-        "entry" => parse_number(text).map(FieldValue::Entry),
-        "os" => parse_code(CodeField::Os, text).map(FieldValue::Os),
-        "arch" => parse_code(CodeField::Arch, text).map(FieldValue::Arch),
-        "compression" => parse_code(CodeField::Compression, text).map(FieldValue::Compression),
+    if field != "name" {
+        return Ok(parse_other_field(field, text));
+    }
+    match name_shown_as(alloc, text.as_bytes())? {
+        Some(name) => Ok(Some(FieldValue::Name(name))),
+        None => Ok(None),
+    }
+}
+
+/// Parses the text for a value of this field, which is not the name. Returns None exactly for any
+/// other field and any other text.
+fn parse_other_field(field: &str, text: &str) -> Option<FieldValue>
+    requires { field.now ≢ codes "name" }
+    ensures some { IfSome result (λ value. (field.now ≡ field_to_set value)
+        × IsFieldText text.now value) }
+    ensures none { IfNone result ((value : FieldModel) → field.now ≡ field_to_set value
+        → IsFieldText text.now value → ⊥) }
+{
+    match field {
+        "time" => Some(FieldValue::Time(parse_number(text)?)),
+        "load" => Some(FieldValue::Load(parse_number(text)?)),
+        "entry" => Some(FieldValue::Entry(parse_number(text)?)),
+        "os" => Some(FieldValue::Os(parse_code(CodeField::Os, text)?)),
+        "arch" => Some(FieldValue::Arch(parse_code(CodeField::Arch, text)?)),
+        "compression" => Some(FieldValue::Compression(parse_code(
+            CodeField::Compression,
+            text,
+        )?)),
         _ => None,
-    })
+    }
 }
 
 /// Returns whether no two words for new values are of one place. Fails if memory runs out.

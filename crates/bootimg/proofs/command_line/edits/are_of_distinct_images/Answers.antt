@@ -1,5 +1,6 @@
 use Rattle.std.proofs.Common.{List, ℕ, [], ◌∷◌, ◌++◌, map, take, ap, get_or, subst, sym, ◌∙◌, refl, true≢false}
 use Rattle.std.proofs.lemmas.Bool.{not-true, not-false}
+use Rattle.std.proofs.lemmas.List.{get_or_read}
 use Rattle.bi_blob.specs.NameSets.{HoldsNames}
 use Rattle.bi_blob.specs.Tree.{AreDistinct, IsNew}
 use Rattle.bi_blob.proofs.Blobs.OpenNodes.{AreDistinct-push}
@@ -20,10 +21,12 @@ returns-then-not-branch c =
     let payloads = c.args.payloads.now in
     let index = c.loop-payload.payload-index in
     let names = map image_of (take index payloads) in
+    let item = get_or_read payloads index c.payload-item.result c.loop-payload-test.true c.payload-item.ensures no_payload in
+    let is = c.as_bytes.ensures.name ∙ ap image_of item in
     let has = not-false _ (sym c.in_ok-insert.ensures.added ∙ c.if-not-branch.true) in
     let held = HoldsNames-held c.loop-payload.images c.as_bytes.result names c.loop-payload.invariant.names has in (
       λ yes. absurd (true≢false (sym yes)),
-      λ distinct. absurd (held (subst (λ name. IsNew name names) (sym c.as_bytes.ensures.name)
+      λ distinct. absurd (held (subst (λ name. IsNew name names) (sym is)
           (new_place image_of payloads index no_payload c.loop-payload-test.true distinct))),
     )
 
@@ -32,9 +35,11 @@ loop-payload-preserved c =
     let payloads = c.args.payloads.now in
     let index = c.loop-payload.payload-index in
     let names = map image_of (take index payloads) in
+    let item = get_or_read payloads index c.payload-item.result c.loop-payload-test.true c.payload-item.ensures no_payload in
+    let is = c.as_bytes.ensures.name ∙ ap image_of item in
     let lacks = not-true _ (sym c.in_ok-insert.ensures.added ∙ c.if-not-branch.false) in
     let new = HoldsNames-new c.loop-payload.images c.as_bytes.result names c.loop-payload.invariant.names lacks in
-    let more = ap (λ name. names ++ name ∷ []) c.as_bytes.ensures.name
+    let more = ap (λ name. names ++ name ∷ []) is
     ∙ sym (places_more image_of payloads index no_payload c.loop-payload-test.true) in
     record {
       names = subst (HoldsNames c.insert.new.self) more
