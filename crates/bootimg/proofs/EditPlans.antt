@@ -1,4 +1,4 @@
-use Rattle.std.proofs.Common.{◌≡◌, ◌<◌, ◌+◌, ◌++◌, ◌∙◌, ℕ, zero, suc, Bor, List, [], ◌∷◌, Option, None, Some, Result, Ok, Err, IfErr, IfOk, codes, get_or, length, take}
+use Rattle.std.proofs.Common.{◌≡◌, ◌<◌, ◌+◌, ◌++◌, ℕ, zero, suc, Bor, List, [], ◌∷◌, Option, None, Some, Result, Ok, Err, IfErr, IfOk, codes, get_or, length, take}
 use Rattle.std.proofs.Common.{ap, inl, inr, subst, sym, arith}
 use Rattle.std.proofs.lemmas.List.{append_assoc}
 use Rattle.std.specs.List.{AllZip}

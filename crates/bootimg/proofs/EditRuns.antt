@@ -1,4 +1,4 @@
-use Rattle.std.proofs.Common.{◌≡◌, ◌≤◌, ◌<◌, ◌+◌, ◌++◌, ◌∙◌, ℕ, List, [], ◌∷◌, Bor, Option, Result, Ok, Err, length, map, take, drop, get_or, ap, refl, subst, sym, inl, inr, add-one}
+use Rattle.std.proofs.Common.{◌≡◌, ◌≤◌, ◌<◌, ◌+◌, ◌++◌, ◌∙◌, ℕ, List, [], ◌∷◌, Option, Err, length, take, drop, get_or, ap, subst, sym, add-one}
 use Rattle.std.proofs.Math.Seq.{drop-cons}
 use Rattle.std.proofs.lemmas.List.{length-append, length-map, map-append, take-append-drop, take_more}
 use Rattle.std.specs.Global.{Vec}
@@ -8,7 +8,6 @@ use Rattle.bi_base.specs.Limits.{Limits}
 use Rattle.bi_base.specs.Writing.{WriteOrFlushStopped}
 use Rattle.bi_common.specs.Offsets.{input_from}
 use Rattle.bi_edit.specs.declared.edit.Edit.{Edit}
-use Rattle.bi_edit.specs.declared.edit.Edit.TheVariants.{SetPayload}
 use Rattle.bi_edit.specs.declared.edit_error.EditError.{EditError}
 use Rattle.bi_edit.specs.declared.edit_error.EditError.TheVariants as error
 use Rattle.bi_edit.specs.declared.words.PayloadWord.{PayloadWord}
@@ -30,16 +29,17 @@ use Rattle.bootimg.proofs.BuildRuns.{one_more_read, one_value_each}
 -- ---- files of payloads
 
 -- The files so far were read, and one more. Reading the files so far did not change what is known of the files.
-pub payload_read : (files later : KnownFiles) (limits : Limits) (words : List PayloadWord) (i : ℕ) (d : PayloadWord)
+pub payload_read : (files later : KnownFiles) (limits : Limits) (words : List PayloadWord) (i : ℕ) (d word : PayloadWord)
     (contents next : List (Vec ℕ Global)) (bytes : Vec ℕ Global) (old middle new : Option (List FileStep)) → i < length words
-    → ArePayloadsRead files limits (take i words) (contents_of contents) old middle → later ≡ files → next ≡ contents ++ bytes ∷ []
-    → IsFileRead later limits (get_or words i d).file.now bytes.items middle new
+    → word ≡ get_or words i d → ArePayloadsRead files limits (take i words) (contents_of contents) old middle → later ≡ files
+    → next ≡ contents ++ bytes ∷ [] → IsFileRead later limits word.file.now bytes.items middle new
     → ArePayloadsRead files limits (take (i + 1) words) (contents_of next) old new
-payload_read files later limits words i d contents next bytes old middle new within were same is one =
+payload_read files later limits words i d word contents next bytes old middle new within here were same is one =
     rw (take_more words i d within, is, map-append (λ (bytes : Vec ℕ Global). bytes.items) contents (bytes ∷ []))
     (one_more_read (λ (word : PayloadWord) bytes. IsFileRead files limits word.file.now bytes) (take i words) (contents_of contents)
     (get_or words i d) bytes.items old middle new were
-    (subst (λ f. IsFileRead f limits (get_or words i d).file.now bytes.items middle new) same one))
+    (subst (λ f. IsFileRead f limits (get_or words i d).file.now bytes.items middle new) same
+    (subst (λ (w : PayloadWord). IsFileRead later limits w.file.now bytes.items middle new) here one)))
 
 -- What is before a payload, it, and what is after it.
 words_around : (words : List PayloadWord) (i : ℕ) (d : PayloadWord) → i < length words →
@@ -47,20 +47,20 @@ words_around : (words : List PayloadWord) (i : ℕ) (d : PayloadWord) → i < le
 words_around words i d within =
     sym (take-append-drop i words) ∙ ap (λ l. take i words ++ l) (rw add-one (drop-cons words i d within))
 
-pub payload_not_read : (files later : KnownFiles) (limits : Limits) (words : List PayloadWord) (i : ℕ) (d : PayloadWord)
+pub payload_not_read : (files later : KnownFiles) (limits : Limits) (words : List PayloadWord) (i : ℕ) (d word : PayloadWord)
     (contents : List (List ℕ)) (failed : SourceFailure) (old middle new : Option (List FileStep)) → i < length words
-    → ArePayloadsRead files limits (take i words) contents old middle → later ≡ files
-    → IsFileNotRead later limits (get_or words i d).file.now failed.failure middle new → failed.source ≡ File (get_or words i d).file
+    → word ≡ get_or words i d → ArePayloadsRead files limits (take i words) contents old middle → later ≡ files
+    → IsFileNotRead later limits word.file.now failed.failure middle new → failed.source ≡ File word.file
     → IsPayloadNotRead files limits words failed old new
-payload_not_read files later limits words i d contents failed old middle new within were same is named = record {
+payload_not_read files later limits words i d word contents failed old middle new within here were same is named = record {
   before = take i words;
-  word = get_or words i d;
+  word = word;
   later = drop (i + 1) words;
   contents = contents;
   middle = middle;
-  is = words_around words i d within;
+  is = words_around words i d within ∙ ap (λ w. take i words ++ w ∷ drop (i + 1) words) (sym here);
   are_read = were;
-  not_read = subst (λ f. IsFileNotRead f limits (get_or words i d).file.now failed.failure middle new) same is;
+  not_read = subst (λ f. IsFileNotRead f limits word.file.now failed.failure middle new) same is;
   named = named;
 }
 
@@ -102,6 +102,16 @@ payload_edits_push (w ∷ words) [] edits word bytes edit are is = absurd are
 payload_edits_push (w ∷ words) (b ∷ contents) [] word bytes edit are is = absurd are
 payload_edits_push (w ∷ words) (b ∷ contents) (e ∷ edits) word bytes edit are is =
     (are.0, payload_edits_push words contents edits word bytes edit are.1 is)
+
+pub one_more_edit : (words : List PayloadWord) (contents : List (Vec ℕ Global)) (d : Vec ℕ Global) (edits : List Edit) (word : PayloadWord)
+    (edit : Edit) → length words < length contents → ArePayloadEdits words (contents_of (take (length words) contents)) edits →
+    IsPayloadEdit word (get_or contents (length words) d).items edit →
+    ArePayloadEdits (words ++ word ∷ []) (contents_of (take (length (words ++ word ∷ [])) contents)) (edits ++ edit ∷ [])
+one_more_edit words contents d edits word edit within are is =
+    let size : length (words ++ word ∷ []) ≡ length words + 1 = length-append words (word ∷ []) in
+    rw (size, take_more contents (length words) d within,
+    map-append (λ (bytes : Vec ℕ Global). bytes.items) (take (length words) contents) (get_or contents (length words) d ∷ []))
+    (payload_edits_push words (contents_of (take (length words) contents)) edits word (get_or contents (length words) d).items edit are is)
 
 -- The edit could not be made, or the text was not wholly written.
 pub edit_failed : (plan : EditPlan) (limits : Limits) (image : List ℕ) (contents : List (List ℕ)) (work : Work) (edits : List Edit)

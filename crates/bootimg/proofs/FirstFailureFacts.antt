@@ -18,7 +18,7 @@ use Rattle.bootimg.specs.CommandLine.{IsFirstBad, IsFitPlanFailure, IsForm, IsFo
 use Rattle.bootimg.specs.CommandLine.{IsTaskFailure, NoneIs, NotAllowed, NotCompared, NotExplained, NotFit, NotFormed}
 use Rattle.bootimg.specs.CommandLine.{NotLegacy, NotLimited, NotNamed, NotPlaced, NotSelected, NotShown, align_option}
 use Rattle.bootimg.specs.CommandLine.{AsksForEdits, AsksForNoEdit, Gives, IsFlag, NotEdited, external_flag, keep_form_flag}
-use Rattle.bootimg.specs.CommandLine.{given_offset, hashes_flag, limit_of, option_of, value_of, values_of}
+use Rattle.bootimg.specs.CommandLine.{hashes_flag, limit_of, option_of, value_of, values_of}
 use Rattle.bootimg.specs.ConfigurationWords.{AreHashes, IsDefault, IsFirstBadConfiguration, name_of_word}
 use Rattle.bootimg.specs.KnownBuildRequests.{FirstFailuresAreKnown, IsTheOne, text_for_name}
 use Rattle.bootimg.specs.Numbers.{IsNumber}

@@ -12,6 +12,7 @@ pub mod EditPlans
 pub mod PayloadPlans
 pub mod EditRuns
 pub mod SetWords
+pub mod FieldTexts
 pub mod NamedTexts
 pub mod AlgorithmFacts
 pub mod PlanFailures

@@ -1,4 +1,4 @@
-use Rattle.std.proofs.Common.{◌≡◌, ◌≤◌, ◌∙◌, ℕ, true≢false, Bor, List, [], ◌∷◌, None, Some, codes, inl, inr, length}
+use Rattle.std.proofs.Common.{◌≡◌, ◌≤◌, ◌∙◌, ℕ, true≢false, Bor, List, [], ◌∷◌, Some, codes, inl, inr, length}
 use Rattle.std.proofs.Common.{ap, arith, refl, sym, subst}
 use Rattle.std.specs.Prelude.{option_map}
 use Rattle.bi_base.proofs.EqualBytes.{other_bytes}
@@ -11,9 +11,9 @@ use Rattle.bootimg.specs.CommandLine.{Gives, IsJob, IsLimits, IsTaskFailure, NoJ
 use Rattle.bootimg.specs.CommandLine.{AreImageSources, IsTask, NotEach, TakesImages, TwoInputs, image_arguments}
 use Rattle.bootimg.specs.declared.command_line.source.ImageSource.{ImageSource}
 use Rattle.bootimg.specs.declared.command_line.source.ImageSource.TheVariants.{File, Standard}
-use Rattle.bootimg.specs.CommandLine.{NotAll, NotAllowed, NotChanged, NotCompared, NotExplained, NotFit, NotFormed, NotFormedChanged}
-use Rattle.bootimg.specs.CommandLine.{NotLegacy, NotLimited, NotNamed, NotPlaced, NotSelected, NotShown, all_flag, hashes_flag, limit_of}
-use Rattle.bootimg.specs.CommandLine.{AsksForNoEdit, NotEdited, option_of}
+use Rattle.bootimg.specs.CommandLine.{NotAll, NotAllowed, NotCompared, NotExplained, NotFit, NotFormed}
+use Rattle.bootimg.specs.CommandLine.{NotLegacy, NotLimited, NotNamed, NotPlaced, NotSelected, NotShown, all_flag, limit_of}
+use Rattle.bootimg.specs.CommandLine.{AsksForNoEdit, NotEdited}
 use Rattle.bootimg.specs.KnownOrders.{IsListOfFile, IsRejectedFor, RejectionsAreKnown, RequestsAreKnown}
 use Rattle.bootimg.specs.Program.{program_app}
 use Rattle.bootimg.specs.declared.command_line.Job.{Job}

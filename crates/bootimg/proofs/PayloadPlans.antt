@@ -1,4 +1,4 @@
-use Rattle.std.proofs.Common.{◌≡◌, ◌∙◌, ℕ, List, [], ◌∷◌, map, refl, sym}
+use Rattle.std.proofs.Common.{◌≡◌, ℕ, List, [], ◌∷◌, map, refl}
 use Rattle.std.specs.List.{AllZip}
 use Rattle.bi_common.proofs.ReadableWords.ShownNames.{same_shown}
 use Rattle.bi_edit.specs.declared.words.PayloadWord.{PayloadWord}

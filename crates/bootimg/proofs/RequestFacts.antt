@@ -54,7 +54,7 @@ use Rattle.bootimg.specs.declared.command_line.show.ShowForm.{ShowForm}
 use Rattle.bootimg.specs.declared.command_line.show.ShowForm.TheVariants as show_form
 use Rattle.bootimg.specs.declared.command_line.source.ImageSource.{ImageSource}
 use Rattle.bootimg.specs.declared.command_line.source.ImageSource.TheVariants.{Standard, File}
-use Rattle.bootimg.specs.declared.failure.Failure.TheVariants.{NoChange, NoSelection, BadValue}
+use Rattle.bootimg.specs.declared.failure.Failure.TheVariants.{NoSelection, BadValue}
 use Rattle.bootimg.proofs.ArgumentFacts.{decimal_digits, hexadecimal_digits_after, code_with_name, is_no_number}
 
 -- Small command lines request what is known.

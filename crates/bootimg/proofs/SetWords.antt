@@ -1,7 +1,7 @@
 use Rattle.std.proofs.Common.{◌≡◌, ◌≢◌, ◌∙◌, ◌<◌, ◌==◌, ℕ, zero, suc, Bool, true, false, Bor, List, [], ◌∷◌, ◌++◌, Option, None, Some, MatchOption}
 use Rattle.std.proofs.Math.Seq.{take-append_seam}
-use Rattle.std.proofs.Common.{◌+◌, append-nil, append_assoc, length-append, ap, arith, codes, get_or, length, refl, rules, subst, sym, take, take_all, tests, true≢false}
-use Rattle.std.specs.List.{after_first, before_first, join_with_byte, position_or_len}
+use Rattle.std.proofs.Common.{◌+◌, append-nil, append_assoc, length-append, ap, arith, get_or, length, refl, rules, subst, sym, take, take_all, tests, true≢false}
+use Rattle.std.specs.List.{after_first, before_first, position_or_len}
 use Rattle.std.specs.Prelude.{slice_index}
 use Rattle.std.proofs.lemmas.List.Sums.{fails_before_first, passes_at_first, split_at_first}
 use Rattle.bi_common.specs.Shown.{path, shown_text}
@@ -11,7 +11,7 @@ use Rattle.bi_edit.specs.declared.edit.Edit.TheVariants.{SetField, SetPayload, S
 use Rattle.bi_edit.specs.declared.edit.FieldValue.{FieldValue}
 use Rattle.bi_edit.specs.declared.edit.FieldValue.TheVariants as field
 use Rattle.bi_edit.specs.Cuts.{from_byte, IsCutAt, LacksByte}
-use Rattle.bi_edit.specs.EditWords.{IsSettingWord, place_words}
+use Rattle.bi_edit.specs.EditWords.{IsSettingWord}
 use Rattle.bi_edit.specs.Places.{PropertyPlaceModel}
 use Rattle.bi_edit.proofs.CutTexts.{cut_is}
 use Rattle.bi_edit.proofs.PathNames.{path_no_space, shown_no_space}
@@ -92,7 +92,7 @@ field_slash word (field.Compression code) is same = let e = ap (λ w. slice_inde
 -- ---- cuts
 
 module _ (word first : List ℕ) (after : Option (List ℕ)) (cut : IsCutAt 32 word first after) where
-  field_cut : (value : FieldValue) (is : IsFieldWord word value) → (field_to_set value ≡ first) × (Some is.text ≡ after)
+  pub field_cut : (value : FieldValue) (is : IsFieldWord word value) → (field_to_set value ≡ first) × (Some is.text ≡ after)
   field_cut value is = cut_is 32 word first after cut (field_to_set value) (Some is.text) (field_no_space value) (sym is.is)
 
   property_cut : (place : PropertyPlaceModel) (value : List ℕ) (is : IsSettingWord word place value) →

@@ -43,7 +43,7 @@ use Rattle.bootimg.specs.declared.command_line.show.ShowForm.TheVariants as show
 use Rattle.bootimg.specs.declared.command_line.source.ComparePlan.{ComparePlan}
 use Rattle.bootimg.specs.declared.command_line.source.ImageSource.{ImageSource}
 use Rattle.bootimg.specs.declared.command_line.source.ImageSource.TheVariants.{Standard, File}
-use Rattle.bootimg.specs.declared.failure.Failure.TheVariants.{NoChange, NoSelection, BadValue}
+use Rattle.bootimg.specs.declared.failure.Failure.TheVariants.{NoSelection, BadValue}
 use Rattle.std.specs.Borrow.{Bor}
 
 -- What small command lines request, by which a reader can judge the definitions.

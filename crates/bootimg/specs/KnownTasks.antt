@@ -14,7 +14,6 @@ use Rattle.bi_commands.specs.declared.parts.Part.TheVariants.{Bytes}
 use Rattle.bi_common.specs.KnownWords.{lines}
 use Rattle.bi_common.specs.declared.format.Format.TheVariants.{Lines, Json}
 use Rattle.bi_files.specs.Files.{FileStep}
-use Rattle.bi_fit.specs.declared.form.Form.{Form}
 use Rattle.bi_fit.specs.declared.form.Form.TheVariants.{Embedded, External}
 use Rattle.bi_fit.specs.KnownBuilds.{known_text}
 use Rattle.bi_fit.specs.KnownFiles.{three_aligned, three_external}
@@ -22,7 +21,7 @@ use Rattle.bi_fit.specs.KnownJudgements.{good_crc, short_crc}
 use Rattle.bi_fit.specs.KnownKept.{kept}
 use Rattle.bi_hash.specs.declared.algo.Algo.TheVariants.{Sha256}
 use Rattle.bi_legacy.specs.KnownFiles.{kernel_file_with_rest}
-use Rattle.bi_legacy.specs.KnownImages.{kernel_file, multi_file, multi_image}
+use Rattle.bi_legacy.specs.KnownImages.{kernel_file, multi_file}
 use Rattle.bi_legacy.specs.Meaning.{image_of}
 use Rattle.bi_legacy.specs.Text.{legacy_text}
 use Rattle.bi_norm.specs.KnownBuildFaults.{head_like}
