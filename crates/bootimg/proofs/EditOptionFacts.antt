@@ -17,6 +17,7 @@ use Rattle.bi_fit.specs.declared.form.Form.TheVariants.{Embedded, External}
 use Rattle.clap.specs.declared.parser.matches.ArgMatches.{ArgMatches}
 use Rattle.clap.proofs.OnLiterals.{clap_on_literals}
 use Rattle.bootimg.specs.CodeWords.{IsCode}
+use Rattle.bootimg.specs.CommandLine.{AsksForHashes, AsksForPayloads, AsksForTime, AsksToKeepForm, AsksToRemove, AsksToSet}
 use Rattle.bootimg.specs.CommandLine.{IsForm, IsFormChoiceWith, IsFormWith, align_option, external_flag}
 use Rattle.bootimg.specs.EditOptions.{AreSetWords, IsFieldWord, IsSetWord, set_place}
 use Rattle.bootimg.specs.EditedImages.{OfLegacyImage, OfTree}
@@ -24,7 +25,7 @@ use Rattle.bootimg.specs.KnownEditOptions.{EditFailuresAreKnown, EditOptionsAreK
 use Rattle.bootimg.specs.Program.{program_app}
 use Rattle.bootimg.specs.declared.codes.CodeField.TheVariants.{Os}
 use Rattle.bootimg.proofs.ArgumentFacts.{code_with_name, codes_are_known, decimal_digits, hexadecimal_digits_after}
-use Rattle.bootimg.proofs.FirstFailureFacts.{no_edits}
+use Rattle.bootimg.proofs.FirstFailureFacts.{flag_is_on, no_edits}
 use Rattle.bootimg.proofs.OptionFacts.{found_values}
 use Rattle.bootimg.proofs.RequestFacts.{flag_is, not_given_and_missing, option_is}
 use Rattle.bootimg.proofs.SetWords.{setting_slash}
@@ -142,23 +143,22 @@ no_aligned_form options argument flag align form is =
 pub edit_options_are_known : EditOptionsAreKnown
 unfolding program_app clap_on_literals
 edit_options_are_known = record {
-  no_edit = λ options is. no_edits (codes "update --external") options is refl refl refl refl refl refl;
-  time = λ options is none.
-      not_given_and_missing _ (codes "5") (option_is (codes "update --time 5") (codes "update") options is (codes "time") ∙ refl)
-      none.no_time;
-  hashes = λ options is none.
-      true≢false (sym (none.no_hashes.given (flag_is (codes "update --hashes") (codes "update") options is (codes "hashes") ∙ refl)));
-  removal = λ options is none.
-      some_value _ (codes "/a") (found_values (codes "update --remove /a") (codes "update") options is (codes "remove") ∙ refl)
-      none.no_removal;
-  setting = λ options is none.
-      some_value _ (codes "/a") (found_values (codes "update --set /a") (codes "update") options is (codes "set") ∙ refl)
-      none.no_setting;
-  payload = λ options is none.
-      some_value _ (codes "a") (found_values (codes "update --payload a") (codes "update") options is (codes "payload") ∙ refl)
-      none.no_payload;
-  form = λ options is none.
-      true≢false (sym (none.no_form.given (flag_is (codes "update --keep-form") (codes "update") options is (codes "keep-form") ∙ refl)));
+  no_edit = λ options is. (no_edits (codes "update --external") options is refl refl refl refl refl refl).none;
+  time = λ options is.
+      AsksForTime (not_given_and_missing _ (codes "5")
+      (option_is (codes "update --time 5") (codes "update") options is (codes "time") ∙ refl));
+  hashes = λ options is.
+      AsksForHashes (flag_is_on _ (flag_is (codes "update --hashes") (codes "update") options is (codes "hashes") ∙ refl));
+  removal = λ options is.
+      AsksToRemove (some_value _ (codes "/a")
+      (found_values (codes "update --remove /a") (codes "update") options is (codes "remove") ∙ refl));
+  setting = λ options is.
+      AsksToSet (some_value _ (codes "/a") (found_values (codes "update --set /a") (codes "update") options is (codes "set") ∙ refl));
+  payload = λ options is.
+      AsksForPayloads (some_value _ (codes "a")
+      (found_values (codes "update --payload a") (codes "update") options is (codes "payload") ∙ refl));
+  form = λ options is.
+      AsksToKeepForm (flag_is_on _ (flag_is (codes "update --keep-form") (codes "update") options is (codes "keep-form") ∙ refl));
   kept = λ options is chosen holds.
       (kept_choice options holds.keeps chosen
       (holds.keeps_form.given (flag_is (codes "update --keep-form") (codes "update") options is (codes "keep-form") ∙ refl))

@@ -1,4 +1,4 @@
-use Rattle.std.proofs.Common.{◌≡◌, ◌≢◌, ◌∙◌, ◌++◌, ◌∷◌, ℕ, List, Some, ap, codes, refl, subst, sym}
+use Rattle.std.proofs.Common.{◌≡◌, ◌≢◌, ◌∙◌, ◌++◌, ◌∷◌, ℕ, List, Option, None, Some, IfSome, ap, codes, refl, subst, sym}
 use Rattle.bi_base.proofs.EqualBytes.{other_bytes}
 use Rattle.bi_common.specs.Unshown.{IsShownOfNoBytes}
 use Rattle.bi_edit.specs.declared.edit.FieldValue.{FieldValue}
@@ -107,3 +107,8 @@ field_parts word first rest cut value is =
     let e : Some is.text ≡ Some rest = parts.1 in
     let same : is.text ≡ rest = cc in
     (sym parts.0, subst (λ t. IsFieldText t value) same is.is_text)
+
+pub other_field_word : (word first rest : List ℕ) → IsCutAt 32 word first (Some rest) → (given : Option FieldValue) →
+    IfSome given (λ value. (first ≡ field_to_set value) × IsFieldText rest value) → IfSome given (IsFieldWord word)
+other_field_word word first rest cut None is = tt
+other_field_word word first rest cut (Some value) is = field_word word first rest cut value is.0 is.1

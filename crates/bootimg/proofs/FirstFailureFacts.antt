@@ -1,4 +1,4 @@
-use Rattle.std.proofs.Common.{◌≡◌, ◌∙◌, ◌<◌, ℕ, suc, zero, false, List, [], ◌∷◌, Option, None, Some}
+use Rattle.std.proofs.Common.{◌≡◌, ◌≢◌, ◌∙◌, ◌<◌, ℕ, suc, zero, false, true, List, [], ◌∷◌, Option, None, Some}
 use Rattle.std.proofs.Common.{codes, length, map, lit<, lit≤, ◌⊎◌, inl, inr, ap, refl, sym, subst, subst₂, arith, slice_get, true≢false}
 use Rattle.std.specs.Global.{Vec}
 use Rattle.std.specs.List.{AllZip}
@@ -17,7 +17,8 @@ use Rattle.bootimg.specs.CommandLine.{AreOwnTexts, HasFitValues, HasNoForm, IsBa
 use Rattle.bootimg.specs.CommandLine.{IsFirstBad, IsFitPlanFailure, IsForm, IsFormWith, IsImageText, IsLimits}
 use Rattle.bootimg.specs.CommandLine.{IsTaskFailure, NoneIs, NotAllowed, NotCompared, NotExplained, NotFit, NotFormed}
 use Rattle.bootimg.specs.CommandLine.{NotLegacy, NotLimited, NotNamed, NotPlaced, NotSelected, NotShown, align_option}
-use Rattle.bootimg.specs.CommandLine.{AsksForEdits, AsksForNoEdit, Gives, IsFlag, NotEdited, external_flag, keep_form_flag}
+use Rattle.bootimg.specs.CommandLine.{AsksForEdits, AsksForHashes, AsksForNoEdit, AsksForPayloads, AsksForTime, AsksToKeepForm, AsksToRemove, AsksToSet}
+use Rattle.bootimg.specs.CommandLine.{Gives, IsFlag, NotEdited, external_flag, keep_form_flag}
 use Rattle.bootimg.specs.CommandLine.{hashes_flag, limit_of, option_of, value_of, values_of}
 use Rattle.bootimg.specs.ConfigurationWords.{AreHashes, IsDefault, IsFirstBadConfiguration, name_of_word}
 use Rattle.bootimg.specs.KnownBuildRequests.{FirstFailuresAreKnown, IsTheOne, text_for_name}
@@ -351,6 +352,30 @@ flag_is_off text flag = record {
   other : text ≡ Some (codes "false") → text ≡ Some (codes "true") → ⊥
   other is also = let same : codes "true" ≡ codes "false" = cc in other_bytes (codes "true") (codes "false") refl same
 
+-- A flag that is given is on.
+pub flag_is_on : (text : Option (List ℕ)) → text ≡ Some (codes "true") → IsFlag text true
+flag_is_on text flag = record {
+  given = λ is. refl;
+  not_given = λ is. absurd (other flag is);
+  unknown = λ none. absurd (let e : None ≡ Some (codes "true") = sym none ∙ flag in cc);
+} where
+  other : text ≡ Some (codes "true") → text ≡ Some (codes "false") → ⊥
+  other is also = let same : codes "true" ≡ codes "false" = cc in other_bytes (codes "true") (codes "false") refl same
+
+-- Options that request nothing of `update`.
+pub record NothingAsked (options : ArgMatches) : Type 0 where
+  pub none : AsksForNoEdit options
+  pub no_hashes : hashes_flag options ≡ Some (codes "false")
+  pub no_form : keep_form_flag options ≡ Some (codes "false")
+
+pub nothing_asked : (options : ArgMatches) → NothingAsked options → ¬ (AsksForEdits options)
+nothing_asked options asked (AsksToRemove some) = some asked.none.no_removal
+nothing_asked options asked (AsksToSet some) = some asked.none.no_setting
+nothing_asked options asked (AsksForPayloads some) = some asked.none.no_payload
+nothing_asked options asked (AsksForTime some) = some asked.none.no_time
+nothing_asked options asked (AsksForHashes is) = true≢false (is.not_given asked.no_hashes)
+nothing_asked options asked (AsksToKeepForm is) = true≢false (is.not_given asked.no_form)
+
 -- A command line of `update` that requests nothing.
 pub no_edits : (line : List ℕ) (options : ArgMatches) → Gives (words_of_line line) (codes "update") options →
     values_in (codes "remove") (subcommand_of program_app (words_of_line line)) ≡ [] →
@@ -358,29 +383,36 @@ pub no_edits : (line : List ℕ) (options : ArgMatches) → Gives (words_of_line
     values_in (codes "payload") (subcommand_of program_app (words_of_line line)) ≡ [] →
     first_of (codes "time") (rows_given line) ≡ None →
     one_of (codes "hashes") (rows_given line) ≡ Some (codes "false") →
-    one_of (codes "keep-form") (rows_given line) ≡ Some (codes "false") → AsksForNoEdit options
-no_edits line options is remove set payload time hashes keep = record {
-  no_removal = found_values line (codes "update") options is (codes "remove") ∙ remove;
-  no_setting = found_values line (codes "update") options is (codes "set") ∙ set;
-  no_payload = found_values line (codes "update") options is (codes "payload") ∙ payload;
-  no_time = option_is line (codes "update") options is (codes "time") ∙ time;
-  no_hashes = flag_is_off (hashes_flag options) (flag_is line (codes "update") options is (codes "hashes") ∙ hashes);
-  no_form = flag_is_off (keep_form_flag options) (flag_is line (codes "update") options is (codes "keep-form") ∙ keep);
-}
+    one_of (codes "keep-form") (rows_given line) ≡ Some (codes "false") → NothingAsked options
+no_edits line options is remove set payload time hashes keep =
+    let no_hashes = flag_is line (codes "update") options is (codes "hashes") ∙ hashes in
+    let no_form = flag_is line (codes "update") options is (codes "keep-form") ∙ keep in
+    record {
+      none = record {
+        no_removal = found_values line (codes "update") options is (codes "remove") ∙ remove;
+        no_setting = found_values line (codes "update") options is (codes "set") ∙ set;
+        no_payload = found_values line (codes "update") options is (codes "payload") ∙ payload;
+        no_time = option_is line (codes "update") options is (codes "time") ∙ time;
+        no_hashes = flag_is_off (hashes_flag options) no_hashes;
+        no_form = flag_is_off (keep_form_flag options) no_form;
+      };
+      no_hashes = no_hashes;
+      no_form = no_form;
+    }
 
-pub change_fails : (options : ArgMatches) → AsksForNoEdit options → IsTheOne (IsTaskFailure (codes "update") options) NoChange
-change_fails options none = (NotEdited refl none, λ failure is. only failure (update_failure options failure is)) where
+pub change_fails : (options : ArgMatches) → NothingAsked options → IsTheOne (IsTaskFailure (codes "update") options) NoChange
+change_fails options asked = (NotEdited refl asked.none, λ failure is. only failure (update_failure options failure is)) where
   only : (failure : Failure) → IsEditPlanFailure options failure → failure ≡ NoChange
   only NoChange is = refl
-  only BadValue is = absurd (is.0 none)
+  only BadValue is = absurd (nothing_asked options asked is.0)
   only other is = absurd is
 
-form_of_update_fails : (options : ArgMatches) → AsksForEdits options → HasNoForm options →
+form_of_update_fails : (options : ArgMatches) → option_of options (codes "time") ≢ None → HasNoForm options →
     IsTheOne (IsTaskFailure (codes "update") options) BadValue
-form_of_update_fails options asks none =
-    (NotEdited refl (asks, inr (NoForm none)), λ failure is. only failure (update_failure options failure is)) where
+form_of_update_fails options time none =
+    (NotEdited refl (AsksForTime time, inr (NoForm none)), λ failure is. only failure (update_failure options failure is)) where
       only : (failure : Failure) → IsEditPlanFailure options failure → failure ≡ BadValue
-      only NoChange is = absurd (asks is)
+      only NoChange is = absurd (time is.no_time)
       only BadValue is = refl
       only other is = absurd is
 
@@ -555,7 +587,7 @@ first_failures_are_known = record {
       let line = codes "update --time 1 --align 3" in
       let name = codes "update" in
       form_of_update_fails options
-      (λ none. not_given_and_missing _ (codes "1") (option_is line name options is (codes "time") ∙ refl) none.no_time)
+      (not_given_and_missing _ (codes "1") (option_is line name options is (codes "time") ∙ refl))
       (no_form_without_external options (codes "3") (flag_is line name options is (codes "external") ∙ refl)
       (option_is line name options is (codes "align") ∙ refl));
 }

@@ -13,7 +13,7 @@ use Rattle.bootimg.specs.declared.command_line.source.ImageSource.{ImageSource}
 use Rattle.bootimg.specs.declared.command_line.source.ImageSource.TheVariants.{File, Standard}
 use Rattle.bootimg.specs.CommandLine.{NotAll, NotAllowed, NotCompared, NotExplained, NotFit, NotFormed}
 use Rattle.bootimg.specs.CommandLine.{NotLegacy, NotLimited, NotNamed, NotPlaced, NotSelected, NotShown, all_flag, limit_of}
-use Rattle.bootimg.specs.CommandLine.{AsksForNoEdit, NotEdited}
+use Rattle.bootimg.specs.CommandLine.{NotEdited}
 use Rattle.bootimg.specs.KnownOrders.{IsListOfFile, IsRejectedFor, RejectionsAreKnown, RequestsAreKnown}
 use Rattle.bootimg.specs.Program.{program_app}
 use Rattle.bootimg.specs.declared.command_line.Job.{Job}
@@ -22,7 +22,7 @@ use Rattle.bootimg.specs.declared.command_line.build.BuildPlan.TheVariants as bu
 use Rattle.bootimg.specs.declared.failure.Failure.{Failure}
 use Rattle.bootimg.specs.declared.failure.Failure.TheVariants.{BadValue, NoChange}
 use Rattle.bootimg.proofs.ArgumentFacts.{decimal_digits, limits_are_known}
-use Rattle.bootimg.proofs.FirstFailureFacts.{change_fails, no_edits}
+use Rattle.bootimg.proofs.FirstFailureFacts.{NothingAsked, change_fails, no_edits, nothing_asked}
 use Rattle.bootimg.proofs.RequestFacts.{all_requests_are_known, file_is_named, flag_is}
 use Rattle.bootimg.proofs.RequestFacts.{number_of_argument, option_is, value_is}
 use Rattle.bootimg.proofs.OptionFacts.{found_values}
@@ -161,10 +161,10 @@ update_rejected line name only none failure (NotAll options is all fails) =
 update_rejected line name only none failure (NoMemory is) = inr is
 
 -- No job is an update without a change.
-no_update_job : (options : ArgMatches) → AsksForNoEdit options → (job : Job) → ¬ (IsJob (codes "update") options job)
+no_update_job : (options : ArgMatches) → NothingAsked options → (job : Job) → ¬ (IsJob (codes "update") options job)
 no_update_job options none (Run plan) is = no_task_updates plan.task is.task.0
 no_update_job options none (Compare plan) is = other_bytes (codes "update") (codes "compare") refl is.0
-no_update_job options none (Edit plan) is = is.1.0 none
+no_update_job options none (Edit plan) is = nothing_asked options none is.1.0
 no_update_job options none (Explain cause) is = other_bytes (codes "update") (codes "explain") refl is.0
 no_update_job options none (Build (build.Legacy plan)) is = other_bytes (codes "update") (codes "build-legacy") refl is.0
 no_update_job options none (Build (build.Fit plan)) is = other_bytes (codes "update") (codes "build-fit") refl is.0

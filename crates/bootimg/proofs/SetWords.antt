@@ -1,4 +1,4 @@
-use Rattle.std.proofs.Common.{◌≡◌, ◌≢◌, ◌∙◌, ◌<◌, ◌==◌, ℕ, zero, suc, Bool, true, false, Bor, List, [], ◌∷◌, ◌++◌, Option, None, Some, MatchOption}
+use Rattle.std.proofs.Common.{◌≡◌, ◌≢◌, ◌∙◌, ◌<◌, ◌≤◌, ◌==◌, ℕ, zero, suc, Bool, true, false, Bor, List, [], ◌∷◌, ◌++◌, Option, None, Some, MatchOption}
 use Rattle.std.proofs.Math.Seq.{take-append_seam}
 use Rattle.std.proofs.Common.{◌+◌, append-nil, append_assoc, length-append, ap, arith, get_or, length, refl, rules, subst, sym, take, take_all, tests, true≢false}
 use Rattle.std.specs.List.{after_first, before_first, position_or_len}
@@ -25,10 +25,10 @@ abbrev pub is_space : ℕ → Bool
 is_space byte = byte == 32
 
 not_space : (byte : ℕ) → is_space byte ≡ false → byte ≢ 32
-not_space byte no same = true≢false (sym (ap is_space same) ∙ no)
+not_space byte other same = true≢false (sym (ap is_space same) ∙ other)
 
 space_is : (byte : ℕ) → is_space byte ≡ true → byte ≡ 32
-space_is byte yes = search (rules, tests)
+space_is byte holds = search (rules, tests)
 
 lacks_space : (bytes : List ℕ) (n : ℕ) → ((k : ℕ) → k < n → is_space (get_or bytes k 0) ≡ false) → n ≤ length bytes → LacksByte 32 (take n bytes)
 lacks_space bytes zero below within = tt
@@ -140,7 +140,7 @@ module _ (word first : List ℕ) (after : Option (List ℕ)) (cut : IsCutAt 32 w
 
 -- A word that begins with a slash.
 pub slash_is : (word : List ℕ) (result : Bool) → result ≡ (slice_index word 0 == 47) → result ≡ true → slice_index word 0 ≡ 47
-slash_is word result is yes = space_is_like (slice_index word 0) (sym is ∙ yes) where
+slash_is word result is given = space_is_like (slice_index word 0) (sym is ∙ given) where
   space_is_like : (byte : ℕ) → (byte == 47) ≡ true → byte ≡ 47
   space_is_like byte holds = search (rules, tests)
 

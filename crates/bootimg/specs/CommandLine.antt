@@ -400,8 +400,13 @@ pub record AsksForNoEdit (options : ArgMatches) : Type 0 where
   pub no_form : KeepsForm options false
 
 -- One of them is.
-abbrev pub AsksForEdits : ArgMatches → Type 0
-AsksForEdits options = ¬ (AsksForNoEdit options)
+pub data AsksForEdits (options : ArgMatches) : Type 0 where
+  AsksToRemove : removal_arguments options ≢ [] → AsksForEdits options
+  AsksToSet : set_arguments options ≢ [] → AsksForEdits options
+  AsksForPayloads : payload_arguments options ≢ [] → AsksForEdits options
+  AsksForTime : option_of options (codes "time") ≢ None → AsksForEdits options
+  AsksForHashes : ChangesHashes options true → AsksForEdits options
+  AsksToKeepForm : KeepsForm options true → AsksForEdits options
 
 -- The form is that of the image with `--keep-form`, and then the options give no other form. Else
 -- they give it.
