@@ -119,10 +119,7 @@ fn parse_other_field(field: &str, text: &str) -> Option<FieldValue>
         "entry" => Some(FieldValue::Entry(parse_number(text)?)),
         "os" => Some(FieldValue::Os(parse_code(CodeField::Os, text)?)),
         "arch" => Some(FieldValue::Arch(parse_code(CodeField::Arch, text)?)),
-        "compression" => Some(FieldValue::Compression(parse_code(
-            CodeField::Compression,
-            text,
-        )?)),
+        "compression" => Some(FieldValue::Compression(parse_code(CodeField::Compression, text)?)),
         _ => None,
     }
 }
