@@ -116,14 +116,14 @@ some_value values word is none = absurd (let e : word ∷ [] ≡ [] = sym is ∙
 -- The choice if the form is kept, and if it is not.
 kept_choice : (options : ArgMatches) (keeps : Bool) (chosen : FormChoice) → keeps ≡ true → IsFormChoiceWith keeps options chosen →
     (chosen ≡ choice.Keep) × IsForm options Embedded
-kept_choice options keeps chosen yes is = by chosen (subst (λ k. IsFormChoiceWith k options chosen) yes is) where
+kept_choice options keeps chosen kept is = by chosen (subst (λ k. IsFormChoiceWith k options chosen) kept is) where
   by : (chosen : FormChoice) → IsFormChoiceWith true options chosen → (chosen ≡ choice.Keep) × IsForm options Embedded
   by choice.Keep is = (refl, is)
   by (choice.Given form) is = absurd is
 
 given_choice : (options : ArgMatches) (keeps : Bool) (chosen : FormChoice) → keeps ≡ false → IsFormChoiceWith keeps options chosen →
     (form : Form) × IsForm options form × (chosen ≡ choice.Given form)
-given_choice options keeps chosen no is = by chosen (subst (λ k. IsFormChoiceWith k options chosen) no is) where
+given_choice options keeps chosen not_kept is = by chosen (subst (λ k. IsFormChoiceWith k options chosen) not_kept is) where
   by : (chosen : FormChoice) → IsFormChoiceWith false options chosen → (form : Form) × IsForm options form × (chosen ≡ choice.Given form)
   by choice.Keep is = absurd is
   by (choice.Given form) is = (form, is, refl)

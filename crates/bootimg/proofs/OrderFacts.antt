@@ -164,7 +164,7 @@ update_rejected line name only none failure (NoMemory is) = inr is
 no_update_job : (options : ArgMatches) → NothingAsked options → (job : Job) → ¬ (IsJob (codes "update") options job)
 no_update_job options none (Run plan) is = no_task_updates plan.task is.task.0
 no_update_job options none (Compare plan) is = other_bytes (codes "update") (codes "compare") refl is.0
-no_update_job options none (Edit plan) is = nothing_asked options none is.1.0
+no_update_job options none (Edit plan) is = nothing_asked options none is.1
 no_update_job options none (Explain cause) is = other_bytes (codes "update") (codes "explain") refl is.0
 no_update_job options none (Build (build.Legacy plan)) is = other_bytes (codes "update") (codes "build-legacy") refl is.0
 no_update_job options none (Build (build.Fit plan)) is = other_bytes (codes "update") (codes "build-fit") refl is.0

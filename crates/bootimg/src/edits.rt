@@ -95,7 +95,7 @@ fn edit_with<'a, T: TracedWrite>(
     output: &mut T,
 ) -> Result<Done, SourceFailure<'a>>
     requires short { length image.now ≤ limits.file }
-    requires one_each { length contents.now ≡ length plan.entry.payloads.items }
+    requires one_each { length contents.now ≡ length plan.payloads.items }
     ensures { (old new : ReadTrace) → IsEditedWork plan.entry limits image.now
         (contents_of contents.now) (record {
           input = old;
@@ -136,11 +136,11 @@ fn run_editor<T: TracedWrite>(
 ) -> Result<EditNotes, EditError>
     requires short { length file.now ≤ limits.file }
     ensures written { IfOk result (λ notes. (text : List ℕ)
-        × IsEditOutput editor.edits.now editor.choice limits notes file.now text
+        × IsEditOutput editor.entry.edits.now editor.entry.choice limits notes file.now text
         × WroteAndFlushed (T.trace output.old) text (T.trace output.new)) }
     ensures failed { IfErr result (CommandFailed WriteOrFlushStopped (λ cause. Failed cause)
-        (IsEdited editor.edits.now editor.choice limits file.now)
-        (IsEditFileError editor.edits.now editor.choice limits file.now)
+        (IsEdited editor.entry.edits.now editor.entry.choice limits file.now)
+        (IsEditFileError editor.entry.edits.now editor.entry.choice limits file.now)
         (T.trace output.old) (T.trace output.new)) }
 {
     let mut sink = BufferedSink::new(output);

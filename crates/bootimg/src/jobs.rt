@@ -73,7 +73,7 @@ pub fn do_job<'a, S: TracedRead, T: TracedWrite, F: FileSystem>(
     input: &mut S,
     output: &mut T,
 ) -> Result<Done, SourceFailure<'a>>
-    requires lengths { HasJobLengths job.entry }
+    requires lengths { HasJobLengths job }
     ensures work { IsJobWork (F.known files.old) job.entry limits
         (record {
           input = S.trace input.old;

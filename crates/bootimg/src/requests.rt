@@ -55,7 +55,7 @@ pub fn do_job_to_file<'a, S: TracedRead, F: FileSystem>(
     files: &mut F,
     input: &mut S,
 ) -> Result<Done, SourceFailure<'a>>
-    requires lengths { HasJobLengths job.entry }
+    requires lengths { HasJobLengths job }
     ensures { IsSavedWork (F.known files.old) job.entry limits name.entry
         (record { input = S.trace input.old; steps = F.steps files.old })
         (record { input = S.trace input.new; steps = F.steps files.new }) result }
@@ -79,7 +79,7 @@ fn do_job_in_memory<'a, S: TracedRead, F: FileSystem>(
     files: &mut F,
     input: &mut S,
 ) -> Result<(Done, Vec<u8>), SourceFailure<'a>>
-    requires lengths { HasJobLengths job.entry }
+    requires lengths { HasJobLengths job }
     ensures done { IfOk result (λ made. IsHeldWork (F.known files.old) job.entry limits
         (record { input = S.trace input.old; steps = F.steps files.old })
         (record { input = S.trace input.new; steps = F.steps files.new })

@@ -208,7 +208,7 @@ fn run_request<'a, S: TracedRead, T: TracedWrite, E: TracedWrite, F: FileSystem>
     output: &mut T,
     errors: &mut E,
 ) -> u8
-    requires lengths { HasJobLengths request.entry.job }
+    requires lengths { HasJobLengths request.job }
     ensures { IsRequestRun terminal (F.known files.old) request.entry (record {
       input = S.trace input.old;
       new_input = S.trace input.new;
