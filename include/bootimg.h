@@ -154,6 +154,21 @@ enum bootimg_cause {
 #define BOOTIMG_HAS_LOAD 1u
 #define BOOTIMG_HAS_ENTRY 2u
 
+/* `given` of the structs of bootimg_build_fit_as: what is given. BOOTIMG_HAS_DESCRIPTION is for
+ * bootimg_build_texts and bootimg_build_configuration, BOOTIMG_HAS_TEXTS for the first of them, and
+ * BOOTIMG_HAS_DEFAULT for bootimg_build_options. */
+#define BOOTIMG_HAS_DESCRIPTION 1u
+#define BOOTIMG_HAS_TEXTS 2u
+#define BOOTIMG_HAS_DEFAULT 1u
+
+/* The algorithms of hash nodes of bootimg_build_fit_as. */
+#define BOOTIMG_ALGORITHM_CRC32 0u
+#define BOOTIMG_ALGORITHM_MD5 1u
+#define BOOTIMG_ALGORITHM_SHA1 2u
+#define BOOTIMG_ALGORITHM_SHA256 3u
+#define BOOTIMG_ALGORITHM_SHA384 4u
+#define BOOTIMG_ALGORITHM_SHA512 5u
+
 /* `place` of an image: the property that places its payload. */
 #define BOOTIMG_PLACE_ABSENT 0u
 #define BOOTIMG_PLACE_DATA 1u
@@ -360,6 +375,59 @@ typedef struct bootimg_build_image {
     uint8_t image_type;
     uint8_t compression;
 } bootimg_build_image;
+
+/* Some of the elements of an array, one after another: the index of the first one, counted from 0,
+ * and their number. */
+typedef struct bootimg_range {
+    size_t first;
+    size_t count;
+} bootimg_range;
+
+/* What is given of an image of a FIT to be built in addition to its bootimg_build_image: a
+ * description, and texts for its node instead of the names of its codes. All are regions of the
+ * input. `given` is a sum of BOOTIMG_HAS_DESCRIPTION and BOOTIMG_HAS_TEXTS, which stands for all
+ * four texts, or 0. A region that is not given is ignored, but must be inside the input. */
+typedef struct bootimg_build_texts {
+    bootimg_region description;
+    bootimg_region image_type;
+    bootimg_region arch;
+    bootimg_region os;
+    bootimg_region compression;
+    uint32_t given;
+} bootimg_build_texts;
+
+/* A configuration of a FIT to be built. The name and the description are regions of the input.
+ * `given` is BOOTIMG_HAS_DESCRIPTION, or 0 if there is no description, whose region must then be
+ * inside the input, too. The other members are ranges of the regions in `lists` of the call: the
+ * texts of `compatible`, and for each key the names of the images that it lists. */
+typedef struct bootimg_build_configuration {
+    bootimg_region name;
+    bootimg_region description;
+    bootimg_range compatible;
+    bootimg_range kernel;
+    bootimg_range fdt;
+    bootimg_range ramdisk;
+    bootimg_range firmware;
+    bootimg_range loadables;
+    bootimg_range script;
+    uint32_t given;
+} bootimg_build_configuration;
+
+/* The options of bootimg_build_fit_as. `size` is sizeof(bootimg_build_options), which is 64. The
+ * description and the name of the default configuration are regions of the input. `time` is the
+ * time of creation, in seconds since 1970. `form`, `limit` and `depth` are as for all calls.
+ * `given` is BOOTIMG_HAS_DEFAULT, or 0 if the first configuration is the default; the region of the
+ * name must then be inside the input, too. */
+typedef struct bootimg_build_options {
+    size_t size;
+    bootimg_region description;
+    bootimg_region default_name;
+    uint32_t time;
+    uint32_t form;
+    uint32_t limit;
+    uint32_t depth;
+    uint32_t given;
+} bootimg_build_options;
 
 /* Returns the kind of a file in `value`, by its first four bytes: BOOTIMG_LEGACY or BOOTIMG_FIT.
  * The other bytes are not examined. The call fails with Truncated at 0 for a file of fewer than
@@ -678,6 +746,48 @@ uint32_t bootimg_build_fit(const uint8_t *input, size_t input_size, const uint8_
                            const bootimg_build_image *images, size_t images_count, uint32_t form,
                            uint32_t limit, uint32_t depth, uint8_t *buffer, size_t buffer_size,
                            bootimg_result *answer);
+
+/* Writes a FIT with these images, configurations and hash nodes. All names and texts are regions of
+ * `input`, which may be anywhere in it.
+ *
+ * `texts` contains an element for each image, in the order of the images. Images without an element
+ * get the names of their codes and the description of the tree, and elements without an image are
+ * ignored. An image or a configuration without a description gets the one of the tree. A
+ * configuration contains the property `compatible`, and the list of names under a key, if the range
+ * is not empty. If there is no configuration, one, `conf-1`, lists the images by their types. Every
+ * image gets a hash node for each of `algorithms`, which are BOOTIMG_ALGORITHM_*, in their order:
+ * `hash-1`, `hash-2` and so on. Without texts, configurations and a default, and with
+ * BOOTIMG_ALGORITHM_SHA256, the call writes the same FIT as bootimg_build_fit.
+ *
+ * The status is BOOTIMG_WRONG_ARGUMENT if a number is out of its range, a region is not inside the
+ * input, or a range is not inside `lists`. The call fails with the first of these that applies:
+ *
+ *   TooLarge       There are more images, or more configurations, than `limit`.
+ *   BadField       At 0: the description contains a zero byte.
+ *   For the images in order, at their index:
+ *   BadField       The name is empty or contains a zero byte or a `/`, or a text contains a zero
+ *                  byte, or there are no texts and the type is multi.
+ *   NoCodeName     There are no texts, and a code has no name.
+ *   DuplicateNode  An earlier image has the name.
+ *   For the configurations in order, at their index:
+ *   BadField       The name is empty or contains a zero byte or a `/`, or it lists a name that no
+ *                  image has.
+ *   DuplicateNode  An earlier configuration has the name.
+ *   After that:
+ *   BadField       At the number of configurations: no configuration has the name of the default.
+ *   BadField       At the index of the image: its own description contains a zero byte.
+ *   BadField       At the index of the configuration: its own description, or one of its texts of
+ *                  `compatible`, contains a zero byte.
+ *   TooLarge       The FIT is longer than `limit`. */
+uint32_t bootimg_build_fit_as(const uint8_t *input, size_t input_size,
+                              const bootimg_build_options *options,
+                              const bootimg_build_image *images, size_t images_count,
+                              const bootimg_build_texts *texts, size_t texts_count,
+                              const bootimg_build_configuration *configurations,
+                              size_t configurations_count, const bootimg_region *lists,
+                              size_t lists_count, const uint32_t *algorithms,
+                              size_t algorithms_count, uint8_t *buffer, size_t buffer_size,
+                              bootimg_result *answer);
 
 /* Writes the name of a code, 0 to 255, of a field, one of BOOTIMG_CODE_OS to
  * BOOTIMG_CODE_COMPRESSION: the name that `bootimg build-legacy` takes. It is the name in

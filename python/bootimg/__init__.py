@@ -41,8 +41,11 @@ from typing import Any, Iterable, Iterator, NamedTuple, TypeVar, overload
 
 __version__ = "0.4.0"
 __all__ = [
+    "ALGORITHMS",
     "Buffer",
+    "BuildConfiguration",
     "BuildImage",
+    "BuildTexts",
     "BootimgError",
     "CODES",
     "CONCERNS",
@@ -132,6 +135,7 @@ CONCERNS = (
 )
 VERDICTS = ("good", "bad", "unknown-algorithm", "no-payload", "malformed")
 KEYS = ("kernel", "fdt", "ramdisk", "firmware", "loadables", "script")
+ALGORITHMS = ("crc32", "md5", "sha1", "sha256", "sha384", "sha512")
 REASONS = (
     "the selection does not fit this kind of image",
     "no such part",
@@ -281,6 +285,49 @@ class _BuildElement(ctypes.Structure):
     ]
 
 
+class _Range(ctypes.Structure):
+    _fields_ = [("first", ctypes.c_size_t), ("count", ctypes.c_size_t)]
+
+
+class _BuildTexts(ctypes.Structure):
+    _fields_ = [
+        ("description", _Region),
+        ("image_type", _Region),
+        ("arch", _Region),
+        ("os", _Region),
+        ("compression", _Region),
+        ("given", ctypes.c_uint32),
+    ]
+
+
+class _BuildConfiguration(ctypes.Structure):
+    _fields_ = [
+        ("name", _Region),
+        ("description", _Region),
+        ("compatible", _Range),
+        ("kernel", _Range),
+        ("fdt", _Range),
+        ("ramdisk", _Range),
+        ("firmware", _Range),
+        ("loadables", _Range),
+        ("script", _Range),
+        ("given", ctypes.c_uint32),
+    ]
+
+
+class _BuildOptions(ctypes.Structure):
+    _fields_ = [
+        ("size", ctypes.c_size_t),
+        ("description", _Region),
+        ("default_name", _Region),
+        ("time", ctypes.c_uint32),
+        ("form", ctypes.c_uint32),
+        ("limit", ctypes.c_uint32),
+        ("depth", ctypes.c_uint32),
+        ("given", ctypes.c_uint32),
+    ]
+
+
 class _HashElement(ctypes.Structure):
     _fields_ = [
         ("image", _Region),
@@ -349,7 +396,7 @@ _CALLS = {
     "compare_json": _FILE * 2 + _NUMBER * 2 + _BUFFER,
     "compare_ignoring": _FILE * 4 + _NUMBER * 2 + _BUFFER,
     "compare_ignoring_json": _FILE * 4 + _NUMBER * 2 + _BUFFER,
-    "build_fit": _FILE * 2 + _NUMBER + _FILE + _NUMBER * 3 + _BUFFER,
+    "build_fit_as": _FILE + [ctypes.c_void_p] + _FILE * 5 + _BUFFER,
     "build_legacy": _FILE + [ctypes.c_void_p] + _FILE + _NUMBER * 2 + _BUFFER,
     "code_name": _NUMBER * 2 + _BUFFER,
     "code_number": _NUMBER + _FILE,
@@ -928,18 +975,96 @@ def _bytes_of(part: Buffer | Part) -> bytes:
     return bytes(part.payload if isinstance(part, Part) else part)
 
 
+class BuildTexts(NamedTuple):
+    """Texts in the node of an image of a FIT to be built, instead of the names of its codes."""
+
+    type: bytes | str
+    arch: bytes | str
+    os: bytes | str
+    compression: bytes | str = "none"
+
+
 class BuildImage(NamedTuple):
     """An image of a FIT to be built. `os`, `arch`, `type` and `compression` are codes of U-Boot:
-    names, which are in CODES, or numbers."""
+    names, which are in CODES, or numbers. With `texts`, the node contains these instead, and codes
+    need not be given. `description` is by default the one of the tree."""
 
     name: bytes | str
     payload: Buffer
-    os: Code
-    arch: Code
-    type: Code
+    os: Code | None = None
+    arch: Code | None = None
+    type: Code | None = None
     compression: Code = "none"
     load: int | None = None
     entry: int | None = None
+    texts: BuildTexts | None = None
+    description: bytes | str | None = None
+
+
+class BuildConfiguration(NamedTuple):
+    """A configuration of a FIT to be built: the names of the images that it lists under each key,
+    and the boards that it is for. A single name or board needs no list. `description` is by default
+    the one of the tree."""
+
+    name: bytes | str
+    kernel: bytes | str | Iterable[bytes | str] = ()
+    fdt: bytes | str | Iterable[bytes | str] = ()
+    ramdisk: bytes | str | Iterable[bytes | str] = ()
+    firmware: bytes | str | Iterable[bytes | str] = ()
+    loadables: bytes | str | Iterable[bytes | str] = ()
+    script: bytes | str | Iterable[bytes | str] = ()
+    compatible: bytes | str | Iterable[bytes | str] = ()
+    description: bytes | str | None = None
+
+
+class _Input:
+    """The memory that the regions of a call are in."""
+
+    def __init__(self) -> None:
+        self.memory = bytearray()
+        self.lists: list[_Region] = []
+
+    def add(self, piece: bytes) -> _Region:
+        """Adds a piece, and returns where it is."""
+        region = _Region(len(self.memory), len(piece))
+        self.memory += piece
+        return region
+
+    def add_text(self, text: bytes | str | None) -> _Region:
+        """Adds a text, and returns where it is. That of no text is empty."""
+        return self.add(b"" if text is None else _name_of(text))
+
+    def add_list(self, texts: bytes | str | Iterable[bytes | str]) -> _Range:
+        """Adds texts to the lists, and returns their range."""
+        first = len(self.lists)
+        for text in [texts] if isinstance(texts, (bytes, str)) else texts:
+            self.lists.append(self.add_text(text))
+        return _Range(first, len(self.lists) - first)
+
+    def add_image(self, image: BuildImage) -> _BuildElement:
+        regions = self.add_text(image.name), self.add(bytes(image.payload))
+        codes = [0, 0, 0, 0] if image.texts else [*map(_code_of, CODES, [image] * 4)]
+        addresses = int(image.load is not None) + 2 * int(image.entry is not None)
+        load, entry = _number(image.load or 0), _number(image.entry or 0)
+        return _BuildElement(*regions, load, entry, addresses, *codes)
+
+    def add_texts(self, image: BuildImage) -> _BuildTexts:
+        given = int(image.description is not None) + 2 * int(image.texts is not None)
+        texts = image.texts or (None, None, None, None)
+        return _BuildTexts(self.add_text(image.description), *map(self.add_text, texts), given)
+
+    def add_configuration(self, made: BuildConfiguration) -> _BuildConfiguration:
+        regions = self.add_text(made.name), self.add_text(made.description)
+        ranges = [self.add_list(getattr(made, key)) for key in ("compatible", *KEYS)]
+        return _BuildConfiguration(*regions, *ranges, int(made.description is not None))
+
+
+def _code_of(field: str, image: BuildImage) -> int:
+    """Returns the number of the code of an image in a field."""
+    code: Code | None = getattr(image, field)
+    if code is None:
+        raise TypeError("BuildImage needs os, arch and type, or texts")
+    return code_number(field, code)
 
 
 def build_fit(
@@ -951,12 +1076,21 @@ def build_fit(
     depth: int = DEPTH,
     *,
     align: int | None = None,
+    configurations: Iterable[BuildConfiguration] = (),
+    default: bytes | str | None = None,
+    hashes: Iterable[str] = ("sha256",),
 ) -> bytes:
-    """Returns a FIT with these images, the SHA-256 of their payloads, and one configuration,
-    `conf-1`, which lists the images by their types. `external` and `align` are as for `normalise`.
-    Raises Refused, with the index of the image or
-    0, with BadField, NoCodeName or DuplicateNode for what cannot be written, and with TooLarge if
-    the FIT is longer than `limit`. The payloads are copied.
+    """Returns a FIT with these images, configurations and hash nodes. Without a configuration,
+    there is one, `conf-1`, which lists the images by their types. `default` is the name of the
+    default configuration, or else the first one is. `hashes` are the algorithms of the hash nodes
+    of each image, some of ALGORITHMS, in their order. `external` and `align` are as for
+    `normalise`. The payloads are copied.
+
+    Raises Refused with BadField, NoCodeName or DuplicateNode for what cannot be written, at the
+    index of the image or of the configuration. A configuration that lists a name that no image has
+    is refused with BadField, and a default that no configuration has at the number of
+    configurations. The offset is 0 for the description. Raises Refused with TooLarge if the FIT is
+    longer than `limit`, and WrongArgument for another algorithm.
 
     >>> import bootimg
     >>> codes = ("linux", "arm64", "kernel")
@@ -966,22 +1100,35 @@ def build_fit(
     [('kernel-1', b'a kernel', 'good')]
     >>> fit.configuration().images("kernel") == fit.images
     True
+    >>> board = bootimg.BuildConfiguration("board-a", "kernel-1", compatible="example,board-a")
+    >>> fit = bootimg.open(bootimg.build_fit([kernel], configurations=[board], hashes=["sha512"]))
+    >>> fit.configuration().name, fit.images[0].hashes[0].algorithm
+    ('board-a', 'sha512')
     """
-    memory, elements = bytearray(), []
-    for image in images:
-        regions = []
-        for piece in (_name_of(image.name), bytes(image.payload)):
-            regions.append(_Region(len(memory), len(piece)))
-            memory += piece
-        codes = [code_number(field, getattr(image, field)) for field in CODES]
-        addresses = int(image.load is not None) + 2 * int(image.entry is not None)
-        load, entry = _number(image.load or 0), _number(image.entry or 0)
-        elements.append(_BuildElement(*regions, load, entry, addresses, *codes))
-    array = (_BuildElement * len(elements))(*elements)
-    form = _form(external, align)
-    numbers = (_number(time), array, len(array), form, _number(limit), _number(depth))
-    room = len(memory) + 4096
-    return _fill("build_fit", room, (bytes(memory), _name_of(description)), *numbers)[0]
+    made, planned, images = _Input(), list(configurations), list(images)
+    options = _BuildOptions(
+        ctypes.sizeof(_BuildOptions),
+        made.add_text(description),
+        made.add_text(default),
+        _number(time),
+        _form(external, align),
+        _number(limit),
+        _number(depth),
+        int(default is not None),
+    )
+    arrays: list[ctypes.Array[Any]] = [
+        (_BuildElement * len(images))(*map(made.add_image, images)),
+        (_BuildTexts * len(images))(*map(made.add_texts, images)),
+        (_BuildConfiguration * len(planned))(*map(made.add_configuration, planned)),
+    ]
+    algorithms = [_index_of(name, ALGORITHMS) for name in hashes]
+    arrays += [
+        (_Region * len(made.lists))(*made.lists),
+        (ctypes.c_uint32 * len(algorithms))(*algorithms),
+    ]
+    rest = [argument for array in arrays for argument in (array, len(array))]
+    room = len(made.memory) + 4096
+    return _fill("build_fit_as", room, (bytes(made.memory),), ctypes.byref(options), *rest)[0]
 
 
 def same_meaning(one: Buffer, other: Buffer, limit: int = LIMIT, depth: int = DEPTH) -> bool:

@@ -24,6 +24,84 @@ pub struct BuildImage<'a> {
     pub compression: u8,
 }
 
+/// Texts in the node of an image of a FIT to be built, instead of the names of its codes.
+#[derive(Clone, Copy, Debug, PartialEq, Eq)]
+pub struct BuildTexts<'a> {
+    /// The image type.
+    pub image_type: &'a [u8],
+    /// The processor architecture.
+    pub arch: &'a [u8],
+    /// The operating system.
+    pub os: &'a [u8],
+    /// The compression.
+    pub compression: &'a [u8],
+}
+
+/// A configuration of a FIT to be built: the names of the images that it lists under each key.
+#[derive(Clone, Copy, Debug, Default, PartialEq, Eq)]
+pub struct BuildConfiguration<'a> {
+    /// The name: at least one byte, none of them zero or a `/`.
+    pub name: &'a [u8],
+    /// The description, if it has another one than the tree.
+    pub description: Option<&'a [u8]>,
+    /// The boards that it is for.
+    pub compatible: &'a [&'a [u8]],
+    /// The images under `kernel`.
+    pub kernel: &'a [&'a [u8]],
+    /// The images under `fdt`.
+    pub fdt: &'a [&'a [u8]],
+    /// The images under `ramdisk`.
+    pub ramdisk: &'a [&'a [u8]],
+    /// The images under `firmware`.
+    pub firmware: &'a [&'a [u8]],
+    /// The images under `loadables`.
+    pub loadables: &'a [&'a [u8]],
+    /// The images under `script`.
+    pub script: &'a [&'a [u8]],
+}
+
+/// An algorithm of a hash node.
+#[derive(Clone, Copy, Debug, PartialEq, Eq)]
+#[allow(missing_docs)]
+pub enum Algorithm {
+    Crc32,
+    Md5,
+    Sha1,
+    Sha256,
+    Sha384,
+    Sha512,
+}
+
+/// The configurations and the hash nodes of a FIT to be built, and what its images have of their
+/// own. By default there is nothing but one SHA-256 of each image.
+#[derive(Clone, Copy, Debug, PartialEq, Eq)]
+pub struct Plan<'a> {
+    /// The configurations. If there are none, one, `conf-1`, lists the images by their types.
+    pub configurations: &'a [BuildConfiguration<'a>],
+    /// The name of the default configuration, if it is not the first one.
+    pub default: Option<&'a [u8]>,
+    /// The algorithms of the hash nodes of each image, in their order.
+    pub algorithms: &'a [Algorithm],
+    /// For each image in order: texts instead of its codes, if it has some. Images without an
+    /// element have none.
+    pub texts: &'a [Option<BuildTexts<'a>>],
+    /// For each image in order: its description, if it has another one than the tree. Images
+    /// without an element have none.
+    pub descriptions: &'a [Option<&'a [u8]>],
+}
+
+impl Default for Plan<'_> {
+    fn default() -> Self {
+        Plan {
+            configurations: &[],
+            default: None,
+            algorithms: &[Algorithm::Sha256],
+            texts: &[],
+            descriptions: &[],
+        }
+    }
+}
+
 /// Returns the legacy image with these fields and parts. The parts are copied.
 ///
 /// # Errors
@@ -139,6 +217,100 @@ pub fn build_fit(
     })
 }
 
+/// Returns a FIT with these images, and with the configurations and hash nodes of a plan. All else
+/// is as for [`build_fit`], which is this call with the default plan.
+///
+/// # Errors
+///
+/// Those of [`build_fit`], and `Refused`: TooLarge if there are more configurations than the limit;
+/// BadField at the index of the first image with a text or a description that has a zero byte; for
+/// each configuration in order, at its index: BadField if its name is empty or has a zero byte or a
+/// `/`, if it lists a name that no image has, or if its description or one of its boards has a zero
+/// byte, and DuplicateNode if an earlier configuration has its name; and BadField at the number of
+/// configurations if none has the name of the default.
+///
+/// ```
+/// use bootimg::{build_fit_as, BuildConfiguration, BuildImage, Fit, Form, Key, Limits, Plan};
+///
+/// let image = BuildImage { os: 5, arch: 22, image_type: 2, ..BuildImage::default() };
+/// let images = [b"a", b"b"].map(|name| BuildImage { name, ..image });
+/// let board = BuildConfiguration {
+///     name: b"board-b",
+///     kernel: &[b"b"],
+///     compatible: &[b"example,board-b"],
+///     ..BuildConfiguration::default()
+/// };
+/// let plan = Plan { configurations: &[board], ..Plan::default() };
+/// let limits = Limits::default();
+/// let file = build_fit_as(&images, b"boards", 0, plan, Form::Embedded, limits)?;
+/// let read = Fit::read(&file, limits)?;
+/// let found = read.default_configuration().unwrap();
+/// assert_eq!((found.name, found.listed(Key::Kernel)?[0].name), (&b"board-b"[..], &b"b"[..]));
+/// # Ok::<(), bootimg::Error>(())
+/// ```
+pub fn build_fit_as(
+    images: &[BuildImage<'_>],
+    description: &[u8],
+    time: u32,
+    plan: Plan<'_>,
+    form: Form,
+    limits: Limits,
+) -> Result<Vec<u8>, Error> {
+    let mut input = Vec::new();
+    let mut lists = Vec::new();
+    let options = sys::BuildOptions {
+        size: std::mem::size_of::<sys::BuildOptions>(),
+        description: add_piece(&mut input, description),
+        default_name: add_piece(&mut input, plan.default.unwrap_or(b"")),
+        time,
+        form: form.number(),
+        limit: limits.limit,
+        depth: limits.depth,
+        given: plan.default.is_some().into(),
+    };
+    let elements: Vec<_> = images
+        .iter()
+        .map(|image| element_of(image, &mut input))
+        .collect();
+    let texts: Vec<_> = (0..plan.texts.len().max(plan.descriptions.len()))
+        .map(|index| texts_of(&plan, index, &mut input))
+        .collect();
+    let configurations: Vec<_> = plan
+        .configurations
+        .iter()
+        .map(|configuration| configuration_of(configuration, &mut input, &mut lists))
+        .collect();
+    let algorithms: Vec<_> = plan
+        .algorithms
+        .iter()
+        .map(|algorithm| *algorithm as u32)
+        .collect();
+    build_of(&input, |buffer, room, answer| {
+        // Safety: the input and the arrays are as long as their lengths, and `build_of` passes a
+        // buffer and its length.
+        unsafe {
+            sys::bootimg_build_fit_as(
+                input.as_ptr(),
+                input.len(),
+                &options,
+                elements.as_ptr(),
+                elements.len(),
+                texts.as_ptr(),
+                texts.len(),
+                configurations.as_ptr(),
+                configurations.len(),
+                lists.as_ptr(),
+                lists.len(),
+                algorithms.as_ptr(),
+                algorithms.len(),
+                buffer,
+                room,
+                answer,
+            )
+        }
+    })
+}
+
 /// Makes a call that builds an image of these bytes, and returns the image. There is room for the
 /// bytes and 4,096 more, for headers, nodes and digests, or for what the library asks for.
 fn build_of(
@@ -160,6 +332,52 @@ fn element_of(image: &BuildImage<'_>, input: &mut Vec<u8>) -> sys::BuildImage {
         arch: image.arch,
         image_type: image.image_type,
         compression: image.compression,
+    }
+}
+
+/// Adds what a plan gives of the image with this index to the input, and returns it for the library.
+fn texts_of(plan: &Plan<'_>, index: usize, input: &mut Vec<u8>) -> sys::BuildTexts {
+    let texts = plan.texts.get(index).copied().flatten();
+    let description = plan.descriptions.get(index).copied().flatten();
+    let mut add = |text: Option<&[u8]>| add_piece(input, text.unwrap_or(b""));
+    sys::BuildTexts {
+        description: add(description),
+        image_type: add(texts.map(|texts| texts.image_type)),
+        arch: add(texts.map(|texts| texts.arch)),
+        os: add(texts.map(|texts| texts.os)),
+        compression: add(texts.map(|texts| texts.compression)),
+        given: u32::from(description.is_some()) + 2 * u32::from(texts.is_some()),
+    }
+}
+
+/// Adds the texts of a configuration to the input, and returns the configuration for the library.
+fn configuration_of(
+    configuration: &BuildConfiguration<'_>,
+    input: &mut Vec<u8>,
+    lists: &mut Vec<sys::Region>,
+) -> sys::BuildConfiguration {
+    let description = configuration.description;
+    let (name, described) = (
+        add_piece(input, configuration.name),
+        add_piece(input, description.unwrap_or(b"")),
+    );
+    let mut add = |texts: &[&[u8]]| {
+        let first = lists.len();
+        lists.extend(texts.iter().map(|text| add_piece(input, text)));
+        let count = texts.len();
+        sys::Range { first, count }
+    };
+    sys::BuildConfiguration {
+        name,
+        description: described,
+        compatible: add(configuration.compatible),
+        kernel: add(configuration.kernel),
+        fdt: add(configuration.fdt),
+        ramdisk: add(configuration.ramdisk),
+        firmware: add(configuration.firmware),
+        loadables: add(configuration.loadables),
+        script: add(configuration.script),
+        given: description.is_some().into(),
     }
 }
 

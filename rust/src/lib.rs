@@ -32,7 +32,10 @@ mod sys;
 mod texts;
 mod values;
 
-pub use building::{build_fit, build_legacy, BuildImage};
+pub use building::{
+    build_fit, build_fit_as, build_legacy, Algorithm, BuildConfiguration, BuildImage, BuildTexts,
+    Plan,
+};
 pub use codes::CodeField;
 pub use concerns::{concerns, Concern};
 pub use error::{Cause, Error, Refusal};

@@ -128,6 +128,56 @@ pub struct BuildImage {
     pub compression: u8,
 }
 
+/// Some of the elements of an array, one after another.
+#[repr(C)]
+#[derive(Clone, Copy, Debug, Default)]
+pub struct Range {
+    pub first: usize,
+    pub count: usize,
+}
+
+/// What is given of an image of a FIT to be built in addition to its codes.
+#[repr(C)]
+#[derive(Clone, Copy, Debug, Default)]
+pub struct BuildTexts {
+    pub description: Region,
+    pub image_type: Region,
+    pub arch: Region,
+    pub os: Region,
+    pub compression: Region,
+    pub given: u32,
+}
+
+/// A configuration of a FIT to be built.
+#[repr(C)]
+#[derive(Clone, Copy, Debug, Default)]
+pub struct BuildConfiguration {
+    pub name: Region,
+    pub description: Region,
+    pub compatible: Range,
+    pub kernel: Range,
+    pub fdt: Range,
+    pub ramdisk: Range,
+    pub firmware: Range,
+    pub loadables: Range,
+    pub script: Range,
+    pub given: u32,
+}
+
+/// The options of building a FIT.
+#[repr(C)]
+#[derive(Clone, Copy, Debug, Default)]
+pub struct BuildOptions {
+    pub size: usize,
+    pub description: Region,
+    pub default_name: Region,
+    pub time: u32,
+    pub form: u32,
+    pub limit: u32,
+    pub depth: u32,
+    pub given: u32,
+}
+
 pub const DONE: u32 = 0;
 pub const REFUSED: u32 = 1;
 pub const OUT_OF_MEMORY: u32 = 2;
@@ -238,6 +288,10 @@ declare! {
     );
     bootimg_build_fit(
         Bytes, usize, Bytes, usize, u32, *const BuildImage, usize, u32, u32, u32, *mut u8, usize
+    );
+    bootimg_build_fit_as(
+        Bytes, usize, *const BuildOptions, *const BuildImage, usize, *const BuildTexts, usize,
+        *const BuildConfiguration, usize, *const Region, usize, *const u32, usize, *mut u8, usize
     );
     bootimg_code_name(u32, u32, *mut u8, usize);
     bootimg_code_number(u32, Bytes, usize);

@@ -3,7 +3,8 @@
 # the functions that the library exports, with the parameters, the struct and the constants of the sources. The module has the same
 # numbers. tests/tools/c_library/calls.c makes each call, as gcc and clang compile it with their sanitizers: on the examples and the
 # vectors of tests/conformance, it and the module do what the program does. The module takes files in any buffer, without a copy
-# (tests/tools/c_library/buffers.py), what `bootimg.open` returns is what the vectors say (tests/tools/c_library/objects.py), and what the
+# (tests/tools/c_library/buffers.py), what `bootimg.open` returns is what the vectors say (tests/tools/c_library/objects.py), what is built
+# of the arguments of `build-fit` is what the program writes (tests/tools/c_library/plans.py), and what the
 # calls for C that take images apart return is the same (tests/tools/c_library/structure.c). mypy finds nothing wrong in its types. The
 # programs in docs/LIBRARY.md print what the document shows, of FITs of 8 MiB; that in Rust is left out without cargo. The script needs gcc,
 # g++, clang, nm, pkg-config, python3, mkimage and dtc, and installs Debian's if one is missing and it runs as root, and so it does mypy,
@@ -82,6 +83,10 @@ check "another bit of a concern is found" is_found "ALLOW_WEAK_HASH 4u" "ALLOW_W
 check "another limit is found" is_found "BOOTIMG_LIMIT 0x7fffffffu" "BOOTIMG_LIMIT 0xffffffffu"
 check "a constant that the library has not is found" is_found "#define BOOTIMG_FDT 1u" "&\\n#define BOOTIMG_TEE 6u"
 check "another version is found" is_found 'BOOTIMG_VERSION "0' 'BOOTIMG_VERSION "9'
+check "another number of an algorithm is found" is_found "ALGORITHM_SHA1 2u" "ALGORITHM_SHA1 3u"
+check "exchanged ranges of a configuration are found" is_found "bootimg_range kernel;" "bootimg_range fdt_, kernel;"
+check "options of another size are found" is_found "bootimg_region default_name;" "bootimg_region default_name, other_name;"
+check "exchanged algorithms of the module are found" is_found '"crc32", "md5"' '"md5", "crc32"'
 check "exchanged keys of the module are found" is_found '"kernel", "fdt"' '"fdt", "kernel"'
 check "exchanged concerns of the module are found" is_found '^    "unhashed",' \
     '    "exchanged",/; s/^    "weak-hash",/    "unhashed",/; s/^    "exchanged",/    "weak-hash",'
@@ -148,6 +153,7 @@ for image in kernel.uimage two-parts.uimage board.itb board-external.itb; do
 done
 "$root/tests/conformance/run" --export runs > log || cat log
 passes python3 "$root/tests/tools/c_library/objects.py" runs libbootimg.so
+passes python3 "$root/tests/tools/c_library/plans.py" runs libbootimg.so
 # The module calls one shared library, so it is tried beside the calls of one compiler.
 module="python3 -m bootimg"
 for compiler in gcc clang; do

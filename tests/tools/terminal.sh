@@ -93,12 +93,13 @@ LEGACY += ["--arch", "arm"]
 NUMBER = "a number below 2^32: decimal, or hexadecimal with 0x"
 hints("a time", [*LEGACY, "--time", "now"], BAD_VALUE, f"--time takes {NUMBER}, not 'now'")
 hints("a load address", [*LEGACY, "--load", "8000h"], BAD_VALUE, f"--load takes {NUMBER}, not '8000h'")
-hints("an entry point", [*LEGACY, "--entry", ""], BAD_VALUE, f"--entry takes {NUMBER}, not '-'")
+hints("an entry point", [*LEGACY, "--entry", ""], BAD_VALUE, f"--entry takes {NUMBER}, not ''")
 hints("a compression", [*LEGACY, "--compression", "gz"], BAD_VALUE,
       "--compression takes one of none, gzip, bzip2, lzma, lzo, lz4, zstd, or a number of at most 255, not 'gz': did you mean 'gzip'?")
 hints("a file without its sign", [*LEGACY, "zImage"], BAD_VALUE, "LEN takes a length in bytes, and a file is given as @zImage")
 hints("a limit", ["list", "--limit", "1"], BAD_VALUE, "--limit takes a number from 64 to 2147483647, not '1'")
 hints("an offset", ["list", "--offset", "a b"], BAD_VALUE, f"--offset takes {NUMBER}, not 'a%20b'")
+hints("an offset that is -", ["list", "--offset", "-"], BAD_VALUE, f"--offset takes {NUMBER}, not '-'")
 hints("an alignment", ["normalise", "--external", "--align", "3"], BAD_VALUE, "--align takes a power of two from 4 to 1048576, not '3'")
 hints("a new time", ["update", "--time", "x"], BAD_VALUE, f"--time takes {NUMBER}, not 'x'")
 hints("a removal", ["update", "--remove", "images"], BAD_VALUE,
@@ -131,7 +132,9 @@ hints("the first of two", ["list", "--limit", "1", "--offset", "x"], BAD_VALUE, 
 hints("a file in an image word", ["build-fit", "k:kernel:arm64:linux:gzip:0x80000:0x80000:Image.gz"], "usage: bad image 0",
       "image 0: LEN takes a length in bytes, and a file is given as @Image.gz")
 hints("an address in an image word", ["build-fit", "k:kernel:arm:linux:none:0:0:5", "d:flat_dt:arm:linux:none::-:5"], "usage: bad image 1",
-      "image 1: LOAD takes an address, or - for none, not '-'")
+      "image 1: LOAD takes an address, or - for none, not ''")
+hints("an image word without a length", ["build-fit", "k:kernel:arm:linux:none:0:0:"], "usage: bad image 0",
+      "image 0: LEN takes a length in bytes, and a file is given as @FILE")
 hints("a type in an image word", ["build-fit", "k:kernl:arm:linux:none:0:0:5"], "usage: bad image 0",
       "image 0: TYPE takes one of standalone, kernel, ramdisk, multi, firmware, script, flat_dt, filesystem, kernel_noload, x86_setup, fpga, "
       "tee, firmware_ivt, pmmc, copro, or a number of at most 255, not 'kernl': did you mean 'kernel'?")

@@ -25,6 +25,8 @@ pub mod NormalisedFiles
 pub mod NoteFacts
 pub mod PieceBuilding
 pub mod Places
+pub mod PlanBuilding
+pub mod PlanCallFacts
 pub mod ShownPages
 pub mod SliceWriting
 pub mod TreeBuilding

@@ -15,6 +15,7 @@ pub mod KnownLegacyCalls
 pub mod KnownNotes
 pub mod KnownNumbers
 pub mod KnownPaths
+pub mod KnownPlanCalls
 pub mod KnownTreeCalls
 pub mod KnownTreeElements
 pub mod KnownValueCalls
@@ -22,6 +23,7 @@ pub mod LegacyElements
 pub mod NodeElements
 pub mod NoteNumbers
 pub mod PieceBuilding
+pub mod PlanBuilding
 pub mod TreeBuilding
 pub mod TreeElements
 pub mod TreeRegions

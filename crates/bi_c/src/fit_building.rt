@@ -82,7 +82,7 @@ pub extern "C" fn bootimg_build_fit(
 ///
 /// Errors: OutOfMemory; WrongArgument, if a region is not inside the input, or `addresses` is not
 /// such a sum.
-fn specs_of<'a>(
+pub(crate) fn specs_of<'a>(
     alloc: Global,
     input: &'a [u8],
     images: &[BuildElement],

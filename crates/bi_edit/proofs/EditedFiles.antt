@@ -1,4 +1,4 @@
-use Rattle.std.proofs.Common.{◌≡◌, ◌<◌, ◌≤◌, ◌^◌, ℕ, List, length, Result, Ok, Err, refl, sym, ap, subst, ◌∙◌, inl, inr, arith}
+use Rattle.std.proofs.Common.{◌≡◌, ◌<◌, ◌≤◌, ◌^◌, ℕ, List, length, Ok, Err, refl, sym, ap, subst, ◌∙◌, inl, inr}
 use Rattle.std.specs.List.{AllByRecursion}
 use Rattle.bi_base.specs.declared.fault.Error.{Error}
 use Rattle.bi_base.specs.declared.fault.Error.TheVariants.{Refused, OutOfMemory, ReadFailed, WriteFailed}
@@ -10,12 +10,12 @@ use Rattle.bi_fit.specs.declared.form.Form.{Form}
 use Rattle.bi_fit.specs.declared.form.Form.TheVariants.{Embedded}
 use Rattle.bi_fit.specs.Content.{FitModel, tree_of}
 use Rattle.bi_fit.specs.Documents.{IsTextError, IsTextOfTree}
-use Rattle.bi_fit.specs.ImageTree.{ImageTree}
+use Rattle.bi_fit.specs.ImageTree.{ImageTree, IsImageTree}
 use Rattle.bi_fit.specs.Reading.{IsFitReadError, IsReadFit}
 use Rattle.bi_fit.specs.Text.{fit_text}
+use Rattle.bi_fit.proofs.FileTrees.{is_image_tree}
 use Rattle.bi_fit.proofs.TextLaws.{normal_fit_text_is_accepted}
 use Rattle.bi_legacy.specs.Emitting.{HasNoEmitFault, WroteImage}
-use Rattle.bi_legacy.specs.File.{LegacyMeans}
 use Rattle.bi_legacy.specs.Meaning.{LegacyImage}
 use Rattle.bi_legacy.specs.Reading.{IsReadLegacy, LegacyModel}
 use Rattle.bi_legacy.specs.Text.{legacy_text}
@@ -35,15 +35,16 @@ use Rattle.bi_edit.specs.declared.edit_notes.EditNotes.{EditNotes}
 use Rattle.bi_edit.specs.declared.form_choice.FormChoice.{FormChoice}
 use Rattle.bi_edit.specs.declared.form_choice.FormChoice.TheVariants as form_choice
 use Rattle.bi_edit.specs.Applying.{IsApplyError}
-use Rattle.bi_edit.specs.EditNotes.{AreEditNotes, AreNoNotes, AreTreeNotes}
+use Rattle.bi_edit.specs.EditNotes.{AreNoNotes, AreTreeNotes}
 use Rattle.bi_edit.specs.EditedFiles.{HasEditError, IsEdited, IsEditFileError, IsEditOutput}
 use Rattle.bi_edit.specs.EditedFits.{IsEditedText, edit_error_of}
 use Rattle.bi_edit.specs.EditLaws.{IsEditOfBytes}
-use Rattle.bi_edit.specs.EditRefusals.{AreOfKind, CanBeMade, IsEditError, IsEditFault, OfDepth, OfEmbeddedText, OfPayloads, OfText}
+use Rattle.bi_edit.specs.EditRefusals.{AreOfKind, CanBeMade, IsEditError, IsEditFault, OfDepth, OfPayloads, OfText}
 use Rattle.bi_edit.specs.Edits.{AllHaveParts, IsFirstWithoutPart, edited_tree, in_edit_order, legacy_after}
 use Rattle.bi_edit.specs.FormChoices.{IsChosenForm}
-use Rattle.bi_edit.proofs.EditedTrees.{order_each}
-use Rattle.bi_edit.proofs.LegacyContents.{HasContent, edits_keep_content, legacy_shallow}
+use Rattle.bi_edit.proofs.EditedTrees.{edits_keep_image_trees, order_each}
+use Rattle.bi_edit.proofs.FormLengths.{embedded_fault_is_fault}
+use Rattle.bi_edit.proofs.LegacyContents.{edits_keep_content, legacy_shallow}
 
 -- What is written of edits of a file, and its errors.
 
@@ -58,8 +59,8 @@ pub edits_out_of_memory : (edits : List Edit) (choice : FormChoice) (limits : Li
 edits_out_of_memory edits choice limits file meaning means = inl (needs_memory limits file meaning means)
 
 -- An error of editing with a sink that fails only if memory runs out.
-pub edit_error_in_memory : {S : Type 0} (fails : S → List ℕ → S → Error → Type 0) (edits : List Edit) (choice : FormChoice) (limits : Limits)
-    (file : List ℕ) (old new : S) (failure : EditError) →
+pub edit_error_in_memory : {S : Type 0} (fails : S → List ℕ → S → Error → Type 0) (edits : List Edit) (choice : FormChoice)
+    (limits : Limits) (file : List ℕ) (old new : S) (failure : EditError) →
     ((text : List ℕ) (cause : Error) → fails old text new cause → cause ≡ OutOfMemory) →
     CommandFailed fails (λ cause. error.Failed cause) (IsEdited edits choice limits file) (IsEditFileError edits choice limits file) old new
     failure → IsEditFileError edits choice limits file failure
@@ -68,22 +69,25 @@ edit_error_in_memory fails edits choice limits file old new failure full (SinkFa
     subst (IsEditFileError edits choice limits file) (sym (same ∙ ap (λ cause. error.Failed cause) (full text cause failed)))
     (edits_out_of_memory edits choice limits file is.meaning is.means.means)
 
--- The error of the blob is one in any form.
-fault_in_form : (limits : Limits) (form : Form) (tree : ImageTree) (edits : List Edit) (fault : Fault) →
-    IsEditFault limits Embedded (OfFit tree) edits fault → IsEditFault limits form (OfFit tree) edits fault
-fault_in_form limits form tree edits fault (OfDepth kind deep is) = OfDepth kind deep is
-fault_in_form limits form tree edits fault (OfPayloads can needs is) = OfPayloads can needs is
-fault_in_form limits form tree edits fault (OfEmbeddedText can is) = OfEmbeddedText can is
-fault_in_form limits form tree edits fault (OfText can is) = OfEmbeddedText can is
+-- The error of the blob is one in any form, since the text in the form Embedded is the shortest.
+module _ (limits : Limits) (form : Form) (tree : ImageTree) (edits : List Edit) (is : IsImageTree tree)
+    (of : AllByRecursion IsEditOfBytes edits) where
+  fault_in_form : (fault : Fault) → IsEditFault limits Embedded (OfFit tree) edits fault →
+      IsEditFault limits form (OfFit tree) edits fault
+  fault_in_form fault (OfDepth kind deep same) = OfDepth kind deep same
+  fault_in_form fault (OfPayloads can needs same) = OfPayloads can needs same
+  fault_in_form fault (OfText can long) =
+      OfText can
+      (embedded_fault_is_fault limits form (edited_tree edits tree) fault (edits_keep_image_trees tree edits is of).is_tree long)
 
-error_in_form : (limits : Limits) (form : Form) (tree : ImageTree) (edits : List Edit) (error : EditError) →
-    IsEditError limits Embedded (OfFit tree) edits error → IsEditError limits form (OfFit tree) edits error
-error_in_form limits form tree edits error.WrongKind is = is
-error_in_form limits form tree edits (error.FindsNothing index) is = is
-error_in_form limits form tree edits (error.Failed (Refused fault)) is = fault_in_form limits form tree edits fault is
-error_in_form limits form tree edits (error.Failed OutOfMemory) is = tt
-error_in_form limits form tree edits (error.Failed ReadFailed) is = absurd is
-error_in_form limits form tree edits (error.Failed WriteFailed) is = absurd is
+  error_in_form : (error : EditError) → IsEditError limits Embedded (OfFit tree) edits error →
+      IsEditError limits form (OfFit tree) edits error
+  error_in_form error.WrongKind has = has
+  error_in_form (error.FindsNothing index) has = has
+  error_in_form (error.Failed (Refused fault)) has = fault_in_form fault has
+  error_in_form (error.Failed OutOfMemory) has = tt
+  error_in_form (error.Failed ReadFailed) has = absurd has
+  error_in_form (error.Failed WriteFailed) has = absurd has
 
 -- ---- a flattened image tree
 
@@ -107,13 +111,16 @@ module _ (edits : List Edit) (choice : FormChoice) (limits : Limits) (file : Lis
   as_file_error (error.Failed failure) has = inr has
 
   -- The blob was not made.
-  pub tree_not_edited : (error : EditError) → IsEditError limits Embedded (OfFit tree) edits error →
+  pub tree_not_edited : AllByRecursion IsEditOfBytes edits → (error : EditError) → IsEditError limits Embedded (OfFit tree) edits error →
       IsEditFileError edits choice limits file error
-  tree_not_edited error is = as_file_error error (file_error error (error_in_form limits form tree edits error is))
+  tree_not_edited of error is =
+      let is_tree = is_image_tree file tree read.means.is_file in
+      as_file_error error (file_error error (error_in_form limits form tree edits is_tree of error is))
 
   module _ (blob : List ℕ) (made : IsEditedText limits tree edits blob) where
     -- It is read, unless memory runs out.
-    pub blob_not_read : (failure : Error) → IsFitReadError limits blob failure → IsEditFileError edits choice limits file (error.Failed failure)
+    pub blob_not_read : (failure : Error) → IsFitReadError limits blob failure →
+        IsEditFileError edits choice limits file (error.Failed failure)
     blob_not_read (Refused fault) is = absurd (is.means_nothing edited made.accepted.means)
     blob_not_read OutOfMemory is = edits_out_of_memory edits choice limits file (OfFit tree) read.means
     blob_not_read ReadFailed is = absurd is

@@ -1,4 +1,4 @@
-use Rattle.std.proofs.Common.{◌≡◌, ℕ, ◌+◌, ◌<◌, ◌^◌, Bool, true, false, List, [], ◌∷◌, bytes_eq, refl}
+use Rattle.std.proofs.Common.{◌≡◌, ℕ, ◌+◌, Bool, true, false, List, [], ◌∷◌, bytes_eq, refl}
 use Rattle.std.specs.Fmt.{decimal}
 use Rattle.std.specs.List.{AllByRecursion}
 use Rattle.bi_base.specs.Cells.{AreBytes}
@@ -154,7 +154,8 @@ edits_keep_content image (edit ∷ later) has of =
     edits_keep_content (edited_legacy image edit) later (edit_keeps_content image edit has of.0) of.1
 
 -- No edit of a legacy image is too deep.
-pub legacy_shallow : (limits : Limits) (image : LegacyImage) (edits : List Edit) → AreOfKind (OfLegacy image) edits → AreShallow limits edits
+pub legacy_shallow : (limits : Limits) (image : LegacyImage) (edits : List Edit) → AreOfKind (OfLegacy image) edits →
+    AreShallow limits edits
 legacy_shallow limits image [] kind = tt
 legacy_shallow limits image (RemoveNode path ∷ later) kind = absurd kind.0
 legacy_shallow limits image (RemoveProperty place ∷ later) kind = absurd kind.0

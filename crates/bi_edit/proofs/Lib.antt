@@ -22,5 +22,12 @@ pub mod OtherValues
 pub mod OtherDigests
 pub mod EditLaws
 pub mod OldImages
+pub mod TreeNotes
 pub mod EditedTrees
+pub mod FormLengths
 pub mod EditedFiles
+pub mod PlacedLists
+pub mod ChosenForms
+pub mod PlacedFacts
+pub mod EditNoteFacts
+pub mod EditOutputFacts

@@ -1,4 +1,4 @@
-use Rattle.std.proofs.Common.{◌≡◌, ◌&&◌, ℕ, zero, suc, ◌+◌, ◌-◌, Bool, true, false, List, [], ◌∷◌, ◌++◌, Option, Some, None, bytes_eq, map, filter, length}
+use Rattle.std.proofs.Common.{◌≡◌, ◌&&◌, ℕ, suc, ◌+◌, ◌-◌, Bool, true, false, List, [], ◌∷◌, ◌++◌, Option, Some, None, bytes_eq, map, filter, length}
 use Rattle.std.proofs.Common.{option_map, slice_get, is_some, refl, sym, ap, subst, ◌∙◌, arith}
 use Rattle.std.specs.Option.{option_and_then}
 use Rattle.std.specs.List.{AllZip}
@@ -10,12 +10,11 @@ use Rattle.bi_fdt.specs.Content.{root_of}
 use Rattle.bi_fit.specs.declared.form.Form.TheVariants.{External}
 use Rattle.bi_fit.specs.declared.image.Image.{Image}
 use Rattle.bi_fit.specs.declared.image.Place.{Place}
-use Rattle.bi_fit.specs.Content.{FitModel, ImageModel, IsHeld, IsReadImage, image_model, index_from, index_of, place_of, place_or_absent, tree_of}
+use Rattle.bi_fit.specs.Content.{FitModel, ImageModel, IsHeld, IsReadImage, image_model, index_from, index_of, place_or_absent, tree_of}
 use Rattle.bi_fit.specs.ImageTree.{image_nodes, nodes_or_none}
 use Rattle.bi_fit.specs.Judgement.{image_named, images_of, images_with, signature_count}
 use Rattle.bi_fit.specs.Judgement.{Image as TreeImage}
 use Rattle.bi_fit.specs.Kept.{PlacedPayload, payload_if_placed, placed_payloads}
-use Rattle.bi_fit.specs.Payloads.{source_of}
 use Rattle.bi_fit.specs.Reading.{IsReadFit}
 use Rattle.bi_fit.specs.Text.{blob_of, end_after, fit_text, payload_places, payloads_end}
 use Rattle.bi_fit.proofs.FileNodes.{bare_image, image_siblings}
@@ -92,7 +91,8 @@ place_same file (node first own children later) (image ∷ images) read name =
 
 payload_same : (file : List ℕ) (entries : List (Sibling FileNode)) (images : List ImageModel) → AllZip (IsReadImage file) entries images →
     (name : List ℕ) →
-    option_and_then (λ before. before.payload) (image_named name (images_with (map bare_image entries) (map (λ image. image.payload) images)))
+    option_and_then (λ before. before.payload)
+    (image_named name (images_with (map bare_image entries) (map (λ image. image.payload) images)))
     ≡ payload_or_none (model_named name images)
 payload_same file [] [] read name = refl
 payload_same file [] (image ∷ images) read name = absurd read

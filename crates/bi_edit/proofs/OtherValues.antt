@@ -1,7 +1,7 @@
-use Rattle.std.proofs.Common.{◌≡◌, ℕ, Bool, true, false, cond, List, [], ◌∷◌, ◌++◌, Option, Some, None, bytes_eq, is_some, option_map, refl, sym, ap, subst, ◌∙◌}
+use Rattle.std.proofs.Common.{◌≡◌, ℕ, Bool, true, false, List, [], ◌∷◌, Option, Some, None, bytes_eq, is_some, option_map, refl, sym, ap, subst, ◌∙◌}
 use Rattle.std.proofs.Common.{nat_cmp, true≢false}
 use Rattle.std.specs.Option.{option_and_then}
-use Rattle.std.specs.FinMap.{empty, get, get-empty, insert, remove}
+use Rattle.std.specs.FinMap.{empty, get, get-empty}
 use Rattle.std.specs.Cmp.Lexicographic.{slice_cmp}
 use Rattle.bi_base.proofs.EqualBytes.{same_bytes}
 use Rattle.bi_blob.specs.Tree.{Nodes, none, node, Root, PropertyMap}
@@ -22,8 +22,8 @@ module _ {Own : Type 0} where
   abbrev StaysWith : List ℕ → (Root Own → Root Own) → List ℕ → Nodes Own → Type 0
   StaysWith name change other nodes = child_named (with_node name change nodes) other ≡ child_named nodes other
 
-  pub other_child_with : (name : List ℕ) (change : Root Own → Root Own) (other : List ℕ) → bytes_eq name other ≡ false → (nodes : Nodes Own) →
-      StaysWith name change other nodes
+  pub other_child_with : (name : List ℕ) (change : Root Own → Root Own) (other : List ℕ) → bytes_eq name other ≡ false →
+      (nodes : Nodes Own) → StaysWith name change other nodes
   other_child_with name change other differs none = refl
   other_child_with name change other differs (node third own children later) =
       by (bytes_eq third name) refl (bytes_eq third other) refl (other_child_with name change other differs later)

@@ -1,4 +1,4 @@
-use Rattle.std.specs.Prelude.{◌≡◌, ℕ, ⊤, List, Some, slice_get, Contains}
+use Rattle.std.specs.Prelude.{◌≡◌, ℕ, List, Some, slice_get, Contains}
 use Rattle.std.specs.List.{AllByRecursion}
 use Rattle.bi_base.specs.declared.fault.Cause.TheVariants.{TooDeep}
 use Rattle.bi_base.specs.declared.fault.Error.TheVariants.{OutOfMemory}
@@ -7,7 +7,6 @@ use Rattle.bi_base.specs.Errors.{IsFaultOrNoMemory}
 use Rattle.bi_base.specs.Limits.{Limits}
 use Rattle.bi_base.specs.Reading.{too_large}
 use Rattle.bi_fit.specs.declared.form.Form.{Form}
-use Rattle.bi_fit.specs.declared.form.Form.TheVariants.{Embedded}
 use Rattle.bi_fit.specs.Documents.{IsTextFault}
 use Rattle.bi_legacy.specs.Emitting.{IsEmitFault}
 use Rattle.bi_norm.specs.Meaning.{Meaning, OfLegacy, OfFit}
@@ -74,8 +73,7 @@ IsNormalTextFault limits form (OfLegacy image) fault = IsEmitFault limits image 
 IsNormalTextFault limits form (OfFit tree) fault = IsTextFault limits form tree fault
 
 -- The fault of edits of this kind of boot image: one of them is too deep; they can be made, but the
--- payloads are over the payload bound; or the text of the edited meaning has a fault, in this form or
--- in the form Embedded.
+-- payloads are over the payload bound; or the text of the edited meaning has a fault.
 pub data IsEditFault (limits : Limits) (form : Form) (meaning : Meaning) (edits : List Edit)
     (fault : Fault) : Type 0 where
   OfDepth : AreOfKind meaning edits → HasTooDeep limits edits
@@ -83,9 +81,6 @@ pub data IsEditFault (limits : Limits) (form : Form) (meaning : Meaning) (edits 
       → IsEditFault limits form meaning edits fault
   OfPayloads : CanBeMade limits meaning edits → NeedsTooMuch limits meaning edits
       → fault ≡ too_large limits.file → IsEditFault limits form meaning edits fault
-  OfEmbeddedText : CanBeMade limits meaning edits
-      → IsNormalTextFault limits Embedded (meaning_after edits meaning) fault
-      → IsEditFault limits form meaning edits fault
   OfText : CanBeMade limits meaning edits
       → IsNormalTextFault limits form (meaning_after edits meaning) fault
       → IsEditFault limits form meaning edits fault

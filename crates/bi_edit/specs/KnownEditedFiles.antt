@@ -6,6 +6,9 @@ use Rattle.bi_base.specs.Limits.{Limits}
 use Rattle.bi_fit.specs.declared.form.Form.TheVariants.{Embedded, External, Aligned}
 use Rattle.bi_fit.specs.declared.image.Place.TheVariants.{Absent, Data, DataOffset, DataPosition}
 use Rattle.bi_fit.specs.Kept.{PlacedPayload}
+use Rattle.bi_fit.specs.KnownFiles.{plain_tree, position_file, three_aligned, three_embedded}
+use Rattle.bi_fit.specs.KnownFiles.{three_tree}
+use Rattle.bi_legacy.specs.Meaning.{LegacyImage}
 use Rattle.bi_norm.specs.Meaning.{OfFit, OfLegacy}
 use Rattle.bi_edit.specs.declared.edit.Edit.TheVariants.{RemoveNode, SetField, SetPayload}
 use Rattle.bi_edit.specs.declared.edit.Edit.TheVariants.{SetDigests, SetTime}
@@ -41,7 +44,8 @@ pub record EditedMeaningsAreKnown : Type 0 where
 abbrev pub payload_at_offset : (offset : ℕ) → PlacedPayload
 payload_at_offset offset = record { old_offset = offset; new_offset = 0; has_position = false }
 
--- The form of a file: that of `mkimage -E -B 0x1000`, with a payload at 4096, and with one at 6.
+-- The form of a file: that of `mkimage -E -B 0x1000`, with a payload at 4096, and with one at 6. A
+-- form that is given is the form. Otherwise it is that of the file.
 pub record FormsOfFilesAreKnown : Type 0 where
   pub inside : IsFormOfPlaced [] Embedded
   pub not_outside : (align : Align) → ¬ (IsFormOfPlaced [] (Aligned align))
@@ -52,6 +56,13 @@ pub record FormsOfFilesAreKnown : Type 0 where
       → IsFormOfPlaced (payload_at_offset 6 ∷ []) (Aligned align)
   pub given : (payload : List ℕ)
       → IsChosenForm (choice.Given External) [] (OfFit (board_tree payload)) External
+  pub of_aligned : (align : Align) → align_bytes align ≡ 4096
+      → IsChosenForm choice.Keep (three_aligned 4096 4096) (OfFit three_tree) (Aligned align)
+  pub of_position : (align : Align) → align_bytes align ≡ 4
+      → IsChosenForm choice.Keep position_file
+      (OfFit (plain_tree (codes "a" ∷ []) (Some (codes "new") ∷ []))) (Aligned align)
+  pub of_embedded : IsChosenForm choice.Keep three_embedded (OfFit three_tree) Embedded
+  pub of_legacy : (image : LegacyImage) → IsChosenForm choice.Keep [] (OfLegacy image) Embedded
 
 -- Of a place, whether it is outside the blob, and fixed.
 pub record PlacesAreKnown : Type 0 where

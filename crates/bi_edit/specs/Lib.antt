@@ -17,3 +17,5 @@ pub mod OldImages
 pub mod PlacedPayloads
 pub mod EditedFiles
 pub mod KnownEditedFiles
+pub mod KnownEditNotes
+pub mod KnownEditOutputs

@@ -1,6 +1,5 @@
-use Rattle.std.specs.Prelude.{ℕ, List, [], ◌∷◌, map, Option, Some, None}
+use Rattle.std.specs.Prelude.{List, [], ◌∷◌, map, Option, Some, None}
 use Rattle.bi_fit.specs.declared.image.Image.{Image}
-use Rattle.bi_fit.specs.Content.{image_model}
 use Rattle.bi_fit.specs.Kept.{PlacedPayload, placed_payloads}
 use Rattle.bi_fit.specs.NormalNodes.{payloads_of}
 use Rattle.bi_edit.specs.declared.outside_payloads.OutsidePayload.{OutsidePayload}

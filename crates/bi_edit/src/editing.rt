@@ -144,6 +144,7 @@ fn edit_tree<'a, S: Sink>(
         (IsEdited edits.entry.now choice limits file)
         (IsEditFileError edits.entry.now choice limits file) sink.old sink.new) }
 {
+    know_edits(edits);
     let form = chosen_form(alloc, choice, fit)?;
     let blob = edit_fit(alloc, fit, edits, limits)?;
     let edited = Fit::read(alloc, &blob, limits)?;

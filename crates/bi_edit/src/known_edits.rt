@@ -3,6 +3,8 @@
 ghost use Rattle.bi_edit.specs.KnownEditedFiles.{EditBoundsAreKnown, EditErrorsAreKnown};
 ghost use Rattle.bi_edit.specs.KnownEditedFiles.{EditedMeaningsAreKnown, FormsOfFilesAreKnown};
 ghost use Rattle.bi_edit.specs.KnownEditedFiles.{PlacesAreKnown};
+ghost use Rattle.bi_edit.specs.KnownEditNotes.{NotesOfAlignedAreKnown, NotesOfPositionAreKnown};
+ghost use Rattle.bi_edit.specs.KnownEditOutputs.{EditFileErrorsAreKnown, EditedTextsAreKnown};
 ghost use Rattle.bi_edit.specs.KnownEditWords.{EditWordsAreKnown, OtherEditWordsAreKnown};
 ghost use Rattle.bi_edit.specs.KnownEdits.{EditsAreKnown, LegacyEditsAreKnown, OrderIsKnown};
 ghost use Rattle.bi_edit.specs.KnownEdits.{EditRefusalsAreKnown};
@@ -51,3 +53,24 @@ pub fn edit_errors_are_known()
     ensures bounds { EditBoundsAreKnown }
     ensures errors { EditErrorsAreKnown }
 {}
+
+/// A user should know of edits that move the payload of a small file into the blob, or that take
+/// its position or its alignment, and of nothing else.
+pub fn edit_notes_are_known()
+    ensures position { NotesOfPositionAreKnown }
+    ensures aligned { NotesOfAlignedAreKnown }
+{}
+
+/// Small boot images have known texts after edits.
+pub fn edited_texts_are_known()
+    ensures { EditedTextsAreKnown }
+{
+    bi_norm::laws::one_meaning();
+}
+
+/// Editing small files fails with known errors, and with no others.
+pub fn edit_file_errors_are_known()
+    ensures { EditFileErrorsAreKnown }
+{
+    bi_norm::laws::one_meaning();
+}

@@ -4,15 +4,16 @@ use Rattle.std.specs.Prelude.{◌↔◌, IfNone, IfSome, IsTrue, is_some, nat_le
 use Rattle.std.specs.Option.{option_or}
 use Rattle.std.specs.List.{AllByRecursion, find}
 use Rattle.std.proofs.lemmas.List.Folds.{find-append}
-use Rattle.std.proofs.lemmas.List.{append_assoc, flat_map-append, map-append, map_more, take-append-drop, take_all, take_more}
+use Rattle.std.proofs.lemmas.List.{append_assoc, map-append, map_more, take-append-drop, take_all, take_more}
 use Rattle.std.proofs.lemmas.Bool.{le-leb, lt-leb}
-use Rattle.std.proofs.lemmas.List.Concat.{flat_map_single}
+use Rattle.std.proofs.lemmas.List.Concat.{flat_map-append, flat_map_single}
 use Rattle.bi_base.proofs.ListMembers.{each-append}
 use Rattle.std.specs.Borrow.{Bor}
 use Rattle.bi_edit.specs.declared.words.PayloadWord.{PayloadWord}
 use Rattle.bi_edit.specs.EditWords.{IsPayloadWord}
 use Rattle.bootimg.specs.CommandLine.{NoneIs, texts_of}
-use Rattle.bootimg.specs.RefusedWords.{FindsFirst, GivenWordModel, IsFirstRefusedWord, IsRefused, OptionTextModel, all_option_words}
+use Rattle.bootimg.specs.RefusedWords.{FindsFirst, GivenWordModel, IsFirstRefusedWord, IsRefused, OptionTextModel, RefusedWordModel}
+use Rattle.bootimg.specs.RefusedWords.{all_option_words}
 use Rattle.bootimg.specs.RefusedWords.{option_words}
 use Rattle.bootimg.specs.RefusedWords.{option_text_model, taking_options, words_given}
 use Rattle.bootimg.specs.RefusedWords.{edits_between, first_near, given_word}
@@ -90,15 +91,15 @@ pub none_refused : {X : Type 0} (f : X → List GivenWordModel) (xs : List X) (i
 none_refused f xs i past all = subst (λ l. AllByRecursion IsTakenThere (flat_map f l)) (take_all i xs past) all
 
 -- What a list of words gives past its end.
-abbrev pub no_word : Bor (List ℕ)
-no_word = record { ref_ptr = (0, 0); now = [] }
+abbrev pub no_lent_word : Bor (List ℕ)
+no_lent_word = record { ref_ptr = (0, 0); now = [] }
 
 -- What lists give past their ends.
-abbrev pub no_given : GivenWord
-no_given = record { place = place.Option no_word; takes = takes.Anything; word = no_word }
+abbrev pub no_given_word : GivenWord
+no_given_word = record { place = place.Option no_lent_word; takes = takes.Anything; word = no_lent_word }
 
 abbrev pub no_option : OptionText
-no_option = record { name = no_word; value_name = no_word; help = no_word; form = form.Flag; takes = takes.Anything }
+no_option = record { name = no_lent_word; value_name = no_lent_word; help = no_lent_word; form = form.Flag; takes = takes.Anything }
 
 -- ---- one word for each
 
@@ -114,6 +115,10 @@ pub found_in_map : {X : Type 0} (f : X → GivenWordModel) (xs : List X) (found 
     (only f) xs) found
     → FindsFirst (map f xs) found
 found_in_map f xs found is = subst (λ l. FindsFirst l found) (flat_map_single f xs) is
+
+-- A refused word, with a name that is near it.
+abbrev pub given_near : GivenWordModel → (near : Option (List ℕ)) → RefusedWordModel
+given_near given near = record { given = given; near = near }
 
 -- ---- options
 
@@ -166,55 +171,56 @@ more_options values table i d (Some given) texts within named first is none = ab
 
 near_at : (most : ℕ) (names : List (Bor (List ℕ))) (word : List ℕ) (i : ℕ) → i < length names
     → first_near most (texts_of (take i names)) word ≡ None
-    → first_near most (texts_of (take (i + 1) names)) word ≡ first_near most ((get_or names i no_word).now ∷ []) word
+    → first_near most (texts_of (take (i + 1) names)) word ≡ first_near most ((get_or names i no_lent_word).now ∷ []) word
 near_at most names word i within none =
-    let near = λ name. nat_le (edits_between word name) most in
-    let one = (get_or names i no_word).now in
-    ap (find near) (map_more (λ name. name.now) names i no_word within)
+    let near : List ℕ → Bool = λ name. nat_le (edits_between word name) most in
+    let one = (get_or names i no_lent_word).now in
+    ap (find near) (map_more (λ name. name.now) names i no_lent_word within)
     ∙ find-append near (texts_of (take i names)) (one ∷ [])
     ∙ ap (λ first. option_or first (find near (one ∷ []))) none
 
 -- A name is near, and none before it is.
 pub near_found : (most : ℕ) (names : List (Bor (List ℕ))) (word : List ℕ) (i : ℕ) → i < length names
-    → first_near most (texts_of (take i names)) word ≡ None → edits_between word (get_or names i no_word).now ≤ most
-    → first_near most (texts_of names) word ≡ Some (get_or names i no_word).now
+    → first_near most (texts_of (take i names)) word ≡ None → edits_between word (get_or names i no_lent_word).now ≤ most
+    → first_near most (texts_of names) word ≡ Some (get_or names i no_lent_word).now
 near_found most names word i within none few =
-    let near = λ name. nat_le (edits_between word name) most in
-    let one = (get_or names i no_word).now in
-    ap (find near) (sym (map-append (λ name. name.now) (take (i + 1) names) (drop (i + 1) names)
-    ∙ ap (map (λ name. name.now)) (take-append-drop (i + 1) names)))
+    let near : List ℕ → Bool = λ name. nat_le (edits_between word name) most in
+    let one = (get_or names i no_lent_word).now in
+    let found : first_near most (texts_of (take (i + 1) names)) word ≡ Some one =
+    near_at most names word i within none ∙ rw (le-leb (edits_between word one) most few) refl in
+    ap (find near) (sym (ap (map (λ name. name.now)) (take-append-drop (i + 1) names))
+    ∙ map-append (λ name. name.now) (take (i + 1) names) (drop (i + 1) names))
     ∙ find-append near (texts_of (take (i + 1) names)) (texts_of (drop (i + 1) names))
-    ∙ ap (λ first. option_or first (find near (texts_of (drop (i + 1) names))))
-    (near_at most names word i within none ∙ rw (le-leb (edits_between word one) most few) refl)
+    ∙ ap (λ first. option_or first (find near (texts_of (drop (i + 1) names)))) found
 
 -- It is not.
 pub near_not_yet : (most : ℕ) (names : List (Bor (List ℕ))) (word : List ℕ) (i : ℕ) → i < length names
-    → first_near most (texts_of (take i names)) word ≡ None → most < edits_between word (get_or names i no_word).now
+    → first_near most (texts_of (take i names)) word ≡ None → most < edits_between word (get_or names i no_lent_word).now
     → first_near most (texts_of (take (i + 1) names)) word ≡ None
 near_not_yet most names word i within none many =
-    let one = (get_or names i no_word).now in
+    let one = (get_or names i no_lent_word).now in
     near_at most names word i within none ∙ rw (lt-leb (edits_between word one) most many) refl
 
 -- ---- whether a word is taken
 
 pub true_is_taken : (taken : Bool) (Is : Type 0) → IsTrue taken ↔ Is → taken ≡ true → Is
-true_is_taken taken Is says yes = says.0 yes
+true_is_taken taken Is says holds = says.0 holds
 
 pub false_is_refused : (taken : Bool) (Is : Type 0) → IsTrue taken ↔ Is → taken ≡ false → ¬ Is
-false_is_refused taken Is says no is = true≢false (sym (says.1 is) ∙ no)
+false_is_refused taken Is says fails is = true≢false (sym (says.1 is) ∙ fails)
 
 -- An option with a value exactly for words that are taken.
 pub taken_if_some : {T : Type 0} (Is : T → Type 0) (given : Option T) (is_given : Bool) → IfSome given Is → IfNone given (NoneIs Is)
     → is_given ≡ is_some given → IsTrue is_given ↔ ((value : T) × Is value)
-taken_if_some Is None is_given some none same = (λ yes. absurd (true≢false (sym yes ∙ same)), λ is. absurd (none is.0 is.1))
-taken_if_some Is (Some value) is_given some none same = (λ yes. (value, some), λ is. same)
+taken_if_some Is None is_given some none same = (λ holds. absurd (true≢false (sym holds ∙ same)), λ is. absurd (none is.0 is.1))
+taken_if_some Is (Some value) is_given some none same = (λ holds. (value, some), λ is. same)
 
 -- The same, if the value is known by its word.
 pub taken_if_known : {T : Type 0} (Is : T → Type 0) (given : Option T) (is_given : Bool) → IfSome given Is
     → ((value : T) → Is value → given ≡ Some value) → is_given ≡ is_some given → IsTrue is_given ↔ ((value : T) × Is value)
 taken_if_known Is None is_given some exactly same =
-    (λ yes. absurd (true≢false (sym yes ∙ same)), λ is. absurd (let e : None ≡ Some is.0 = exactly is.0 is.1 in cc))
-taken_if_known Is (Some value) is_given some exactly same = (λ yes. (value, some), λ is. same)
+    (λ holds. absurd (true≢false (sym holds ∙ same)), λ is. absurd (let e : None ≡ Some is.0 = exactly is.0 is.1 in cc))
+taken_if_known Is (Some value) is_given some exactly same = (λ holds. (value, some), λ is. same)
 
 -- The same for the word for a new payload.
 pub payload_is_taken : (word : List ℕ) (given : Option PayloadWord) (is_given : Bool)
@@ -222,5 +228,5 @@ pub payload_is_taken : (word : List ℕ) (given : Option PayloadWord) (is_given 
     → IfNone given ((image file : List ℕ) → IsPayloadWord word image file → ⊥) → is_given ≡ is_some given
     → IsTrue is_given ↔ ((image : List ℕ) × (file : List ℕ) × IsPayloadWord word image file)
 payload_is_taken word None is_given some none same =
-    (λ yes. absurd (true≢false (sym yes ∙ same)), λ is. absurd (none is.0 is.1 is.2))
-payload_is_taken word (Some payload) is_given some none same = (λ yes. (payload.image, payload.file.now, some), λ is. same)
+    (λ holds. absurd (true≢false (sym holds ∙ same)), λ is. absurd (none is.0 is.1 is.2))
+payload_is_taken word (Some payload) is_given some none same = (λ holds. (payload.image, payload.file.now, some), λ is. same)

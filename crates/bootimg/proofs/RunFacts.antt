@@ -1,4 +1,4 @@
-use Rattle.std.proofs.Common.{◌≡◌, ℕ, Bool, false, true, List, Option, Result, Ok, Err, inl, inr, refl, subst, sym}
+use Rattle.std.proofs.Common.{◌≡◌, ℕ, Bool, false, true, List, Option, Some, Result, Ok, Err, inl, inr, refl, subst, sym}
 use Rattle.std.specs.Prelude.{◌↔◌, IfSome, IsTrue}
 use Rattle.clap.specs.declared.error.kind.ErrorKind.{ErrorKind}
 use Rattle.clap.specs.declared.error.kind.ErrorKind.TheVariants.{DisplayHelp, DisplayVersion}
@@ -79,12 +79,23 @@ run_is_rejected source failure hint run read written changed reports status = re
   status = status;
 }
 
+-- So it was with the hint for the failure.
+pub run_is_kept : (hints : Bool) (source : ImageSource) (failure : Failure) (hint : Option (List ℕ)) (run : Run)
+    → hint ≡ hint_given hints failure → IsRejection source failure hint run → IsRejection source failure (hint_given hints failure) run
+run_is_kept hints source failure hint run is rejected = subst (λ given. IsRejection source failure given run) is rejected
+
 -- The hint for a failure that is not one of the arguments is one for it, whatever the arguments.
 pub hint_of_failure : (hints : Bool) (arguments : List (List ℕ)) (failure : Failure) (hint : Option (List ℕ))
     → failure ≡ Call OutOfMemory → hint ≡ hint_given hints failure → IsHintAt hints arguments failure hint
 hint_of_failure false arguments failure hint memory is = is
 hint_of_failure true arguments failure hint memory is =
     subst (λ sentence. IfSome sentence (IsUsageHint arguments failure)) (sym is) (OfFailure (rw memory refl) refl)
+
+-- A hint for a failure of the arguments is given.
+pub hint_is_given : (hints : Bool) (arguments : List (List ℕ)) (failure : Failure) (sentence : List ℕ) → hints ≡ true
+    → IsUsageHint arguments failure sentence → IsHintAt hints arguments failure (Some sentence)
+hint_is_given true arguments failure sentence given is = is
+hint_is_given false arguments failure sentence given is = absurd cc
 
 -- A task that was done, or that failed, is work on it.
 pub run_succeeds : (promise : Promise) (source : ImageSource) (limits : Limits) (work : Work) (result : Result Done Failure) (done : Done)

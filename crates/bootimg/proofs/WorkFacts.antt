@@ -45,6 +45,7 @@ use Rattle.clap.proofs.OnLiterals.{clap_on_literals}
 use Rattle.bootimg.specs.CommandLine.{Gives, IsExplained, IsJob, TakesImages}
 use Rattle.bootimg.specs.Explanations.{explain_text}
 use Rattle.bootimg.specs.Failures.{failure_of}
+use Rattle.bootimg.specs.KnownHints.{no_terminal}
 use Rattle.bootimg.specs.KnownInputs.{two_files, without_files}
 use Rattle.bootimg.specs.KnownWorks.{AllWorksAreKnown, ExplainRunsAreKnown, ExplainWorkIsKnown, FitPlansAreKnown, ImageWorksAreKnown}
 use Rattle.bootimg.specs.KnownWorks.{OutputsInFilesAreKnown, PartsOfFilesAreKnown, TaskFailuresAreKnown, TaskOutputsAreKnown}
@@ -56,6 +57,7 @@ use Rattle.bootimg.specs.ProgramRuns.{ExtractedAll, RanEach}
 use Rattle.bootimg.specs.Runs.{IsFileNotRead, CouldNotOpen, OpenedNotRead, IsHeldFailure, IsHeldWork, IsJobWork, IsPlanWork, IsOutputRun}
 use Rattle.bootimg.specs.Runs.{IsPart, IsPartNotRead, IsSavedWork, IsTaskWork, NoMemoryForExplanation, NoOutput, NotExtracted, Notes}
 use Rattle.bootimg.specs.ProgramRuns.{IsRun}
+use Rattle.bootimg.specs.Runs.{DidJob, KeptFromTerminal}
 use Rattle.bootimg.specs.Runs.{NothingRead, OutputNotSaved, OutputSaved, PayloadsNotSaved, PayloadsSaved, Run, Succeeded}
 use Rattle.bootimg.specs.ProgramRuns.{RanJob, Rejected}
 use Rattle.bootimg.specs.Runs.{ToFile, ToStandardOutput, Work, WroteExplanation, failure_in_memory, source_failure}

@@ -25,8 +25,8 @@ given_names_of ImageType = given_type_names
 given_names_of Compression = compression_names
 
 -- The names without their codes.
-abbrev pub names_of_field : CodeField → List (List ℕ)
-names_of_field field = map (λ (entry : CodeName). entry.name) (given_names_of field)
+abbrev pub names_given_for : CodeField → List (List ℕ)
+names_given_for field = map (λ (entry : CodeName). entry.name) (given_names_of field)
 
 -- The argument is this code of a field: its name, or if no code of the field has this name, a
 -- number of at most 255.

@@ -5,7 +5,7 @@ use Rattle.bi_base.specs.Causes.{name_of}
 use Rattle.bi_base.specs.declared.fault.Error.{Error}
 use Rattle.bi_base.specs.declared.fault.Error.TheVariants.{Refused, OutOfMemory, ReadFailed}
 use Rattle.bi_base.specs.declared.fault.Error.TheVariants.{WriteFailed}
-use Rattle.bi_common.specs.Shown.{shown_text}
+use Rattle.bi_common.specs.Shown.{shown_byte}
 use Rattle.bootimg.specs.Explanations.{name_of_message}
 use Rattle.bootimg.specs.RefusedWords.{AtArgument, AtField, AtOption, FindsRefusedWord}
 use Rattle.bootimg.specs.RefusedWords.{PlaceModel, RefusedWordModel, refused_model}
@@ -51,10 +51,12 @@ abbrev pub taken_text : Takes → List ℕ
 taken_text takes =
     words_before_names takes ++ (names_with_commas (names_taken takes) ++ words_after_names takes)
 
--- The word: as the name of a file if a file may be given, and else that it is not taken.
+-- The word: as the name of a file if a file may be given, and else that it is not taken. Its bytes
+-- are shown as those of names are.
 abbrev pub word_text : Takes → (word : List ℕ) → List ℕ
-word_text Part word = shown_text word
-word_text other word = codes ", not '" ++ (shown_text word ++ codes "'")
+word_text Part [] = codes "FILE"
+word_text Part word = flat_map shown_byte word
+word_text other word = codes ", not '" ++ (flat_map shown_byte word ++ codes "'")
 
 -- The name that may be meant, if there is one.
 abbrev pub near_text : Option (List ℕ) → List ℕ

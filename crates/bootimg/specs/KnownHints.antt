@@ -49,9 +49,21 @@ pub record RefusedWordsAreKnown : Type 0 where
     word = codes "x y";
   })
       ≡ codes "NAME takes a name that bootimg explain prints, or a line of bootimg, not 'x%20y'"
+  pub no_word : hint_for (record {
+    place = AtField 1 (codes "LOAD");
+    takes = takes.Address;
+    word = codes "";
+  })
+      ≡ codes "image 1: LOAD takes an address, or - for none, not ''"
+  pub no_file : hint_for (record {
+    place = AtField 1 (codes "LEN");
+    takes = takes.Part;
+    word = codes "";
+  })
+      ≡ codes "image 1: LEN takes a length in bytes, and a file is given as @FILE"
   pub near : near_name (names_taken (takes.Code Arch)) (codes "amd64") ≡ Some (codes "arm64")
   pub nearer : near_name (names_taken takes.Key) (codes "fd") ≡ Some (codes "fdt")
-  pub none_near : near_name (names_taken takes.Key) (codes "payload") ≡ None
+  pub none_near : near_name (names_taken takes.Key) (codes "disk") ≡ None
 
 -- Failures have known hints, and without hints none.
 pub record FailureHintsAreKnown : Type 0 where

@@ -225,15 +225,24 @@ commands =
     reading_commands
     ++ (checking_commands ++ (changing_commands ++ (building_commands ++ explain ∷ [])))
 
--- The names of the commands that write an image or a payload, and not text.
-abbrev pub image_writers : List (List ℕ)
-image_writers =
-    codes "normalise" ∷ codes "update" ∷ codes "extract" ∷ codes "convert" ∷ codes "build-legacy"
-    ∷ codes "build-fit" ∷ []
+-- The names of the commands that write an image or a payload, and not text: of those that read an
+-- image, that change it or take something out of it, and that build one.
+abbrev pub reading_writers : List (List ℕ)
+reading_writers = codes "normalise" ∷ []
+
+abbrev pub changing_writers : List (List ℕ)
+changing_writers = codes "update" ∷ codes "extract" ∷ codes "convert" ∷ []
+
+abbrev pub building_writers : List (List ℕ)
+building_writers = codes "build-legacy" ∷ codes "build-fit" ∷ []
+
+-- Whether one of these commands has a name.
+abbrev pub is_writer_of : List (List ℕ) → List ℕ → Bool
+is_writer_of writers name = list_any (λ writer. bytes_eq writer name) writers
 
 -- Whether the command of this name writes an image or a payload.
 abbrev pub writes_image : List ℕ → Bool
-writes_image name = list_any (λ writer. bytes_eq writer name) image_writers
+writes_image name = is_writer_of (reading_writers ++ (changing_writers ++ building_writers)) name
 
 -- The name is one of these.
 abbrev pub IsAmongNames : List (List ℕ) → List ℕ → Type 0

@@ -1,6 +1,6 @@
 use Rattle.std.specs.Prelude.{◌≡◌, ℕ, Bool, false, List, Option, None, Some}
 use Rattle.std.specs.Borrow.{Bor}
-use Rattle.bi_base.specs.Traces.{ReadsWell, WritesWell}
+use Rattle.bi_base.specs.Traces.{ReadsWell, WriteTrace, WritesWell}
 use Rattle.clap.specs.declared.error.kind.ErrorKind.{ErrorKind}
 use Rattle.bootimg.specs.declared.command_line.Request.{Request}
 use Rattle.bootimg.specs.declared.command_line.extract.AllRequest.{AllRequest}
@@ -12,7 +12,7 @@ use Rattle.bootimg.specs.CommandLine.{IsAllRequested, IsImagesRequested}
 use Rattle.bi_files.specs.Files.{FileStep, KnownFiles}
 use Rattle.bootimg.specs.Hints.{IsHintAt}
 use Rattle.bootimg.specs.Runs.{IsAllRun, IsRejection, IsRequestRun, IsTextRun, Run, inputs_after}
-use Rattle.bootimg.specs.Runs.{inputs_before}
+use Rattle.bootimg.specs.Runs.{Reports, inputs_before}
 use Rattle.bootimg.specs.SeveralImages.{Streams, AreDone, AreSaved}
 use Rattle.bootimg.specs.declared.command_line.images.ImagesRequest.{ImagesRequest}
 
@@ -48,23 +48,31 @@ pub data IsImagesRun (files : KnownFiles) (hints : Bool) (request : ImagesReques
         run.new_errors run.status
         → run.new_output ≡ run.output → IsImagesRun files hints request run (Some name)
 
+-- The line of a failure of these arguments was written, and its hint after it, if there is one.
+abbrev pub IsUsageReport : (hints : Bool) → List (List ℕ) → Failure → (old new : WriteTrace) → Type 0
+IsUsageReport hints arguments failure old new =
+    (hint : Option (List ℕ)) × IsHintAt hints arguments failure hint
+    × Reports Standard failure hint old new
+
 -- The program ran with these arguments: it did the job that they request, also with each of several
 -- images, or extracted all payloads, rejected them, or wrote a text that clap has for them. Where
 -- standard error is a terminal, a hint follows the line of a failure; where it is none, there are
 -- no hints.
-pub data IsRun (terminal : Terminal) (arguments : List (List ℕ)) (files : KnownFiles) (run : Run) : Type 0 where
-  RanJob : (request : Request) → IsRequest arguments request → HasJobLengths request.job
-      → IsRequestRun terminal files request run → IsRun terminal arguments files run
-  RanEach : (request : ImagesRequest) → IsImagesRequested arguments request
-      → IsImagesRun files terminal.errors request run request.output
-      → IsRun terminal arguments files run
-  ExtractedAll : (request : AllRequest) → IsAllRequested arguments request
-      → IsAllRun terminal.errors files request run → IsRun terminal arguments files run
-  Rejected : (failure : Failure) → IsRejected arguments failure → (hint : Option (List ℕ))
-      → IsHintAt terminal.errors arguments failure hint
-      → IsRejection Standard failure hint run → IsRun terminal arguments files run
-  WroteText : (kind : ErrorKind) (text : List ℕ) → IsTextFor arguments kind
-      → IsTextRun terminal.errors kind text run → IsRun terminal arguments files run
+pub data IsRun (terminal : Terminal) (arguments : List (List ℕ)) (files : KnownFiles) (run : Run)
+    : Type 0
+  where
+    RanJob : (request : Request) → IsRequest arguments request → HasJobLengths request.job
+        → IsRequestRun terminal files request run → IsRun terminal arguments files run
+    RanEach : (request : ImagesRequest) → IsImagesRequested arguments request
+        → IsImagesRun files terminal.errors request run request.output
+        → IsRun terminal arguments files run
+    ExtractedAll : (request : AllRequest) → IsAllRequested arguments request
+        → IsAllRun terminal.errors files request run → IsRun terminal arguments files run
+    Rejected : (failure : Failure) → IsRejected arguments failure → (hint : Option (List ℕ))
+        → IsHintAt terminal.errors arguments failure hint
+        → IsRejection Standard failure hint run → IsRun terminal arguments files run
+    WroteText : (kind : ErrorKind) (text : List ℕ) → IsTextFor arguments kind
+        → IsTextRun terminal.errors kind text run → IsRun terminal arguments files run
 
 -- The program ran over plain streams: it did what traces of these streams record, which begin when
 -- the run does.

@@ -10,7 +10,7 @@ use Rattle.bi_hash.specs.declared.algo.Algo.{Algo}
 use Rattle.bi_report.specs.Checking.{kind_word}
 use Rattle.bi_report.specs.declared.check.Allowed.{Allowed}
 use Rattle.bi_values.specs.declared.value_form.ValueForm.{ValueForm}
-use Rattle.bootimg.specs.CodeWords.{IsCode, names_of_field}
+use Rattle.bootimg.specs.CodeWords.{IsCode, names_given_for}
 use Rattle.bootimg.specs.CommandLine.{IsAddress, IsAlignOf, IsAllowed, IsLimits, IsPartSource}
 use Rattle.bootimg.specs.ConfigurationWords.{AreHashesOf}
 use Rattle.bootimg.specs.EditOptions.{IsSetWord}
@@ -49,7 +49,7 @@ form_names = codes "text" ∷ codes "number" ∷ codes "raw" ∷ []
 
 -- The names that are taken, or with a comma between each two.
 abbrev pub names_taken : Takes → List (List ℕ)
-names_taken (takes.Code field) = names_of_field field
+names_taken (takes.Code field) = names_given_for field
 names_taken takes.Key = map key_name all_keys
 names_taken takes.ValueForm = form_names
 names_taken takes.Kinds = map kind_word all_kinds

@@ -4,7 +4,7 @@ ghost use Rattle.std.specs.Prelude.{◌≡◌, ℕ, Some, IfNone, IfSome, map, o
 ghost use Rattle.bi_legacy.specs.Codes.{name_of_code};
 ghost use Rattle.bi_show.specs.AllCodes.{code_of_name};
 ghost use Rattle.bootimg.specs.CodeWords.{text_of_code, codes_of, given_names_of, IsCode};
-ghost use Rattle.bootimg.specs.CodeWords.{names_of_field as names_in};
+ghost use Rattle.bootimg.specs.CodeWords.{names_given_for};
 ghost use Rattle.bootimg.specs.TextsOfWords.{text_of_word};
 
 use crate::numbers::parse_number;
@@ -106,7 +106,7 @@ static COMPRESSION_NAMES: [&str; 7] = ["none", "gzip", "bzip2", "lzma", "lzo", "
 
 /// Returns the names of the codes of a field that can be given, those that listings have first.
 pub fn names_of_field(field: CodeField) -> &'static [&'static str]
-    ensures { map (λ name. name.now) result.now ≡ names_in field }
+    ensures { map (λ name. name.now) result.now ≡ names_given_for field }
 {
     match field {
         CodeField::Os => &OS_NAMES,

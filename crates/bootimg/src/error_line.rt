@@ -80,7 +80,7 @@ impl<'a, T: TracedWrite> ErrorLine<'a, T> {
     }
 
     /// Appends the bytes of a name as they are printed.
-    fn put_name_bytes(&mut self, name: &[u8])
+    pub fn put_name_bytes(&mut self, name: &[u8])
         ensures { Extends (line_of T.trace self.old) (flat_map shown_byte name.now)
             (line_of T.trace self.new) }
     {

@@ -119,13 +119,15 @@ fn put_word<T: TracedWrite>(takes: Takes, word: &str, line: &mut ErrorLine<'_, T
     ensures { Extends (line_of T.trace line.old) (word_text takes word.now)
         (line_of T.trace line.new) }
 {
-    if matches!(takes, Takes::Part) {
-        line.put_name(word.as_bytes());
-        return;
+    match takes {
+        Takes::Part if word.is_empty() => line.put(b"FILE"),
+        Takes::Part => line.put_name_bytes(word.as_bytes()),
+        _ => {
+            line.put(b", not '");
+            line.put_name_bytes(word.as_bytes());
+            line.put(b"'");
+        }
     }
-    line.put(b", not '");
-    line.put_name(word.as_bytes());
-    line.put(b"'");
 }
 
 /// Appends a name that may be meant, if there is one.

@@ -8,7 +8,7 @@ ghost use Rattle.bi_files.specs.Directories.{SavesNoDirectory};
 ghost use Rattle.bootimg.specs.LeftFiles.{LeavesKnownFiles};
 ghost use Rattle.bootimg.specs.Runs.{IsRequestRun, IsTextRun, IsMistake};
 ghost use Rattle.bootimg.specs.Runs.{is_for_terminal as is_for_terminal_of};
-ghost use Rattle.bootimg.specs.ProgramRuns.{IsPlainRun, IsRun};
+ghost use Rattle.bootimg.specs.ProgramRuns.{IsPlainRun, IsRun, IsUsageReport};
 ghost use Rattle.clap.specs.declared.error.kind.ErrorKind.{ErrorKind};
 
 use crate::command_line::{ImageSource, NoRequest, Order, Request, parse_arguments};
@@ -178,8 +178,7 @@ pub fn run_traced<'a, S: TracedRead, T: TracedWrite, E: TracedWrite, F: FileSyst
             conclude(hints, outcome, errors)
         }
         Err(NoRequest::Failure(failure)) => {
-            let hint = usage_hint(alloc, hints, arguments, failure);
-            report_failure(ImageSource::Standard, failure, hint, errors)
+            report_usage(alloc, hints, arguments, failure, errors)
         }
         Err(NoRequest::Text(text)) => match clap_text(alloc, &text) {
             Ok(bytes) => print(&bytes, text.use_stderr(), hints, output, errors),
@@ -194,6 +193,23 @@ pub fn run_traced<'a, S: TracedRead, T: TracedWrite, E: TracedWrite, F: FileSyst
             }
         },
     }
+}
+
+/// Writes the line of a failure of the arguments, and its hint if hints are given, and returns the
+/// exit status.
+fn report_usage<'a, E: TracedWrite>(
+    alloc: Global,
+    hints: bool,
+    arguments: &'a [&'a str],
+    failure: Failure<'static>,
+    errors: &mut E,
+) -> u8
+    ensures line { IsUsageReport hints (texts_of arguments.entry.now) failure.entry
+        (E.trace errors.old) (E.trace errors.new) }
+    ensures status { result ≡ 2 }
+{
+    let hint = usage_hint(alloc, hints, arguments, failure);
+    report_failure(ImageSource::Standard, failure, hint, errors)
 }
 
 /// Does the job of a request, and returns the exit status. If an image or a payload would be

@@ -26,6 +26,10 @@ STRUCTS = {
     "HashElement": "bootimg_hash",
     "ConcernElement": "bootimg_concern",
     "BuildElement": "bootimg_build_image",
+    "Range": "bootimg_range",
+    "BuildTexts": "bootimg_build_texts",
+    "BuildConfiguration": "bootimg_build_configuration",
+    "BuildOptions": "bootimg_build_options",
 }
 # What a parameter of the source is in C.
 TYPES = {"Global": [], "&[u8]": ["const uint8_t *", "size_t"]}
@@ -83,6 +87,10 @@ for struct, fields in found.items():
         offset = f"({offset}) + {size}"
     assert_that(f"sizeof({in_c}) == (({offset}) + sizeof(size_t) - 1) / sizeof(size_t) * sizeof(size_t)")
 
+# The size of a struct that begins with its size is the one that the code asks for.
+asked = re.search(r"const OPTIONS_SIZE: usize = (\d+);", sources["plan_building.rt"])[1]
+assert_that(f"sizeof(bootimg_build_options) == {asked}")
+
 # The numbers of the code, by their names in the header. A pattern finds the name and the number, or in some files the number first.
 FOUND = [
     ("", "answer.rt", r"const (?P<name>[A-Z_]+): u32 = (?P<number>\d+);"),
@@ -100,6 +108,9 @@ FOUND = [
     ("CAUSE_", "causes.rt", r"(?P<number>\d+) => Some\(Cause::(?P<name>\w+)\)"),
     ("VERDICT_", "verdicts.rt", r"Verdict::(?P<name>\w+) => (?P<number>\d+),"),
     ("HAS_", "fit_building.rt", r"(?P<name>load|entry): address_if\(has_bit\((?P<number>\d+), image.addresses\)"),
+    ("HAS_", "plan_building.rt", r"piece_if\(has_bit\((?P<number>\d+), \w+\.given\), input, \w+\.(?P<name>description|default)"),
+    ("HAS_", "plan_building.rt", r"has_bit\((?P<number>\d+), element\.given\) \{\s+Some\(Some\((?P<name>texts)\)\)"),
+    ("ALGORITHM_", "plan_building.rt", r"(?P<number>\d+) => Some\(Algo::(?P<name>\w+)\)"),
     ("CHANGE_", "update.rt", r"let new_(?P<name>time) = if has_bit\((?P<number>\d+), changes\)"),
     ("CHANGE_", "update.rt", r"(?P<name>hashes): has_bit\((?P<number>\d+), changes\)"),
     ("ALLOW_", "arguments.rt", r"(?P<name>(?!signed\b)\b\w+): has_bit\((?P<number>\d+), kinds\)"),
@@ -150,6 +161,7 @@ def placed(words, prefix, number_of_place):
 in_module = placed(module["CONCERNS"], "ALLOW_", lambda place: 1 << place)
 in_module |= placed(module["KEYS"], "", lambda place: place) | placed(module["statuses"], "", lambda place: place)
 in_module |= placed(module["VERDICTS"], "VERDICT_", lambda place: place)
+in_module |= placed(module["ALGORITHMS"], "ALGORITHM_", lambda place: place)
 in_module |= {"BOOTIMG_SIGNED": module["_SIGNED"]}
 in_module |= {"BOOTIMG_LIMIT": module["LIMIT"], "BOOTIMG_DEPTH": module["DEPTH"], "BOOTIMG_MISSING": module["_MISSING"]}
 for name, number in in_module.items():

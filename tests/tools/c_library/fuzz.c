@@ -241,6 +241,35 @@ static void try_normal_form(const struct choice *c, const bootimg_result *answer
     give_back(copy);
 }
 
+/* Regions build a FIT with a plan, or one of them, or a range, is outside. */
+static void try_plan(const struct choice *c, const bootimg_build_image *images, const bootimg_region *any)
+{
+    const bootimg_range ranges[3] = {{0, c->number % 4}, {c->number % 5, c->time % 3}, {c->time, c->size}};
+    const uint32_t algorithms[2] = {c->number % 7, c->time % 7};
+    bootimg_build_options options;
+    bootimg_build_texts texts;
+    bootimg_build_configuration configurations[2];
+    bootimg_result answer;
+    memset(&options, 0, sizeof options);
+    memset(&texts, 0, sizeof texts);
+    memset(configurations, 0, sizeof configurations);
+    options.size = sizeof options - c->time % 17 / 16;
+    options.description = options.default_name = configurations[0].name = texts.os = any[0];
+    options.form = forms[c->number % 8];
+    options.limit = c->limit;
+    options.depth = c->depth;
+    options.given = c->time % 2;
+    texts.description = texts.image_type = configurations[0].description = any[1];
+    texts.given = c->number % 5;
+    configurations[0].kernel = ranges[0];
+    configurations[0].compatible = configurations[0].script = ranges[1];
+    configurations[0].given = c->number % 2;
+    configurations[1] = configurations[0];
+    configurations[1].fdt = ranges[c->time % 3];
+    check_answer(bootimg_build_fit_as(c->file, c->size, &options, images, c->number % 3, &texts, c->time % 2, configurations, c->time % 3, any,
+                                      2, algorithms, c->number % 3, NULL, 0, &answer), &answer);
+}
+
 /* What is read of a legacy image builds its normal form. Other regions build an image, or are outside the input. */
 static void try_build(const struct choice *c)
 {
@@ -260,6 +289,7 @@ static void try_build(const struct choice *c)
     images[0].addresses = c->time % 5;
     check_answer(bootimg_build_fit(c->file, c->size, c->name, c->name_size, c->time, images, c->number % 3, forms[c->number % 8], c->limit,
                                    c->depth, NULL, 0, &answer), &answer);
+    try_plan(c, images, any);
     check_answer(bootimg_build_legacy(c->file, c->size, &fields, any, c->number % 3, c->limit, c->depth, NULL, 0, &answer), &answer);
     if (bootimg_legacy(c->file, c->size, c->limit, c->depth, &fields, &answer) != BOOTIMG_OK || try_call(c, PARTS, &answer) != BOOTIMG_OK)
         return;

@@ -85,6 +85,17 @@ static uint32_t make(int call, uint8_t *buffer, bootimg_result *answer)
         return bootimg_compare_ignoring_json(file, size, file, size - 1, (const uint8_t *)"/images", 7, &(bootimg_region){0, 7}, 1,
                                              BOOTIMG_LIMIT, 64, buffer, sizeof text, answer);
     case 39: return bootimg_notes(file, size, 3, 7, BOOTIMG_EXTERNAL, BOOTIMG_LIMIT, 64, (void *)buffer, answer);
+    case 40:
+        return bootimg_build_fit_as(file, size,
+                                    &(bootimg_build_options){.size = 64, .description = {0, 2}, .default_name = {0, 1}, .time = 7,
+                                                             .limit = BOOTIMG_LIMIT, .depth = 64, .given = BOOTIMG_HAS_DEFAULT},
+                                    &(bootimg_build_image){.name = {0, 1}, .payload = {0, size}}, 1,
+                                    &(bootimg_build_texts){.description = {0, 2}, .image_type = {0, 2}, .arch = {0, 2}, .os = {0, 2},
+                                                           .compression = {0, 2}, .given = BOOTIMG_HAS_DESCRIPTION + BOOTIMG_HAS_TEXTS},
+                                    1,
+                                    &(bootimg_build_configuration){.name = {0, 1}, .compatible = {0, 1}, .kernel = {1, 1}}, 1,
+                                    (const bootimg_region[]){{0, 2}, {0, 1}}, 2,
+                                    (const uint32_t[]){BOOTIMG_ALGORITHM_MD5, BOOTIMG_ALGORITHM_SHA384}, 2, buffer, sizeof text, answer);
     default: return bootimg_listed(file, size, name, 6, BOOTIMG_KERNEL, BOOTIMG_LIMIT, 64, (void *)buffer, 100, answer);
     }
 }
@@ -120,7 +131,7 @@ int main(int count, char **words)
     size = input == NULL ? 0 : fread(file, 1, sizeof file, input);
     if (size == 0)
         return 2;
-    for (int call = 0; call <= 40; call++) {
+    for (int call = 0; call <= 41; call++) {
         bootimg_result expected;
         uint32_t status;
         memset(wanted, 0xa5, sizeof wanted);

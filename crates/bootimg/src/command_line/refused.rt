@@ -2,8 +2,9 @@
 
 ghost use Rattle.std.specs.Prelude.{◌≡◌, IfNone, IfOk, IfSome, map, option_map};
 ghost use Rattle.bootimg.specs.CommandLine.{NoneIs, texts_of, values_of};
-ghost use Rattle.bootimg.specs.RefusedWords.{FindsField, FindsFirst, FindsRefused, HasFields};
-ghost use Rattle.bootimg.specs.RefusedWords.{FindsRefusedWord, all_option_words, field_given};
+ghost use Rattle.bootimg.specs.RefusedWords.{FindsField, FindsFirst, FindsReason, FindsRefused};
+ghost use Rattle.bootimg.specs.RefusedWords.{FindsRefusedWord, HasFields, all_option_words};
+ghost use Rattle.bootimg.specs.RefusedWords.{field_given};
 ghost use Rattle.bootimg.specs.RefusedWords.{fields_given, first_near, given_word, near_name};
 ghost use Rattle.bootimg.specs.RefusedWords.{refused_model, option_text_model, words_given};
 ghost use Rattle.bootimg.specs.RefusedWords.{taking_options as all_taking_options};
@@ -70,9 +71,22 @@ fn refused_by_options<'a>(
     ensures { IfOk result (λ refused. FindsRefused options.now failure.entry
         (option_map refused_model refused)) }
 {
+    let given = reason(alloc, options, failure)?;
+    with_near(alloc, given)
+}
+
+/// Returns the word that is the reason for a failure of these options.
+fn reason<'a>(
+    alloc: Global,
+    options: &ArgMatches<'a>,
+    failure: Failure<'static>,
+) -> Result<Option<GivenWord<'a>>, AllocError>
+    ensures { IfOk result (λ found. FindsReason options.now failure.entry
+        (option_map given_word found)) }
+{
     match failure {
-        Failure::BadValue => with_near(alloc, refused_value(alloc, options)?),
-        Failure::BadImage(index) => with_near(alloc, refused_field(alloc, options, index)?),
+        Failure::BadValue => refused_value(alloc, options),
+        Failure::BadImage(index) => refused_field(alloc, options, index),
         _ => Ok(None),
     }
 }

@@ -5,7 +5,8 @@ ghost use Rattle.std.specs.List.{list_any};
 ghost use Rattle.clap.specs.Words.{app_of, new_rule, rule_of, shape_of};
 ghost use Rattle.bootimg.specs.Program.{building_commands, changing_commands, checking_commands};
 ghost use Rattle.bootimg.specs.Program.{program_app, reading_commands, value_option};
-ghost use Rattle.bootimg.specs.Program.{writes_image as writes_image_of};
+ghost use Rattle.bootimg.specs.Program.{building_writers, changing_writers, is_writer_of};
+ghost use Rattle.bootimg.specs.Program.{reading_writers, writes_image as writes_image_of};
 ghost use Rattle.bootimg.specs.Table.{place_of_option, rule_of_option, shape_of_text};
 ghost use Rattle.bootimg.specs.Table.{with_subcommands};
 ghost use Rattle.clap.specs.declared.builder.command.Command.TheViews.{out-Command};
@@ -127,10 +128,31 @@ struct CommandText {
 pub fn writes_image(name: &str) -> bool
     ensures { result ≡ writes_image_of name.now }
 {
-    some_writes_image(&READING_COMMANDS, name)
-        || some_writes_image(&CHANGING_COMMANDS, name)
-        || some_writes_image(&BUILDING_COMMANDS, name)
+    reading_writes_image(name)
+        || changing_writes_image(name)
+        || building_writes_image(name)
         || some_writes_image(&CHECKING_COMMANDS, name)
+}
+
+/// Returns whether a command that reads an image has this name, and writes an image.
+fn reading_writes_image(name: &str) -> bool
+    ensures { result ≡ is_writer_of reading_writers name.now }
+{
+    some_writes_image(&READING_COMMANDS, name)
+}
+
+/// Returns whether a command that changes an image has this name, and writes an image.
+fn changing_writes_image(name: &str) -> bool
+    ensures { result ≡ is_writer_of changing_writers name.now }
+{
+    some_writes_image(&CHANGING_COMMANDS, name)
+}
+
+/// Returns whether a command that builds an image has this name, and writes an image.
+fn building_writes_image(name: &str) -> bool
+    ensures { result ≡ is_writer_of building_writers name.now }
+{
+    some_writes_image(&BUILDING_COMMANDS, name)
 }
 
 /// Returns whether one of these commands has a name, and writes an image or a payload.

@@ -21,7 +21,7 @@ pub returns-in_err-blob-clause-failed : goal.returns-in_err-blob-clause-failed
 returns-in_err-blob-clause-failed g c file opened =
     let p = err_from_is_err_and c.from_residual-in_err-blob.result c.from_residual-in_err-blob.ensures.1 in
     rw (p.1, p.2) (WasRefused (tree_not_edited c.args.edits.now c.args.choice c.args.limits file c.args.fit.now opened c.in_ok-form.form
-    (c.in_ok-form.ensures c.args.limits file opened) _ c.in_err-blob.ensures.failed) refl)
+    (c.in_ok-form.ensures c.args.limits file opened) c.know_edits.ensures _ c.in_err-blob.ensures.failed) refl)
 
 pub returns-in_err-edited-clause-failed : goal.returns-in_err-edited-clause-failed
 returns-in_err-edited-clause-failed g c file opened =

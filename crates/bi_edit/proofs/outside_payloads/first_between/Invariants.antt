@@ -1,4 +1,4 @@
-use Rattle.std.proofs.Common.{◌≡◌, ℕ, drop}
+use Rattle.std.proofs.Common.{ℕ, drop}
 use Rattle.bi_fit.specs.Kept.{AreAlignedInFile}
 use Rattle.bi_edit.specs.PlacedPayloads.{placed_list}
 use Rattle.bi_edit.proofs.outside_payloads.first_between.Given as goal

@@ -23,6 +23,6 @@ returns-in-Err g c kind input steps is_usage =
     IsNotWritten (asked_for kind c.args.is_usage is_usage (search rules)) c.in-Err.error
     (subst (λ bytes. WriteOrFlushStopped (trace c.args.output.now) bytes (trace c.write_and_flush.new.target) c.in-Err.error)
     c.as_bytes-2.ensures.value c.in-Err.ensures)
-    (subst (λ hint. Reports Standard (Call c.in-Err.error) hint (g.E.TracedWrite.trace c.args.errors.now) _) c.hint_if.ensures
-    c.report_failure.ensures.line)
+    (subst (λ hint. Reports Standard (Call c.in-Err.error) hint (g.E.TracedWrite.trace c.args.errors.now)
+    (g.E.TracedWrite.trace c.report_failure.new.errors)) c.hint_if.ensures c.report_failure.ensures.line)
     refl refl c.report_failure.ensures.status

@@ -1,15 +1,13 @@
-use Rattle.std.proofs.Common.{refl, subst, sym, ◌∙◌, rules, true, false}
-use Rattle.bootimg.specs.declared.command_line.source.ImageSource.TheVariants.{Standard}
-use Rattle.bootimg.specs.declared.failure.Failure.TheVariants.{OutputIsTerminal}
-use Rattle.bootimg.specs.Runs.{DidJob, IsRejection, KeptFromTerminal}
+use Rattle.std.proofs.Common.{refl, sym, ◌∙◌}
+use Rattle.bootimg.specs.Runs.{DidJob, KeptFromTerminal}
 use Rattle.bootimg.proofs.ImageRuns.{to_file, to_standard_output}
-use Rattle.bootimg.proofs.RunFacts.{run_is_rejected}
+use Rattle.bootimg.proofs.RunFacts.{run_is_kept, run_is_rejected}
 use Rattle.bootimg.proofs.run.run_request.Goals as goal
 
 pub returns-then-is_for_terminal : goal.returns-then-is_for_terminal
 returns-then-is_for_terminal g c =
     KeptFromTerminal (sym c.is_for_terminal.ensures ∙ c.if-is_for_terminal.true)
-    (subst (λ hint. IsRejection Standard OutputIsTerminal hint _) c.hint_if.ensures
+    (run_is_kept _ _ _ _ _ c.hint_if.ensures
     (run_is_rejected _ _ _ _ refl refl refl c.report_failure.ensures.line c.report_failure.ensures.status))
 
 pub returns-in-None : goal.returns-in-None

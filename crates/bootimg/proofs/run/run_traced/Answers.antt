@@ -4,7 +4,9 @@ use Rattle.bootimg.specs.CommandLine.{texts_of, HasOrderLengths, IsNoRequest, Is
 use Rattle.bootimg.specs.declared.command_line.Order.TheVariants as order
 use Rattle.bootimg.specs.declared.command_line.NoRequest.TheVariants as outcome
 use Rattle.bootimg.specs.declared.failure.Failure.TheVariants.{Call}
-use Rattle.bootimg.specs.ProgramRuns.{ExtractedAll, RanEach, RanJob, Rejected, WroteText}
+use Rattle.bootimg.specs.ProgramRuns.{ExtractedAll, IsUsageReport, RanEach, RanJob, Rejected, WroteText}
+use Rattle.bootimg.specs.Runs.{IsMistake}
+use Rattle.std.specs.Prelude.{◌↔◌, IsTrue}
 use Rattle.bootimg.proofs.RunFacts.{hint_of_failure, run_is_rejected}
 use Rattle.bootimg.proofs.run.run_traced.Goals as goal
 
@@ -34,18 +36,22 @@ returns-in-Ok-ExtractAll g c =
 pub returns-in-Err-Failure : goal.returns-in-Err-Failure
 returns-in-Err-Failure g c =
     let is : c.in-Err-Failure.field-0 ≡ outcome.Failure c.in-Err-Failure.failure = search rules in
+    let trace = g.E.TracedWrite.trace in
+    let report = subst (λ failure. IsUsageReport c.args.terminal.errors (texts_of c.args.arguments.now) failure
+    (trace c.args.errors.now) (trace c.report_usage.new.errors)) (search rules) c.report_usage.ensures.line in
     Rejected c.in-Err-Failure.failure (subst (λ o. IsNoRequest (texts_of c.args.arguments.now) o) is c.in-Err-Failure.ensures.failure)
-    _ c.usage_hint-hint.ensures
-    (run_is_rejected _ _ _ _ refl refl refl c.report_failure.ensures.line c.report_failure.ensures.status)
+    report.0 report.1
+    (run_is_rejected _ _ _ _ refl refl refl report.2 c.report_usage.ensures.status)
 
 pub returns-in-Ok : goal.returns-in-Ok
 returns-in-Ok g c =
     let is : c.in-Err-Text.field-0 ≡ outcome.Text c.in-Err-Text.text = search rules in
     WroteText (kind_of c.in-Err-Text.text) _ (subst (λ o. IsNoRequest (texts_of c.args.arguments.now) o) is c.in-Err-Text.ensures.failure)
-    (c.print.ensures (kind_of c.in-Err-Text.text) _ _ c.use_stderr.ensures)
+    (c.print.ensures (kind_of c.in-Err-Text.text) _ _
+    (subst (λ kind. IsTrue c.use_stderr.result ↔ IsMistake kind) (search rules) c.use_stderr.ensures))
 
 pub returns : goal.returns
 returns g c =
     Rejected _ (NoMemory (ap (λ error. Call error) c.from.ensures)) _
     (hint_of_failure _ _ _ _ (ap (λ error. Call error) c.from.ensures) c.hint_if.ensures)
-    (run_is_rejected _ _ _ _ refl refl refl c.report_failure-in-Err.ensures.line c.report_failure-in-Err.ensures.status)
+    (run_is_rejected _ _ _ _ refl refl refl c.report_failure.ensures.line c.report_failure.ensures.status)

@@ -21,5 +21,7 @@ returns g c =
     c.from-failure.result
     c.do_each_in_memory-status.ensures.held c.if-status-eq-FAILED.false c.do_each_in_memory-status.ensures.same_files c.deref.ensures.value
     c.in-Err.ensures.failed c.from-failure.ensures
-    (subst (λ hint. Reports (File c.args.name) c.from-failure.result hint _ _) c.hint_if-hint.ensures c.report_failure.ensures.line)
+    (subst (λ hint. Reports (File c.args.name) c.from-failure.result hint
+    (g.E.TracedWrite.trace c.do_each_in_memory-status.new.errors) (g.E.TracedWrite.trace c.report_failure.new.errors))
+    c.hint_if-hint.ensures c.report_failure.ensures.line)
     c.report_failure.ensures.status

@@ -50,3 +50,6 @@ pub returns-in-Topic : goal.returns-in-Topic
 returns-in-Topic c =
     rw c.in-Topic.is
     (taken_if_some _ c.parse_topic.result c.is_some-in-Topic.result c.parse_topic.ensures.some c.parse_topic.ensures.none c.is_some-in-Topic.ensures)
+
+pub returns-in-Algorithms : goal.returns-in-Algorithms
+returns-in-Algorithms c = rw c.in-Algorithms.is c.are_algorithms.ensures

@@ -1,0 +1,7 @@
+use Rattle.bootimg.proofs.command_line.refused.reason.Goals as goal
+
+pub returns-in-BadValue : goal.returns-in-BadValue
+returns-in-BadValue c = rw c.in-BadValue.is c.refused_value.ensures
+
+pub returns-in-BadImage : goal.returns-in-BadImage
+returns-in-BadImage c = rw c.in-BadImage.is c.refused_field.ensures
