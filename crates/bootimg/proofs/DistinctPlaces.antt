@@ -16,9 +16,9 @@ module _ {T : Type 0} (place : T → List ℕ) where
       ap (map place) (take_more values index d within) ∙ map-append place (take index values) (get_or values index d ∷ [])
 
   -- Of distinct places each is new among those before it.
-  pub new_place : (values : List T) (index : ℕ) (d : T) → index < length values → AreDistinct (map place values) →
+  pub new_distinct_place : (values : List T) (index : ℕ) (d : T) → index < length values → AreDistinct (map place values) →
       IsNew (place (get_or values index d)) (map place (take index values))
-  new_place values index d within distinct =
+  new_distinct_place values index d within distinct =
       let cut : drop index values ≡ get_or values index d ∷ drop (index + 1) values = rw add-one (drop-cons values index d within) in
       let around : map place values ≡ map place (take index values) ++ (place (get_or values index d) ∷ map place (drop (index + 1) values)) =
       ap (map place) (sym (take-append-drop index values))

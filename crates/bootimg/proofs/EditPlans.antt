@@ -31,19 +31,19 @@ module _ {T : Type 0} (Is : List ℕ → T → Type 0) where
       rw (texts_push words index d within, is) (zip_push Is (texts_of (take index words)) values (get_or words index d).now value are one)
 
   -- A word for nothing is in no list of words.
-  pub no_words : (words : List (Bor (List ℕ))) (index : ℕ) (d : Bor (List ℕ)) → index < length words →
+  pub none_of_words : (words : List (Bor (List ℕ))) (index : ℕ) (d : Bor (List ℕ)) → index < length words →
       NoneIs (Is (get_or words index d).now) → NoneIs (AllZip Is (texts_of words))
-  no_words [] index d within none values are = absurd (omega (arith, within))
-  no_words (word ∷ words) index d within none [] are = absurd are
-  no_words (word ∷ words) zero d within none (value ∷ values) are = none value are.0
-  no_words (word ∷ words) (suc index) d within none (value ∷ values) are =
-      no_words words index d (omega (arith, within)) none values are.1
+  none_of_words [] index d within none values are = absurd (omega (arith, within))
+  none_of_words (word ∷ words) index d within none [] are = absurd are
+  none_of_words (word ∷ words) zero d within none (value ∷ values) are = none value are.0
+  none_of_words (word ∷ words) (suc index) d within none (value ∷ values) are =
+      none_of_words words index d (omega (arith, within)) none values are.1
 
 -- A call fails only if memory runs out.
-pub out_of_memory : {T : Type 0} (Is : Failure → Type 0) (result : Result T NoRequest) (error : Error) →
+pub memory_failure : {T : Type 0} (Is : Failure → Type 0) (result : Result T NoRequest) (error : Error) →
     IsErrAnd result (λ given. given ≡ outcome.Failure (Call error)) → error ≡ OutOfMemory → IfErr result (IsFailureOutcome Is)
-out_of_memory Is (Ok value) error is memory = tt
-out_of_memory Is (Err given) error is memory = subst (λ o. IsFailureOutcome Is o) (sym is) (inr (ap Call memory))
+memory_failure Is (Ok value) error is memory = tt
+memory_failure Is (Err given) error is memory = subst (λ o. IsFailureOutcome Is o) (sym is) (inr (ap Call memory))
 
 -- A word that is no number is no new time.
 pub no_new_time : (text : Option (List ℕ)) (argument : List ℕ) → text ≡ Some argument → NoneIs (IsNumber argument) → NoneIs (IsNewTime text)

@@ -13,15 +13,15 @@ use Rattle.bootimg.proofs.SetWords.{field_cut}
 
 -- The texts for values of fields: a text is that for a value of one field only.
 
-pub no_name : (word text : List ℕ) → word ≡ codes "name" → IsShownOfNoBytes text → (value : FieldValue) → word ≡ field_to_set value →
+pub no_name_text : (word text : List ℕ) → word ≡ codes "name" → IsShownOfNoBytes text → (value : FieldValue) → word ≡ field_to_set value →
     IsFieldText text value → ⊥
-no_name word text named none (field.Name name) same is = none name.items is.bytes is.is
-no_name word text named none (field.Time time) same is = other_bytes (codes "name") (codes "time") refl (sym named ∙ same)
-no_name word text named none (field.Load load) same is = other_bytes (codes "name") (codes "load") refl (sym named ∙ same)
-no_name word text named none (field.Entry entry) same is = other_bytes (codes "name") (codes "entry") refl (sym named ∙ same)
-no_name word text named none (field.Os code) same is = other_bytes (codes "name") (codes "os") refl (sym named ∙ same)
-no_name word text named none (field.Arch code) same is = other_bytes (codes "name") (codes "arch") refl (sym named ∙ same)
-no_name word text named none (field.Compression code) same is = other_bytes (codes "name") (codes "compression") refl (sym named ∙ same)
+no_name_text word text named none (field.Name name) same is = none name.items is.bytes is.is
+no_name_text word text named none (field.Time time) same is = other_bytes (codes "name") (codes "time") refl (sym named ∙ same)
+no_name_text word text named none (field.Load load) same is = other_bytes (codes "name") (codes "load") refl (sym named ∙ same)
+no_name_text word text named none (field.Entry entry) same is = other_bytes (codes "name") (codes "entry") refl (sym named ∙ same)
+no_name_text word text named none (field.Os code) same is = other_bytes (codes "name") (codes "os") refl (sym named ∙ same)
+no_name_text word text named none (field.Arch code) same is = other_bytes (codes "name") (codes "arch") refl (sym named ∙ same)
+no_name_text word text named none (field.Compression code) same is = other_bytes (codes "name") (codes "compression") refl (sym named ∙ same)
 
 pub no_time : (word text : List ℕ) → word ≡ codes "time" → NoneIs (IsNumber text) → (value : FieldValue) → word ≡ field_to_set value →
     IsFieldText text value → ⊥
@@ -95,9 +95,9 @@ no_field_named word n1 n2 n3 n4 n5 n6 n7 (field.Arch code) same = n6 same
 no_field_named word n1 n2 n3 n4 n5 n6 n7 (field.Compression code) same = n7 same
 
 -- The word for a field, and the text after the first space.
-pub field_word : (word first rest : List ℕ) → IsCutAt 32 word first (Some rest) → (value : FieldValue) → first ≡ field_to_set value →
+pub cut_field_word : (word first rest : List ℕ) → IsCutAt 32 word first (Some rest) → (value : FieldValue) → first ≡ field_to_set value →
     IsFieldText rest value → IsFieldWord word value
-field_word word first rest cut value same is =
+cut_field_word word first rest cut value same is =
     record { text = rest; is = cut.is ∙ ap (λ f. f ++ 32 ∷ rest) same; is_text = is }
 
 pub field_parts : (word first rest : List ℕ) → IsCutAt 32 word first (Some rest) → (value : FieldValue) → IsFieldWord word value →
@@ -111,4 +111,4 @@ field_parts word first rest cut value is =
 pub other_field_word : (word first rest : List ℕ) → IsCutAt 32 word first (Some rest) → (given : Option FieldValue) →
     IfSome given (λ value. (first ≡ field_to_set value) × IsFieldText rest value) → IfSome given (IsFieldWord word)
 other_field_word word first rest cut None is = tt
-other_field_word word first rest cut (Some value) is = field_word word first rest cut value is.0 is.1
+other_field_word word first rest cut (Some value) is = cut_field_word word first rest cut value is.0 is.1

@@ -21,41 +21,41 @@ use Rattle.bootimg.specs.EditOptions.{IsFieldWord, IsSetWord, field_to_set, set_
 
 -- ---- the first space
 
-abbrev pub is_space : ℕ → Bool
-is_space byte = byte == 32
+abbrev pub byte_is_space : ℕ → Bool
+byte_is_space byte = byte == 32
 
-not_space : (byte : ℕ) → is_space byte ≡ false → byte ≢ 32
-not_space byte other same = true≢false (sym (ap is_space same) ∙ other)
+not_space : (byte : ℕ) → byte_is_space byte ≡ false → byte ≢ 32
+not_space byte other same = true≢false (sym (ap byte_is_space same) ∙ other)
 
-space_is : (byte : ℕ) → is_space byte ≡ true → byte ≡ 32
+space_is : (byte : ℕ) → byte_is_space byte ≡ true → byte ≡ 32
 space_is byte holds = search (rules, tests)
 
-lacks_space : (bytes : List ℕ) (n : ℕ) → ((k : ℕ) → k < n → is_space (get_or bytes k 0) ≡ false) → n ≤ length bytes → LacksByte 32 (take n bytes)
+lacks_space : (bytes : List ℕ) (n : ℕ) → ((k : ℕ) → k < n → byte_is_space (get_or bytes k 0) ≡ false) → n ≤ length bytes → LacksByte 32 (take n bytes)
 lacks_space bytes zero below within = tt
 lacks_space [] (suc n) below within = absurd (omega (arith, within))
 lacks_space (byte ∷ bytes) (suc n) below within =
     (not_space byte (below 0 (omega arith)), lacks_space bytes n (λ k less. below (suc k) (omega (arith, less))) (omega (arith, within)))
 
 -- What `split_once` says of a word and a space.
-abbrev pub IsSplit : (word : List ℕ) → Option (Bor (List ℕ) × Bor (List ℕ)) → Type 0
-IsSplit word result = MatchOption result (position_or_len is_space word ≡ length word)
-    (λ x. (x.0.now ≡ before_first is_space word) × (x.1.now ≡ after_first is_space word) × (position_or_len is_space word < length word))
+abbrev pub IsSplitAtSpace : (word : List ℕ) → Option (Bor (List ℕ) × Bor (List ℕ)) → Type 0
+IsSplitAtSpace word result = MatchOption result (position_or_len byte_is_space word ≡ length word)
+    (λ x. (x.0.now ≡ before_first byte_is_space word) × (x.1.now ≡ after_first byte_is_space word) × (position_or_len byte_is_space word < length word))
 
-pub cut_of_split : (word first rest : List ℕ) → first ≡ before_first is_space word → rest ≡ after_first is_space word →
-    position_or_len is_space word < length word → IsCutAt 32 word first (Some rest)
+pub cut_of_split : (word first rest : List ℕ) → first ≡ before_first byte_is_space word → rest ≡ after_first byte_is_space word →
+    position_or_len byte_is_space word < length word → IsCutAt 32 word first (Some rest)
 cut_of_split word first rest is_first is_rest within =
-    let place = position_or_len is_space word in
+    let place = position_or_len byte_is_space word in
     rw (is_first, is_rest) (record {
-      is = split_at_first is_space word 0 within
-          ∙ ap (λ byte. before_first is_space word ++ byte ∷ after_first is_space word) (space_is _ (passes_at_first is_space word 0 within));
-      first = lacks_space word place (λ k less. fails_before_first is_space word k 0 less) (omega (arith, within));
+      is = split_at_first byte_is_space word 0 within
+          ∙ ap (λ byte. before_first byte_is_space word ++ byte ∷ after_first byte_is_space word) (space_is _ (passes_at_first byte_is_space word 0 within));
+      first = lacks_space word place (λ k less. fails_before_first byte_is_space word k 0 less) (omega (arith, within));
     })
 
-pub cut_of_none : (word : List ℕ) → position_or_len is_space word ≡ length word → IsCutAt 32 word word None
+pub cut_of_none : (word : List ℕ) → position_or_len byte_is_space word ≡ length word → IsCutAt 32 word word None
 cut_of_none word all = record {
   is = sym (append-nil word);
-  first = subst (LacksByte 32) (take_all (position_or_len is_space word) word (omega (arith, all)))
-      (lacks_space word (position_or_len is_space word) (λ k less. fails_before_first is_space word k 0 less) (omega (arith, all)));
+  first = subst (LacksByte 32) (take_all (position_or_len byte_is_space word) word (omega (arith, all)))
+      (lacks_space word (position_or_len byte_is_space word) (λ k less. fails_before_first byte_is_space word k 0 less) (omega (arith, all)));
 }
 
 -- ---- fields
@@ -102,14 +102,14 @@ module _ (word first : List ℕ) (after : Option (List ℕ)) (cut : IsCutAt 32 w
       (sym (append_assoc (path place.path) (32 ∷ shown_text place.name) (from_byte 32 is.after)) ∙ is.is)
 
   -- Without a space it is no word for a new value.
-  pub no_place : after ≡ None → (edit : Edit) → ¬ (IsSetWord word edit)
-  no_place none (SetProperty place value) is = absurd (let e = (property_cut place value.items is).1 ∙ none in cc)
-  no_place none (SetField value) is = absurd (let e = (field_cut value is).1 ∙ none in cc)
-  no_place none (RemoveNode names) is = is
-  no_place none (RemoveProperty place) is = is
-  no_place none (SetPayload image payload) is = is
-  no_place none (SetTime time) is = is
-  no_place none SetDigests is = is
+  pub no_set_word : after ≡ None → (edit : Edit) → ¬ (IsSetWord word edit)
+  no_set_word none (SetProperty place value) is = absurd (let e = (property_cut place value.items is).1 ∙ none in cc)
+  no_set_word none (SetField value) is = absurd (let e = (field_cut value is).1 ∙ none in cc)
+  no_set_word none (RemoveNode names) is = is
+  no_set_word none (RemoveProperty place) is = is
+  no_set_word none (SetPayload image payload) is = is
+  no_set_word none (SetTime time) is = is
+  no_set_word none SetDigests is = is
 
   -- Without a slash at its beginning it is one of a field.
   pub place_of_field : ¬ (slice_index word 0 ≡ 47) → (edit : Edit) → IsSetWord word edit → first ≡ set_place edit

@@ -5,7 +5,7 @@ use Rattle.bi_common.proofs.UnshownNames.{some_holds}
 use Rattle.bi_edit.specs.EditWords.{IsRemovalWord}
 use Rattle.bootimg.specs.CommandLine.{IsBadValue, NoneIs, texts_of}
 use Rattle.bootimg.proofs.CommandLines.{none_given}
-use Rattle.bootimg.proofs.EditPlans.{no_words, out_of_memory, words_next}
+use Rattle.bootimg.proofs.EditPlans.{none_of_words, memory_failure, words_next}
 use Rattle.bootimg.proofs.command_line.edits.add_removals.Goals as goal
 
 -- What a list of words gives past its end.
@@ -14,14 +14,14 @@ no_word = record { ref_ptr = (0, 0); now = [] }
 
 pub returns-in_err-edit-clause-failure : goal.returns-in_err-edit-clause-failure
 returns-in_err-edit-clause-failure c =
-    out_of_memory (IsBadValue (AllZip IsRemovalWord (texts_of c.args.words.now))) c.from_residual.result c.in_err-edit.field-0.0
+    memory_failure (IsBadValue (AllZip IsRemovalWord (texts_of c.args.words.now))) c.from_residual.result c.in_err-edit.field-0.0
     c.from_residual.ensures.1 c.in_err-edit.ensures.failed
 
 pub returns-in_default-clause-failure : goal.returns-in_default-clause-failure
 returns-in_default-clause-failure c =
     let words = c.args.words.now in
     let index = c.loop-word.word-index in
-    inl (refl, no_words IsRemovalWord words index no_word c.loop-word-test.true
+    inl (refl, none_of_words IsRemovalWord words index no_word c.loop-word-test.true
     (subst (λ w. NoneIs (IsRemovalWord w)) c.as_bytes.ensures.value
     (none_given c.in_ok-edit.field-0 (NoneIs (IsRemovalWord c.as_bytes.result.now)) c.in_ok-edit.ensures.none c.in_default.is)))
 

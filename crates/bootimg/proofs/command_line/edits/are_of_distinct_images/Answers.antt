@@ -6,7 +6,7 @@ use Rattle.bi_blob.specs.Tree.{AreDistinct, IsNew}
 use Rattle.bi_blob.proofs.Blobs.OpenNodes.{AreDistinct-push}
 use Rattle.bi_blob.proofs.NameSets.{HoldsNames-insert, HoldsNames-new, HoldsNames-held}
 use Rattle.bi_edit.specs.declared.words.PayloadWord.{PayloadWord}
-use Rattle.bootimg.proofs.DistinctPlaces.{all_places, new_place, places_more}
+use Rattle.bootimg.proofs.DistinctPlaces.{all_places, new_distinct_place, places_more}
 use Rattle.bootimg.proofs.command_line.edits.are_of_distinct_images.Goals as goal
 
 -- What a list of payloads gives past its end.
@@ -27,7 +27,7 @@ returns-then-not-branch c =
     let held = HoldsNames-held c.loop-payload.images c.as_bytes.result names c.loop-payload.invariant.names has in (
       λ yes. absurd (true≢false (sym yes)),
       λ distinct. absurd (held (subst (λ name. IsNew name names) (sym is)
-          (new_place image_of payloads index no_payload c.loop-payload-test.true distinct))),
+          (new_distinct_place image_of payloads index no_payload c.loop-payload-test.true distinct))),
     )
 
 pub loop-payload-preserved : goal.loop-payload-preserved

@@ -7,7 +7,7 @@ use Rattle.bootimg.specs.EditOptions.{IsNewPayload}
 use Rattle.bootimg.specs.CommandLine.{IsBadValue, NoneIs, texts_of}
 use Rattle.bootimg.specs.declared.failure.Failure.TheVariants.{BadValue}
 use Rattle.bootimg.proofs.CommandLines.{fails_with, none_given, ok_or_failed, ok_or_is}
-use Rattle.bootimg.proofs.EditPlans.{no_words, out_of_memory, words_next}
+use Rattle.bootimg.proofs.EditPlans.{none_of_words, memory_failure, words_next}
 use Rattle.bootimg.proofs.command_line.edits.parse_each_payload.Goals as goal
 
 -- What a list of words gives past its end.
@@ -19,7 +19,7 @@ loop-word-init c = rw (c.in_ok-payloads.ensures.items) tt
 
 pub returns-in_err-found-clause-failure : goal.returns-in_err-found-clause-failure
 returns-in_err-found-clause-failure c =
-    out_of_memory (IsBadValue (AllZip IsNewPayload (texts_of c.args.words.now))) c.from_residual-in_err-found.result
+    memory_failure (IsBadValue (AllZip IsNewPayload (texts_of c.args.words.now))) c.from_residual-in_err-found.result
     c.in_err-found.field-0.0 c.from_residual-in_err-found.ensures.1 c.in_err-found.ensures.failed
 
 pub returns-in_err-payload-clause-failure : goal.returns-in_err-payload-clause-failure
@@ -34,7 +34,7 @@ returns-in_err-payload-clause-failure c =
     fails_with (IsBadValue (AllZip IsNewPayload (texts_of words))) c.from_residual-in_err-payload.result c.in_err-payload.field-0.0
     c.from_residual-in_err-payload.ensures.1 (
       failed.1,
-      no_words IsNewPayload words index no_word c.loop-word-test.true (λ (payload : PayloadWord) is. none payload.image payload.file.now is),
+      none_of_words IsNewPayload words index no_word c.loop-word-test.true (λ (payload : PayloadWord) is. none payload.image payload.file.now is),
     )
 
 pub loop-word-preserved : goal.loop-word-preserved

@@ -5,7 +5,7 @@ use Rattle.bi_edit.specs.declared.words.PayloadWord.{PayloadWord}
 use Rattle.bootimg.specs.CommandLine.{IsBadValue, texts_of}
 use Rattle.bootimg.specs.EditOptions.{ArePayloadWords, IsNewPayload}
 use Rattle.bootimg.proofs.CommandLines.{outcome_weaker}
-use Rattle.bootimg.proofs.PayloadPlans.{same_images}
+use Rattle.bootimg.proofs.PayloadPlans.{same_payload_images}
 use Rattle.bootimg.proofs.command_line.edits.parse_payloads.Goals as goal
 
 pub returns-in_err-payloads-clause-failure : goal.returns-in_err-payloads-clause-failure
@@ -22,7 +22,7 @@ returns-then-not-branch-clause-failure c =
     inl (
       refl,
       λ payloads are.
-          let same = same_images words payloads parsed are.each c.in_ok-payloads.ensures.payloads
+          let same = same_payload_images words payloads parsed are.each c.in_ok-payloads.ensures.payloads
           ∙ ap (map (λ (payload : PayloadWord). payload.image)) (sym c.deref.ensures.value) in
           true≢false (sym (c.in_ok-are_of_distinct_images.ensures.1 (subst AreDistinct same are.distinct)) ∙ c.if-not-branch.true),
     )

@@ -7,7 +7,7 @@ use Rattle.bi_blob.proofs.NameSets.{HoldsNames-insert, HoldsNames-new, HoldsName
 use Rattle.bi_edit.specs.declared.edit.Edit.{Edit}
 use Rattle.bi_edit.specs.declared.edit.Edit.TheVariants.{SetDigests}
 use Rattle.bootimg.specs.EditOptions.{IsSetWord, set_place}
-use Rattle.bootimg.proofs.DistinctPlaces.{all_places, new_place, places_more, zip_at, zip_long}
+use Rattle.bootimg.proofs.DistinctPlaces.{all_places, new_distinct_place, places_more, zip_at, zip_long}
 use Rattle.bootimg.proofs.command_line.edits.settings.are_of_distinct_places.Goals as goal
 
 -- What a list of words gives past its end, and a list of edits.
@@ -28,7 +28,7 @@ returns-then-not-branch c = λ edits are.
     let has = not-false _ (sym c.in_ok-insert.ensures.added ∙ c.if-not-branch.true) in
     let held = HoldsNames-held c.loop-word.places c.place_of_word.result names so_far.0 has in (
       λ yes. absurd (true≢false (sym yes)),
-      λ distinct. absurd (held (subst (λ name. IsNew name names) (sym is) (new_place set_place edits index no_edit here.0 distinct))),
+      λ distinct. absurd (held (subst (λ name. IsNew name names) (sym is) (new_distinct_place set_place edits index no_edit here.0 distinct))),
     )
 
 pub loop-word-preserved : goal.loop-word-preserved

@@ -1,13 +1,13 @@
 use Rattle.std.proofs.Common.{◌+◌, ◌∙◌, None, Some, ap, arith, length, refl, take}
 use Rattle.bi_edit.specs.declared.edit.Edit.{Edit}
-use Rattle.bootimg.proofs.SetWords.{cut_of_none, cut_of_split, no_place, place_of_property, slash_is, before_second}
+use Rattle.bootimg.proofs.SetWords.{cut_of_none, cut_of_split, no_set_word, place_of_property, slash_is, before_second}
 use Rattle.bootimg.proofs.command_line.edits.settings.place_of_word.Goals as goal
 
 pub returns-in_default : goal.returns-in_default
 returns-in_default c edit is =
     let word = c.args.word.now in
     let split = c.in_default.ensures.byte (omega arith) (λ text place found. found) in
-    absurd (no_place word word None (cut_of_none word split) refl edit is)
+    absurd (no_set_word word word None (cut_of_none word split) refl edit is)
 
 pub returns-in-Some-split_once : goal.returns-in-Some-split_once
 returns-in-Some-split_once c edit is =
