@@ -109,8 +109,11 @@ pub one_more_edit : (words : List PayloadWord) (contents : List (Vec ℕ Global)
     ArePayloadEdits (words ++ word ∷ []) (contents_of (take (length (words ++ word ∷ [])) contents)) (edits ++ edit ∷ [])
 one_more_edit words contents d edits word edit within are is =
     let size : length (words ++ word ∷ []) ≡ length words + 1 = length-append words (word ∷ []) in
-    rw (size, take_more contents (length words) d within,
-    map-append (λ (bytes : Vec ℕ Global). bytes.items) (take (length words) contents) (get_or contents (length words) d ∷ []))
+    rw (
+      size,
+      take_more contents (length words) d within,
+      map-append (λ (bytes : Vec ℕ Global). bytes.items) (take (length words) contents) (get_or contents (length words) d ∷ []),
+    )
     (payload_edits_push words (contents_of (take (length words) contents)) edits word (get_or contents (length words) d).items edit are is)
 
 -- The edit could not be made, or the text was not wholly written.

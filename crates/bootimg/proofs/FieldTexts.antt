@@ -73,7 +73,8 @@ no_arch word text named none (field.Os code) same is = other_bytes (codes "arch"
 no_arch word text named none (field.Arch code) same is = none code is
 no_arch word text named none (field.Compression code) same is = other_bytes (codes "arch") (codes "compression") refl (sym named ∙ same)
 
-pub no_compression : (word text : List ℕ) → word ≡ codes "compression" → NoneIs (IsCode Compression text) → (value : FieldValue) → word ≡ field_to_set value →
+pub no_compression : (word text : List ℕ) → word ≡ codes "compression" → NoneIs (IsCode Compression text) →
+    (value : FieldValue) → word ≡ field_to_set value →
     IsFieldText text value → ⊥
 no_compression word text named none (field.Name name) same is = other_bytes (codes "compression") (codes "name") refl (sym named ∙ same)
 no_compression word text named none (field.Time time) same is = other_bytes (codes "compression") (codes "time") refl (sym named ∙ same)

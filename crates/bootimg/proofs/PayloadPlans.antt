@@ -8,12 +8,14 @@ use Rattle.bootimg.specs.EditOptions.{IsNewPayload}
 
 -- The image that a word gives a payload is the only one.
 
-pub same_payload_image : (word : List ℕ) (one other : PayloadWord) → IsNewPayload word one → IsNewPayload word other → one.image ≡ other.image
+pub same_payload_image : (word : List ℕ) (one other : PayloadWord) → IsNewPayload word one →
+    IsNewPayload word other → one.image ≡ other.image
 same_payload_image word one other is also =
     same_shown one.image other.image
     (same_payload_parts word (shown_text other.image) other.file.now also.is also.first one.image one.file.now is).0
 
-pub same_payload_images : (words : List (List ℕ)) (ones others : List PayloadWord) → AllZip IsNewPayload words ones → AllZip IsNewPayload words others →
+pub same_payload_images : (words : List (List ℕ)) (ones others : List PayloadWord) → AllZip IsNewPayload words ones →
+    AllZip IsNewPayload words others →
     map (λ (payload : PayloadWord). payload.image) ones ≡ map (λ (payload : PayloadWord). payload.image) others
 same_payload_images [] [] [] are also = refl
 same_payload_images [] [] (other ∷ others) are also = absurd also

@@ -30,7 +30,8 @@ not_space byte other same = true≢false (sym (ap byte_is_space same) ∙ other)
 space_is : (byte : ℕ) → byte_is_space byte ≡ true → byte ≡ 32
 space_is byte holds = search (rules, tests)
 
-lacks_space : (bytes : List ℕ) (n : ℕ) → ((k : ℕ) → k < n → byte_is_space (get_or bytes k 0) ≡ false) → n ≤ length bytes → LacksByte 32 (take n bytes)
+lacks_space : (bytes : List ℕ) (n : ℕ) → ((k : ℕ) → k < n → byte_is_space (get_or bytes k 0) ≡ false) →
+    n ≤ length bytes → LacksByte 32 (take n bytes)
 lacks_space bytes zero below within = tt
 lacks_space [] (suc n) below within = absurd (omega (arith, within))
 lacks_space (byte ∷ bytes) (suc n) below within =
@@ -39,7 +40,8 @@ lacks_space (byte ∷ bytes) (suc n) below within =
 -- What `split_once` says of a word and a space.
 abbrev pub IsSplitAtSpace : (word : List ℕ) → Option (Bor (List ℕ) × Bor (List ℕ)) → Type 0
 IsSplitAtSpace word result = MatchOption result (position_or_len byte_is_space word ≡ length word)
-    (λ x. (x.0.now ≡ before_first byte_is_space word) × (x.1.now ≡ after_first byte_is_space word) × (position_or_len byte_is_space word < length word))
+    (λ x. (x.0.now ≡ before_first byte_is_space word) × (x.1.now ≡ after_first byte_is_space word)
+    × (position_or_len byte_is_space word < length word))
 
 pub cut_of_split : (word first rest : List ℕ) → first ≡ before_first byte_is_space word → rest ≡ after_first byte_is_space word →
     position_or_len byte_is_space word < length word → IsCutAt 32 word first (Some rest)
@@ -47,7 +49,8 @@ cut_of_split word first rest is_first is_rest within =
     let place = position_or_len byte_is_space word in
     rw (is_first, is_rest) (record {
       is = split_at_first byte_is_space word 0 within
-          ∙ ap (λ byte. before_first byte_is_space word ++ byte ∷ after_first byte_is_space word) (space_is _ (passes_at_first byte_is_space word 0 within));
+          ∙ ap (λ byte. before_first byte_is_space word ++ byte ∷ after_first byte_is_space word)
+          (space_is _ (passes_at_first byte_is_space word 0 within));
       first = lacks_space word place (λ k less. fails_before_first byte_is_space word k 0 less) (omega (arith, within));
     })
 

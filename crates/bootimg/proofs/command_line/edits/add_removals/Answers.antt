@@ -21,9 +21,12 @@ pub returns-in_default-clause-failure : goal.returns-in_default-clause-failure
 returns-in_default-clause-failure c =
     let words = c.args.words.now in
     let index = c.loop-word.word-index in
-    inl (refl, none_of_words IsRemovalWord words index no_word c.loop-word-test.true
-    (subst (λ w. NoneIs (IsRemovalWord w)) c.as_bytes.ensures.value
-    (none_given c.in_ok-edit.field-0 (NoneIs (IsRemovalWord c.as_bytes.result.now)) c.in_ok-edit.ensures.none c.in_default.is)))
+    inl (
+      refl,
+      none_of_words IsRemovalWord words index no_word c.loop-word-test.true
+          (subst (λ w. NoneIs (IsRemovalWord w)) c.as_bytes.ensures.value
+          (none_given c.in_ok-edit.field-0 (NoneIs (IsRemovalWord c.as_bytes.result.now)) c.in_ok-edit.ensures.none c.in_default.is)),
+    )
 
 pub loop-word-preserved : goal.loop-word-preserved
 loop-word-preserved c =

@@ -21,8 +21,11 @@ pub returns-in_default-clause-failure : goal.returns-in_default-clause-failure
 returns-in_default-clause-failure c =
     let words = c.args.words.now in
     let index = c.loop-word.word-index in
-    inl (refl, none_of_words IsSetWord words index no_word c.loop-word-test.true
-    (none_given c.in_ok-edit.field-0 (NoneIs (IsSetWord (get_or words index no_word).now)) c.in_ok-edit.ensures.none c.in_default.is))
+    inl (
+      refl,
+      none_of_words IsSetWord words index no_word c.loop-word-test.true
+          (none_given c.in_ok-edit.field-0 (NoneIs (IsSetWord (get_or words index no_word).now)) c.in_ok-edit.ensures.none c.in_default.is),
+    )
 
 pub loop-word-preserved : goal.loop-word-preserved
 loop-word-preserved c =
