@@ -1,11 +1,17 @@
-use Rattle.std.proofs.Common.{◌≡◌, ◌≤◌, ◌<◌, ◌+◌, ◌++◌, ◌∙◌, ℕ, List, [], ◌∷◌, Option, Err, length, take, drop, get_or, ap, subst, sym, add-one}
+use Rattle.std.proofs.Common.{◌≡◌, ◌≤◌, ◌<◌, ◌+◌, ◌++◌, ◌∙◌, ℕ, List, [], ◌∷◌, Option, Ok, Err, length, take, drop, get_or, ap, subst, sym, tt, add-one}
 use Rattle.std.proofs.Math.Seq.{drop-cons}
 use Rattle.std.proofs.lemmas.List.{length-append, length-map, map-append, take-append-drop, take_more}
 use Rattle.std.specs.Global.{Vec}
 use Rattle.std.specs.declared.alloc.Global.{Global}
-use Rattle.bi_base.specs.Commands.{CommandFailed, SinkFailed, WasRefused}
+use Rattle.bi_base.specs.BufferedSinks.{state_of, BufferAppends, BufferFails}
+use Rattle.bi_base.specs.Commands.{Appended, CommandFailed, SinkFailed, WasRefused}
 use Rattle.bi_base.specs.Limits.{Limits}
-use Rattle.bi_base.specs.Writing.{WriteOrFlushStopped}
+use Rattle.bi_base.specs.Sinks.{Wrote}
+use Rattle.bi_base.specs.Traces.{WriteTrace}
+use Rattle.bi_base.specs.Writing.{WriteOrFlushStopped, WroteAndFlushed}
+use Rattle.bi_base.specs.declared.buffered_sink.BufferedSink.{BufferedSink}
+use Rattle.bi_base.specs.declared.fault.Error.{Error}
+use Rattle.bi_base.proofs.PipeLaws.{failed_writing, finished_writing}
 use Rattle.bi_common.specs.Offsets.{input_from}
 use Rattle.bi_edit.specs.declared.edit.Edit.{Edit}
 use Rattle.bi_edit.specs.declared.edit_error.EditError.{EditError}
@@ -88,6 +94,35 @@ pub image_within : (files : KnownFiles) (limits : Limits) (old new : Inputs) (im
     IsImageRead files limits old new image source → length image ≤ limits.file
 image_within files limits old new image source (InputRead read same) = read.within
 image_within files limits old new image source (FileRead name read same) = read.is_read.within
+
+-- ---- the writer
+
+-- The editor failed over a new sink.
+pub editor_failed : {T E : Type 0} (trace : T → WriteTrace) (wraps : Error → E) (IsText : List ℕ → Type 0) (HasError : E → Type 0)
+    (target new_target : WriteTrace) (old new : BufferedSink T) (failure : E) → (state_of trace old).held ≡ []
+    → (state_of trace old).trace ≡ target → (state_of trace new).trace ≡ new_target
+    → CommandFailed (BufferFails trace) wraps IsText HasError old new failure
+    → CommandFailed WriteOrFlushStopped wraps IsText HasError target new_target failure
+editor_failed trace wraps IsText HasError target new_target old new failure none begins ends failed =
+    rw (sym begins, sym ends) (failed_writing trace wraps IsText HasError old new failure none failed)
+
+-- The editor appended its text to a new sink, and finishing the sink failed.
+pub finish_stopped : {T : Type 0} (trace : T → WriteTrace) (IsText : List ℕ → Type 0) (target new_target : WriteTrace)
+    (old mid : BufferedSink T) (new : WriteTrace) (cause : Error) → (state_of trace old).held ≡ []
+    → (state_of trace old).trace ≡ target → new ≡ new_target → (appended : Appended (BufferAppends trace) IsText old mid)
+    → Wrote {V = Unit {0}} WroteAndFlushed WriteOrFlushStopped (state_of trace mid).trace (state_of trace mid).held (Err cause) new
+    → WriteOrFlushStopped target appended.text new_target cause
+finish_stopped trace IsText target new_target old mid new cause none begins ends appended finished =
+    rw (sym begins, sym ends) (finished_writing trace IsText old mid new (Err cause) none appended finished)
+
+-- It was finished.
+pub finish_wrote : {T : Type 0} (trace : T → WriteTrace) (IsText : List ℕ → Type 0) (target new_target : WriteTrace)
+    (old mid : BufferedSink T) (new : WriteTrace) → (state_of trace old).held ≡ []
+    → (state_of trace old).trace ≡ target → new ≡ new_target → (appended : Appended (BufferAppends trace) IsText old mid)
+    → Wrote {V = Unit {0}} WroteAndFlushed WriteOrFlushStopped (state_of trace mid).trace (state_of trace mid).held (Ok tt) new
+    → WroteAndFlushed target appended.text new_target
+finish_wrote trace IsText target new_target old mid new none begins ends appended finished =
+    rw (sym begins, sym ends) (finished_writing trace IsText old mid new (Ok tt) none appended finished)
 
 -- ---- edits
 

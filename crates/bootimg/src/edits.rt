@@ -218,6 +218,7 @@ fn without_image<'a>(file: &[u8]) -> Failure<'a>
 {
     match kind_of(file) {
         Ok(Kind::Legacy) => Failure::NoPart,
-        _ => Failure::NoImage,
+        Ok(Kind::Fit) => Failure::NoImage,
+        Err(_) => Failure::NoImage,
     }
 }
