@@ -32,6 +32,6 @@ returns g c old new =
     c.failure_of.result (record { given = made.0; are = made.1; are_given = made.2 })
     (subst₂ (λ edits file. CommandFailed WriteOrFlushStopped (λ cause. Failed cause) (IsEdited edits choice limits file)
     (IsEditFileError edits choice limits file) _ _ c.in-Err.error) c.deref.ensures.value c.image_at-file.ensures c.in-Err.ensures.failed)
-    (subst₂ (λ words file. IsFailureOfEditing words file c.in-Err.error c.failure_of.result) c.deref-2.ensures.value
+    (subst₂ (λ words file. IsFailureOfEditing words file c.in-Err.error c.failure_of.result) c.deref-in-Err.ensures.value
     c.image_at-file.ensures c.failure_of.ensures)
     c.job_failed.ensures

@@ -25,9 +25,9 @@ returns-in-Err-clause-failed g c =
     inl (payload_not_read _ _ c.args.limits c.args.words.now c.loop-word.word-index no_payload c.word-item.result
     (contents_of c.loop-word.contents.items) _ _ _ _ c.loop-word-test.true here c.loop-word.invariant.0 c.loop-word.invariant.1 c.in-Err.ensures.failed refl)
 
-pub returns-in_err-push-clause-failed : goal.returns-in_err-push-clause-failed
-returns-in_err-push-clause-failed g c =
-    let p = err_from_is_err_and c.from_residual-in_err-push.result c.from_residual-in_err-push.ensures.1 in
+pub returns-in_err-push-in-Ok-clause-failed : goal.returns-in_err-push-in-Ok-clause-failed
+returns-in_err-push-in-Ok-clause-failed g c =
+    let p = err_from_is_err_and c.from_residual-in_err-push-in-Ok.result c.from_residual-in_err-push-in-Ok.ensures.1 in
     let here = get_or_read c.args.words.now c.loop-word.word-index c.word-item.result c.loop-word-test.true c.word-item.is no_payload in
     rw (p.1, p.2)
     (inr (
@@ -42,7 +42,7 @@ loop-word-preserved g c =
     let here = get_or_read c.args.words.now c.loop-word.word-index c.word-item.result c.loop-word-test.true c.word-item.is no_payload in (
       payload_read _ _ c.args.limits c.args.words.now c.loop-word.word-index no_payload c.word-item.result c.loop-word.contents.items
           c.push.new.self.items c.in-Ok.bytes _ _ _ c.loop-word-test.true here c.loop-word.invariant.0 c.loop-word.invariant.1
-          c.in_ok-push.ensures.items c.in-Ok.ensures.read,
+          c.in_ok-push-in-Ok.ensures.items c.in-Ok.ensures.read,
       c.in-Ok.ensures.same_files ∙ c.loop-word.invariant.1,
     )
 
