@@ -3,6 +3,7 @@ pub mod Arguments
 pub mod Calls
 pub mod CodeCalls
 pub mod ConcernElements
+pub mod EditCalls
 pub mod Extracting
 pub mod FitElements
 pub mod IgnoringCalls
