@@ -51,6 +51,7 @@ __all__ = [
     "Concern",
     "Configuration",
     "DEPTH",
+    "EditNotes",
     "FitHeader",
     "FitImage",
     "Hash",
@@ -84,6 +85,8 @@ __all__ = [
     "convert",
     "describe",
     "describe_json",
+    "edit",
+    "edit_notes",
     "explain",
     "extract_config",
     "extract_image",
@@ -148,12 +151,17 @@ REASONS = (
     "no number",
     "no name",
     "no code",
+    "bad word",
+    "bad edit",
+    "nothing to remove",
 )
 VALUE_FORMS = ("shown", "text", "number", "raw")
 
 _OK, _REFUSED, _OUT_OF_MEMORY, _NO_ROOM, _WRONG_ARGUMENT, _NOT_FOUND = range(6)
 _MISSING = 7
 _BAD_WORD = 16
+_BAD_EDIT = 17
+_FINDS_NOTHING = 18
 _SIGNED = 32768
 
 
@@ -171,6 +179,16 @@ class _BadWord(BootimgError):
     def __init__(self, index: int) -> None:
         super().__init__(f"bad word {index}")
         self.index = index
+
+
+class _BadEdit(BootimgError):
+    """The word of an edit is for none, or the edit finds nothing. `index` is its index, counted
+    from 0."""
+
+    def __init__(self, index: int, is_word: bool) -> None:
+        super().__init__(f"bad edit {index}")
+        self.index = index
+        self.is_word = is_word
 
 
 class Refused(BootimgError):
@@ -195,8 +213,9 @@ class WrongArgument(BootimgError, ValueError):
 
 
 class NotFound(BootimgError, LookupError):
-    """What a call looks for is not there. `reason` is one of REASONS. `index` is None, or for
-    "missing image" the index of the first name that no image has, counted from 0."""
+    """What a call looks for is not there. `reason` is one of REASONS. `index` is None, or counted
+    from 0: for "missing image" that of the first name that no image has, and of `edit` that of the
+    first edit that finds nothing, in its parameter."""
 
     def __init__(self, reason: str, index: int | None) -> None:
         super().__init__(reason if index is None else f"{reason} {index}")
@@ -323,6 +342,8 @@ _CALLS = {
     "normalise": _FILE + _NUMBER * 3 + _BUFFER,
     "update": _FILE + _NUMBER * 5 + _BUFFER,
     "notes": _FILE + _NUMBER * 5 + [ctypes.c_void_p],
+    "edit": _FILE * 3 + _NUMBER * 3 + _BUFFER,
+    "edit_notes": _FILE * 3 + _NUMBER * 3 + [ctypes.c_void_p],
     "extract_part": _FILE + _NUMBER * 3,
     "extract_image": _FILE * 2 + _NUMBER * 2,
     "extract_config": _FILE * 2 + _NUMBER * 4,
@@ -396,6 +417,8 @@ def _raise(status: int, answer: _Answer) -> None:
         raise WrongArgument("wrong argument")
     if status == _NOT_FOUND and answer.reason == _BAD_WORD:
         raise _BadWord(answer.value)
+    if status == _NOT_FOUND and answer.reason in (_BAD_EDIT, _FINDS_NOTHING):
+        raise _BadEdit(answer.value, answer.reason == _BAD_EDIT)
     if status == _NOT_FOUND:
         index = answer.value if answer.reason == _MISSING else None
         raise NotFound(REASONS[answer.reason - 1], index)
@@ -1057,6 +1080,7 @@ def _compared(
 
 # These use what is above.
 from bootimg.codes import CODES, Code, code_name, code_number  # noqa: E402
+from bootimg.edits import EditNotes, edit, edit_notes  # noqa: E402
 from bootimg.image import (  # noqa: E402
     Concern,
     Configuration,
