@@ -85,6 +85,29 @@ static uint32_t make(int call, uint8_t *buffer, bootimg_result *answer)
         return bootimg_compare_ignoring_json(file, size, file, size - 1, (const uint8_t *)"/images", 7, &(bootimg_region){0, 7}, 1,
                                              BOOTIMG_LIMIT, 64, buffer, sizeof text, answer);
     case 39: return bootimg_notes(file, size, 3, 7, BOOTIMG_EXTERNAL, BOOTIMG_LIMIT, 64, (void *)buffer, answer);
+    case 40:
+        return bootimg_edit(file, size, (const uint8_t *)"/images/x y 0x001name", 21,
+                            (const bootimg_edit_element[]){
+                                {{0, 16}, {0, 0}, BOOTIMG_EDIT_SET, 0},
+                                {{0, 0}, {0, 0}, BOOTIMG_EDIT_TIME, 7},
+                                {{0, 0}, {0, 0}, BOOTIMG_EDIT_HASHES, 0},
+                            },
+                            3, BOOTIMG_KEEP_FORM, BOOTIMG_LIMIT, 64, buffer, sizeof text, answer);
+    case 41:
+        return bootimg_edit_notes(file, size, (const uint8_t *)"/images/x y 0x001name", 21,
+                                  (const bootimg_edit_element[]){
+                                      {{17, 4}, {0, 0}, BOOTIMG_EDIT_NAME, 0},
+                                      {{16, 1}, {0, 21}, BOOTIMG_EDIT_PAYLOAD, 0},
+                                      {{0, 0}, {0, 0}, BOOTIMG_EDIT_OS, 17},
+                                  },
+                                  3, BOOTIMG_EXTERNAL, BOOTIMG_LIMIT, 64, (void *)buffer, answer);
+    case 42:
+        return bootimg_edit(file, size, (const uint8_t *)"/configurations/conf-1kernel-1", 30,
+                            (const bootimg_edit_element[]){
+                                {{0, 22}, {0, 0}, BOOTIMG_EDIT_REMOVE, 0},
+                                {{22, 8}, {0, 3}, BOOTIMG_EDIT_PAYLOAD, 0},
+                            },
+                            2, BOOTIMG_EMBEDDED, BOOTIMG_LIMIT, 64, buffer, sizeof text, answer);
     default: return bootimg_listed(file, size, name, 6, BOOTIMG_KERNEL, BOOTIMG_LIMIT, 64, (void *)buffer, 100, answer);
     }
 }
@@ -120,7 +143,7 @@ int main(int count, char **words)
     size = input == NULL ? 0 : fread(file, 1, sizeof file, input);
     if (size == 0)
         return 2;
-    for (int call = 0; call <= 40; call++) {
+    for (int call = 0; call <= 43; call++) {
         bootimg_result expected;
         uint32_t status;
         memset(wanted, 0xa5, sizeof wanted);
