@@ -192,8 +192,10 @@ def single_number(options, option, least=0, most=0xFFFFFFFF):
 def field_of(word):
     """The name and the value of a field of a legacy image, by the word that sets it."""
     field, _, value = word.partition(" ")
-    if field == "name" and value:
-        return field, b"" if value == "-" else urllib.parse.unquote_to_bytes(value)
+    if field == "name":
+        name = b"" if value == "-" else urllib.parse.unquote_to_bytes(value)
+        if bootimg._shown(os.fsdecode(name)) == value:
+            return field, name
     if field in ("time", "load", "entry") and number_of(value):
         return field, int(number_of(value))
     if field in bootimg.CODES and field != "type":
@@ -205,7 +207,7 @@ def field_of(word):
 def parameters_of_edits(path, words):
     """The parameters of a call of `edit` of the module that does what a run does. A place that is edited twice is a fault of the command
     line alone."""
-    options = options_of_edits(words)
+    options = options_of_edits([*words])
     settings, payloads = options.get("--set", []), [word.partition("=@")[::2] for word in options.get("--payload", [])]
     fields = [field_of(word) for word in settings if not word.startswith("/")]
     places = [tuple(word.split(" ")[:2]) for word in settings if word.startswith("/")] + [name for name, _ in fields + payloads]

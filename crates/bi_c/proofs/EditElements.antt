@@ -1,0 +1,106 @@
+use Rattle.std.proofs.Common.{◌≡◌, ◌≤◌, ◌<◌, ◌∙◌, ℕ, List, [], ◌∷◌, ◌++◌, Some, lit≤, refl, sym, subst, arith}
+use Rattle.std.specs.List.{AllZip}
+use Rattle.bi_edit.specs.declared.edit.Edit.{Edit}
+use Rattle.bi_edit.specs.declared.edit.Edit.TheVariants.{RemoveNode, RemoveProperty, SetProperty, SetField, SetPayload, SetTime, SetDigests}
+use Rattle.bi_edit.specs.declared.edit.FieldValue.{FieldValue}
+use Rattle.bi_edit.specs.declared.edit.FieldValue.TheVariants as field
+use Rattle.bi_edit.specs.declared.form_choice.FormChoice.{FormChoice}
+use Rattle.bi_edit.specs.declared.form_choice.FormChoice.TheVariants as choice
+use Rattle.bi_edit.specs.EditWords.{IsRemovalWord}
+use Rattle.bi_fit.specs.declared.form.Form.{Form}
+use Rattle.bi_c.specs.Arguments.{number_of_form}
+use Rattle.bi_c.specs.EditCalls.{IsBadElement, IsEditOf, IsNewPayload, IsSetting, kind_of_field, number_of_choice}
+use Rattle.bi_c.specs.PieceBuilding.{bytes_of_piece}
+use Rattle.bi_c.specs.declared.edits.EditElement.{EditElement}
+
+-- The edit that an element is for, by its kind.
+
+-- No choice of the form has a number that is neither 2 nor that of a form.
+pub no_choice : (number : ℕ) → ¬ (number ≡ 2) → ((form : Form) → ¬ (number_of_form form ≡ number)) → (choice : FormChoice) →
+    ¬ (number_of_choice choice ≡ number)
+no_choice number other none (choice.Given form) is = none form is
+no_choice number other none choice.Keep is = other (sym is)
+
+-- Fields have kinds of their own.
+field_kind : (value : FieldValue) → 3 ≤ kind_of_field value
+field_kind (field.Time time) = lit≤ tt
+field_kind (field.Name name) = lit≤ tt
+field_kind (field.Load load) = lit≤ tt
+field_kind (field.Entry entry) = lit≤ tt
+field_kind (field.Os code) = lit≤ tt
+field_kind (field.Arch code) = lit≤ tt
+field_kind (field.Compression code) = lit≤ tt
+
+module _ (input : List ℕ) (element : EditElement) where
+  -- Elements of the first kind are for removals,
+  pub removal_of : (edit : Edit) → element.kind ≡ 0 → IsRemovalWord (bytes_of_piece input element.word) edit →
+      IsEditOf input element edit
+  removal_of (RemoveNode path) kind is = record { is_kind = kind; has_values = is }
+  removal_of (RemoveProperty place) kind is = record { is_kind = kind; has_values = is }
+  removal_of (SetProperty place value) kind is = absurd is
+  removal_of (SetField value) kind is = absurd is
+  removal_of (SetPayload image payload) kind is = absurd is
+  removal_of (SetTime time) kind is = absurd is
+  removal_of SetDigests kind is = absurd is
+
+  pub no_removal : element.kind ≡ 0 → ((edit : Edit) → IsRemovalWord (bytes_of_piece input element.word) edit → ⊥) →
+      IsBadElement input element
+  no_removal kind none (RemoveNode path) is = none (RemoveNode path) is.has_values
+  no_removal kind none (RemoveProperty place) is = none (RemoveProperty place) is.has_values
+  no_removal kind none (SetProperty place value) is = omega (arith, kind, is.is_kind)
+  no_removal kind none (SetField value) is = omega (arith, kind, is.is_kind, field_kind value)
+  no_removal kind none (SetPayload image payload) is = omega (arith, kind, is.is_kind)
+  no_removal kind none (SetTime time) is = omega (arith, kind, is.is_kind)
+  no_removal kind none SetDigests is = omega (arith, kind, is.is_kind)
+
+  -- those of the second for new values,
+  pub setting_of : (edit : Edit) → element.kind ≡ 1 → IsSetting (bytes_of_piece input element.word) edit → IsEditOf input element edit
+  setting_of (SetProperty place value) kind is = record { is_kind = kind; has_values = is }
+  setting_of (RemoveNode path) kind is = absurd is
+  setting_of (RemoveProperty place) kind is = absurd is
+  setting_of (SetField value) kind is = absurd is
+  setting_of (SetPayload image payload) kind is = absurd is
+  setting_of (SetTime time) kind is = absurd is
+  setting_of SetDigests kind is = absurd is
+
+  pub no_setting : element.kind ≡ 1 → ((edit : Edit) → ¬ (IsSetting (bytes_of_piece input element.word) edit)) →
+      IsBadElement input element
+  no_setting kind none (SetProperty place value) is = none (SetProperty place value) is.has_values
+  no_setting kind none (RemoveNode path) is = omega (arith, kind, is.is_kind)
+  no_setting kind none (RemoveProperty place) is = omega (arith, kind, is.is_kind)
+  no_setting kind none (SetField value) is = omega (arith, kind, is.is_kind, field_kind value)
+  no_setting kind none (SetPayload image payload) is = omega (arith, kind, is.is_kind)
+  no_setting kind none (SetTime time) is = omega (arith, kind, is.is_kind)
+  no_setting kind none SetDigests is = omega (arith, kind, is.is_kind)
+
+  -- and those of the third for payloads.
+  pub payload_of : (edit : Edit) → element.kind ≡ 2 →
+      IsNewPayload (bytes_of_piece input element.word) (bytes_of_piece input element.payload) edit → IsEditOf input element edit
+  payload_of (SetPayload image payload) kind is = record { is_kind = kind; has_values = is }
+  payload_of (RemoveNode path) kind is = absurd is
+  payload_of (RemoveProperty place) kind is = absurd is
+  payload_of (SetProperty place value) kind is = absurd is
+  payload_of (SetField value) kind is = absurd is
+  payload_of (SetTime time) kind is = absurd is
+  payload_of SetDigests kind is = absurd is
+
+  pub no_payload : element.kind ≡ 2 →
+      ((edit : Edit) → ¬ (IsNewPayload (bytes_of_piece input element.word) (bytes_of_piece input element.payload) edit)) →
+      IsBadElement input element
+  no_payload kind none (SetPayload image payload) is = none (SetPayload image payload) is.has_values
+  no_payload kind none (RemoveNode path) is = omega (arith, kind, is.is_kind)
+  no_payload kind none (RemoveProperty place) is = omega (arith, kind, is.is_kind)
+  no_payload kind none (SetProperty place value) is = omega (arith, kind, is.is_kind)
+  no_payload kind none (SetField value) is = omega (arith, kind, is.is_kind, field_kind value)
+  no_payload kind none (SetTime time) is = omega (arith, kind, is.is_kind)
+  no_payload kind none SetDigests is = omega (arith, kind, is.is_kind)
+
+-- An element that is added to a list of elements adds one edit.
+pub one_edit_added : (input : List ℕ) (elements : List EditElement) (edits : List Edit) (element : EditElement) (edit : Edit) →
+    AllZip (IsEditOf input) elements edits → IsEditOf input element edit →
+    AllZip (IsEditOf input) (elements ++ element ∷ []) (edits ++ edit ∷ [])
+one_edit_added input [] [] element edit are is = (is, tt)
+one_edit_added input [] (first ∷ edits) element edit are is = absurd are
+one_edit_added input (first ∷ elements) [] element edit are is = absurd are
+one_edit_added input (first ∷ elements) (other ∷ edits) element edit are is =
+    (are.0, one_edit_added input elements edits element edit are.1 is)
