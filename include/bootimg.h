@@ -463,14 +463,14 @@ uint32_t bootimg_notes(const uint8_t *file, size_t file_size, uint32_t changes, 
  * of the output.
  *
  * The status is BOOTIMG_WRONG_ARGUMENT if a region of an edit is not inside the input, even one
- * that its kind does not use, if a kind is not one of those above, or if a code is greater than 255.
+ * that its kind does not use; if a kind is not one of these; or if a code is greater than 255.
  * Otherwise it can be BOOTIMG_OUT_OF_MEMORY, or BOOTIMG_NOT_FOUND with the first of these reasons
  * that applies:
  *
  *   BOOTIMG_BAD_EDIT        The word of an edit does not have the form above, or names a node or a
  *                           property that cannot be removed or set. `value` is the index of the
  *                           first such edit. The file is not examined before.
- *   BOOTIMG_WRONG_KIND      An edit of a FIT is made of a legacy image, or of a part by what is no
+ *   BOOTIMG_WRONG_KIND      An edit of a FIT is made of a legacy image, or of a part by what is not a
  *                           number, or a field is set of a FIT. This reason and the next one come
  *                           after the causes of reading.
  *   BOOTIMG_FINDS_NOTHING   There is nothing to remove, no such image or no such part. `value` is

@@ -33,67 +33,67 @@ field_kind (field.Compression code) = lit≤ tt
 
 module _ (input : List ℕ) (element : EditElement) where
   -- Elements of the first kind are for removals,
-  pub removal_of : (edit : Edit) → element.kind ≡ 0 → IsRemovalWord (bytes_of_piece input element.word) edit →
+  pub removal_edit : (edit : Edit) → element.kind ≡ 0 → IsRemovalWord (bytes_of_piece input element.word) edit →
       IsEditOf input element edit
-  removal_of (RemoveNode path) kind is = record { is_kind = kind; has_values = is }
-  removal_of (RemoveProperty place) kind is = record { is_kind = kind; has_values = is }
-  removal_of (SetProperty place value) kind is = absurd is
-  removal_of (SetField value) kind is = absurd is
-  removal_of (SetPayload image payload) kind is = absurd is
-  removal_of (SetTime time) kind is = absurd is
-  removal_of SetDigests kind is = absurd is
+  removal_edit (RemoveNode path) kind is = record { is_kind = kind; has_values = is }
+  removal_edit (RemoveProperty place) kind is = record { is_kind = kind; has_values = is }
+  removal_edit (SetProperty place value) kind is = absurd is
+  removal_edit (SetField value) kind is = absurd is
+  removal_edit (SetPayload image payload) kind is = absurd is
+  removal_edit (SetTime time) kind is = absurd is
+  removal_edit SetDigests kind is = absurd is
 
-  pub no_removal : element.kind ≡ 0 → ((edit : Edit) → IsRemovalWord (bytes_of_piece input element.word) edit → ⊥) →
+  pub no_removal_edit : element.kind ≡ 0 → ((edit : Edit) → IsRemovalWord (bytes_of_piece input element.word) edit → ⊥) →
       IsBadElement input element
-  no_removal kind none (RemoveNode path) is = none (RemoveNode path) is.has_values
-  no_removal kind none (RemoveProperty place) is = none (RemoveProperty place) is.has_values
-  no_removal kind none (SetProperty place value) is = omega (arith, kind, is.is_kind)
-  no_removal kind none (SetField value) is = omega (arith, kind, is.is_kind, field_kind value)
-  no_removal kind none (SetPayload image payload) is = omega (arith, kind, is.is_kind)
-  no_removal kind none (SetTime time) is = omega (arith, kind, is.is_kind)
-  no_removal kind none SetDigests is = omega (arith, kind, is.is_kind)
+  no_removal_edit kind none (RemoveNode path) is = none (RemoveNode path) is.has_values
+  no_removal_edit kind none (RemoveProperty place) is = none (RemoveProperty place) is.has_values
+  no_removal_edit kind none (SetProperty place value) is = omega (arith, kind, is.is_kind)
+  no_removal_edit kind none (SetField value) is = omega (arith, kind, is.is_kind, field_kind value)
+  no_removal_edit kind none (SetPayload image payload) is = omega (arith, kind, is.is_kind)
+  no_removal_edit kind none (SetTime time) is = omega (arith, kind, is.is_kind)
+  no_removal_edit kind none SetDigests is = omega (arith, kind, is.is_kind)
 
   -- those of the second for new values,
-  pub setting_of : (edit : Edit) → element.kind ≡ 1 → IsSetting (bytes_of_piece input element.word) edit → IsEditOf input element edit
-  setting_of (SetProperty place value) kind is = record { is_kind = kind; has_values = is }
-  setting_of (RemoveNode path) kind is = absurd is
-  setting_of (RemoveProperty place) kind is = absurd is
-  setting_of (SetField value) kind is = absurd is
-  setting_of (SetPayload image payload) kind is = absurd is
-  setting_of (SetTime time) kind is = absurd is
-  setting_of SetDigests kind is = absurd is
+  pub setting_edit : (edit : Edit) → element.kind ≡ 1 → IsSetting (bytes_of_piece input element.word) edit → IsEditOf input element edit
+  setting_edit (SetProperty place value) kind is = record { is_kind = kind; has_values = is }
+  setting_edit (RemoveNode path) kind is = absurd is
+  setting_edit (RemoveProperty place) kind is = absurd is
+  setting_edit (SetField value) kind is = absurd is
+  setting_edit (SetPayload image payload) kind is = absurd is
+  setting_edit (SetTime time) kind is = absurd is
+  setting_edit SetDigests kind is = absurd is
 
-  pub no_setting : element.kind ≡ 1 → ((edit : Edit) → ¬ (IsSetting (bytes_of_piece input element.word) edit)) →
+  pub no_setting_edit : element.kind ≡ 1 → ((edit : Edit) → ¬ (IsSetting (bytes_of_piece input element.word) edit)) →
       IsBadElement input element
-  no_setting kind none (SetProperty place value) is = none (SetProperty place value) is.has_values
-  no_setting kind none (RemoveNode path) is = omega (arith, kind, is.is_kind)
-  no_setting kind none (RemoveProperty place) is = omega (arith, kind, is.is_kind)
-  no_setting kind none (SetField value) is = omega (arith, kind, is.is_kind, field_kind value)
-  no_setting kind none (SetPayload image payload) is = omega (arith, kind, is.is_kind)
-  no_setting kind none (SetTime time) is = omega (arith, kind, is.is_kind)
-  no_setting kind none SetDigests is = omega (arith, kind, is.is_kind)
+  no_setting_edit kind none (SetProperty place value) is = none (SetProperty place value) is.has_values
+  no_setting_edit kind none (RemoveNode path) is = omega (arith, kind, is.is_kind)
+  no_setting_edit kind none (RemoveProperty place) is = omega (arith, kind, is.is_kind)
+  no_setting_edit kind none (SetField value) is = omega (arith, kind, is.is_kind, field_kind value)
+  no_setting_edit kind none (SetPayload image payload) is = omega (arith, kind, is.is_kind)
+  no_setting_edit kind none (SetTime time) is = omega (arith, kind, is.is_kind)
+  no_setting_edit kind none SetDigests is = omega (arith, kind, is.is_kind)
 
   -- and those of the third for payloads.
-  pub payload_of : (edit : Edit) → element.kind ≡ 2 →
+  pub payload_edit : (edit : Edit) → element.kind ≡ 2 →
       IsNewPayload (bytes_of_piece input element.word) (bytes_of_piece input element.payload) edit → IsEditOf input element edit
-  payload_of (SetPayload image payload) kind is = record { is_kind = kind; has_values = is }
-  payload_of (RemoveNode path) kind is = absurd is
-  payload_of (RemoveProperty place) kind is = absurd is
-  payload_of (SetProperty place value) kind is = absurd is
-  payload_of (SetField value) kind is = absurd is
-  payload_of (SetTime time) kind is = absurd is
-  payload_of SetDigests kind is = absurd is
+  payload_edit (SetPayload image payload) kind is = record { is_kind = kind; has_values = is }
+  payload_edit (RemoveNode path) kind is = absurd is
+  payload_edit (RemoveProperty place) kind is = absurd is
+  payload_edit (SetProperty place value) kind is = absurd is
+  payload_edit (SetField value) kind is = absurd is
+  payload_edit (SetTime time) kind is = absurd is
+  payload_edit SetDigests kind is = absurd is
 
-  pub no_payload : element.kind ≡ 2 →
+  pub no_payload_edit : element.kind ≡ 2 →
       ((edit : Edit) → ¬ (IsNewPayload (bytes_of_piece input element.word) (bytes_of_piece input element.payload) edit)) →
       IsBadElement input element
-  no_payload kind none (SetPayload image payload) is = none (SetPayload image payload) is.has_values
-  no_payload kind none (RemoveNode path) is = omega (arith, kind, is.is_kind)
-  no_payload kind none (RemoveProperty place) is = omega (arith, kind, is.is_kind)
-  no_payload kind none (SetProperty place value) is = omega (arith, kind, is.is_kind)
-  no_payload kind none (SetField value) is = omega (arith, kind, is.is_kind, field_kind value)
-  no_payload kind none (SetTime time) is = omega (arith, kind, is.is_kind)
-  no_payload kind none SetDigests is = omega (arith, kind, is.is_kind)
+  no_payload_edit kind none (SetPayload image payload) is = none (SetPayload image payload) is.has_values
+  no_payload_edit kind none (RemoveNode path) is = omega (arith, kind, is.is_kind)
+  no_payload_edit kind none (RemoveProperty place) is = omega (arith, kind, is.is_kind)
+  no_payload_edit kind none (SetProperty place value) is = omega (arith, kind, is.is_kind)
+  no_payload_edit kind none (SetField value) is = omega (arith, kind, is.is_kind, field_kind value)
+  no_payload_edit kind none (SetTime time) is = omega (arith, kind, is.is_kind)
+  no_payload_edit kind none SetDigests is = omega (arith, kind, is.is_kind)
 
 -- An element that is added to a list of elements adds one edit.
 pub one_edit_added : (input : List ℕ) (elements : List EditElement) (edits : List Edit) (element : EditElement) (edit : Edit) →

@@ -73,14 +73,14 @@ kind_of_edit SetDigests = 4
 kind_of_edit (SetField value) = kind_of_field value
 
 -- The value of a field is this name or this number.
-abbrev pub IsFieldValue : (name : List ℕ) → (number : ℕ) → FieldValue → Type 0
-IsFieldValue name number (field.Time time) = ⊥
-IsFieldValue name number (field.Name given) = given.items ≡ name
-IsFieldValue name number (field.Load load) = load ≡ number
-IsFieldValue name number (field.Entry entry) = entry ≡ number
-IsFieldValue name number (field.Os code) = code ≡ number
-IsFieldValue name number (field.Arch code) = code ≡ number
-IsFieldValue name number (field.Compression code) = code ≡ number
+abbrev pub IsFieldOfElement : (name : List ℕ) → (number : ℕ) → FieldValue → Type 0
+IsFieldOfElement name number (field.Time time) = ⊥
+IsFieldOfElement name number (field.Name given) = given.items ≡ name
+IsFieldOfElement name number (field.Load load) = load ≡ number
+IsFieldOfElement name number (field.Entry entry) = entry ≡ number
+IsFieldOfElement name number (field.Os code) = code ≡ number
+IsFieldOfElement name number (field.Arch code) = code ≡ number
+IsFieldOfElement name number (field.Compression code) = code ≡ number
 
 -- The edit is a new value of a property, for this word.
 abbrev pub IsSetting : (word : List ℕ) → Edit → Type 0
@@ -97,7 +97,7 @@ IsNewPayload word bytes edit = ⊥
 abbrev pub HasValues : (word bytes : List ℕ) → (number : ℕ) → Edit → Type 0
 HasValues word bytes number (SetTime time) = time ≡ number
 HasValues word bytes number SetDigests = ⊤
-HasValues word bytes number (SetField value) = IsFieldValue word number value
+HasValues word bytes number (SetField value) = IsFieldOfElement word number value
 HasValues word bytes number (SetProperty place value) = IsSetting word (SetProperty place value)
 HasValues word bytes number (SetPayload image payload) =
     IsNewPayload word bytes (SetPayload image payload)

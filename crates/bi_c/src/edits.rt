@@ -114,7 +114,7 @@ pub extern "C" fn bootimg_edit(
         (IsEditCallFailure limit depth form input.now edits.now file.now)
         buffer.old buffer.new answer.new result }
 {
-    match edited(alloc, file, input, edits, form, limit, depth) {
+    match edited_file(alloc, file, input, edits, form, limit, depth) {
         Ok(made) => fill(&made.text, made.notes.kept.signatures, buffer, answer),
         Err(failure) => fail(failure, answer),
     }
@@ -138,7 +138,7 @@ pub extern "C" fn bootimg_edit_notes(
         (IsEditCallFailure limit depth form input.now edits.now file.now)
         notes.old notes.new answer.new result }
 {
-    match edited(alloc, file, input, edits, form, limit, depth) {
+    match edited_file(alloc, file, input, edits, form, limit, depth) {
         Ok(made) => {
             *notes = numbers_of(made.notes);
             succeed(0, 0, answer)
@@ -149,7 +149,7 @@ pub extern "C" fn bootimg_edit_notes(
 
 /// An edited file.
 #[derive(Drop)]
-struct Edited {
+struct EditedFile {
     /// The text.
     text: Vec<u8>,
     /// What a user should know beyond the meaning of the text.
@@ -160,7 +160,7 @@ struct Edited {
 ///
 /// Errors: WrongArgument, if a number is not one that the argument may be, or an element is not one
 /// of an edit; NotFound, with the index of the first edit whose word is for none; those of editing.
-fn edited(
+fn edited_file(
     alloc: Global,
     file: &[u8],
     input: &[u8],
@@ -168,7 +168,7 @@ fn edited(
     form: u32,
     limit: u32,
     depth: u32,
-) -> Result<Edited, Failure>
+) -> Result<EditedFile, Failure>
     ensures made { IfOk result (λ made. IsMadeOf limit depth form input.now elements.now file.now
         made.text.items made.notes) }
     ensures failed { IfErr result
@@ -189,7 +189,7 @@ fn edited(
     };
     let mut sink = VecSink::new(alloc);
     match edit_file_into(alloc, file, &edits, choice, limits, &mut sink) {
-        Ok(notes) => Ok(Edited {
+        Ok(notes) => Ok(EditedFile {
             text: sink.into_vec(),
             notes,
         }),
