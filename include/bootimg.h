@@ -32,10 +32,10 @@
  *                           BOOTIMG_OK.
  *   BOOTIMG_WRONG_ARGUMENT  A number is out of the range of its argument.
  *   BOOTIMG_NOT_FOUND       What the call looks for is not there. `reason` is one of
- *                           BOOTIMG_WRONG_KIND to BOOTIMG_FINDS_NOTHING. `value` is the index of
- *                           the first name that no image has for BOOTIMG_MISSING, that of the first
- *                           word that names nothing for BOOTIMG_BAD_WORD, that of an edit for
- *                           BOOTIMG_BAD_EDIT and BOOTIMG_FINDS_NOTHING, and otherwise 0.
+ *                           BOOTIMG_WRONG_KIND to BOOTIMG_FINDS_NOTHING. `value` is an index: of
+ *                           the first name that no image has for BOOTIMG_MISSING, of the first word
+ *                           that names nothing for BOOTIMG_BAD_WORD, and of an edit for
+ *                           BOOTIMG_BAD_EDIT and BOOTIMG_FINDS_NOTHING. Otherwise it is 0.
  *
  * Numbers without meaning for the status or the call are 0. If the status is BOOTIMG_OK, the
  * output is at the beginning of the buffer, and the bytes after it are unchanged. After any other
@@ -457,7 +457,7 @@ uint32_t bootimg_notes(const uint8_t *file, size_t file_size, uint32_t changes, 
 /* Writes the normal form of a file after edits, as `bootimg update` does with its options. The
  * words and payloads of the edits are regions of `input`, which may be anywhere in it. The edits
  * are made in this order, whatever their order in the array: removals, new values and fields,
- * payloads, the time, the digests. Those of one of these kinds are made in their order in the
+ * payloads, the time, the digests. Edits of one of these kinds are made in their order in the
  * array. Whatever no edit names is as it was. Without edits the output is the normal form. `form`
  * is as for bootimg_normalise, or BOOTIMG_KEEP_FORM, and `value` is the number of signature nodes
  * of the output.
@@ -470,9 +470,9 @@ uint32_t bootimg_notes(const uint8_t *file, size_t file_size, uint32_t changes, 
  *   BOOTIMG_BAD_EDIT        The word of an edit does not have the form above, or names a node or a
  *                           property that cannot be removed or set. `value` is the index of the
  *                           first such edit. The file is not examined before.
- *   BOOTIMG_WRONG_KIND      An edit of a FIT is made of a legacy image, or of a part by what is not a
- *                           number, or a field is set of a FIT. This reason and the next one come
- *                           after the causes of reading.
+ *   BOOTIMG_WRONG_KIND      An edit is for the other kind of image, or for a part by a word that is
+ *                           not a number. This reason and the next one come after the causes of
+ *                           reading.
  *   BOOTIMG_FINDS_NOTHING   There is nothing to remove, no such image or no such part. `value` is
  *                           the index of the first such edit, in the order in which they are made.
  *

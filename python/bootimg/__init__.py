@@ -214,8 +214,8 @@ class WrongArgument(BootimgError, ValueError):
 
 class NotFound(BootimgError, LookupError):
     """What a call looks for is not there. `reason` is one of REASONS. `index` is None, or counted
-    from 0: for "missing image" that of the first name that no image has, and of `edit` that of the
-    first edit that finds nothing, in its parameter."""
+    from 0: for "missing image" the index of the first name that no image has, and of `edit` the
+    index of the first edit that finds nothing, in its parameter."""
 
     def __init__(self, reason: str, index: int | None) -> None:
         super().__init__(reason if index is None else f"{reason} {index}")

@@ -32,7 +32,7 @@ class EditNotes(NamedTuple):
     number of signature nodes, which are kept and not checked. The others are for a FIT:
     `lost_alignment` is the alignment in bytes that the payloads after the blob have in the file, if
     one of them loses it in the external form, or None; `lost_positions` is the number of fixed
-    positions of payloads that are not kept in the external form or in that of the file; and
+    positions of payloads that are not kept in the external form or the form of the file; and
     `inside` is the number of payloads after the blob of the file that are inside it now."""
 
     signatures: int
@@ -164,7 +164,7 @@ def edit(
     depth: int = bootimg.DEPTH,
 ) -> bytes:
     """Returns the normal form of a file after edits. They are made in the order of these
-    parameters, and those of one parameter in its order. Whatever they do not name is as it was.
+    parameters, and edits of one parameter in its order. Whatever they do not name is as it was.
 
     `remove` has words as the option `--remove` of `bootimg update` takes them: the path of a node,
     or a path, a space and the name of a property. `set` has words as `--set` takes them for a FIT:
