@@ -5,6 +5,7 @@ pub mod CodeNames
 pub mod CheckedFiles
 pub mod ComparedFiles
 pub mod ConcernFiles
+pub mod EditCallFacts
 pub mod EditElements
 pub mod EditedCalls
 pub mod ElementFacts

@@ -11,6 +11,7 @@ pub mod ImageElements
 pub mod KnownElements
 pub mod KnownCalls
 pub mod KnownCodeCalls
+pub mod KnownEditCalls
 pub mod KnownIgnoringCalls
 pub mod KnownLegacyCalls
 pub mod KnownNotes

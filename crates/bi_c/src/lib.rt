@@ -22,6 +22,7 @@ mod images;
 mod kind;
 mod known_all_nodes;
 mod known_calls;
+mod known_edit_calls;
 mod known_elements;
 mod known_ignoring;
 mod known_numbers;
