@@ -66,7 +66,7 @@ class _Edits:
         self,
         remove: Iterable[bytes | str],
         set: Iterable[bytes | str],
-        payloads: Mapping[Any, bootimg.Buffer],
+        payloads: Mapping[Any, bootimg.Buffer] | None,
         fields: Mapping[str, Field],
         time: int | None,
         hashes: bool,
@@ -80,7 +80,7 @@ class _Edits:
             self._add(_REMOVE, word, index=index)
         for index, word in enumerate(set):
             self._add(_SET, word, index=index)
-        for index, (name, payload) in enumerate(payloads.items()):
+        for index, (name, payload) in enumerate((payloads or {}).items()):
             self._add(_PAYLOAD, name, payload, index=index)
         for field, value in fields.items():
             self._add_field(field, value)
@@ -153,7 +153,7 @@ def edit(
     *,
     remove: Iterable[bytes | str] = (),
     set: Iterable[bytes | str] = (),
-    payloads: Mapping[str, bootimg.Buffer] | Mapping[bytes, bootimg.Buffer] = {},
+    payloads: Mapping[str, bootimg.Buffer] | Mapping[bytes, bootimg.Buffer] | None = None,
     fields: Mapping[str, Field] = {},
     time: int | None = None,
     hashes: bool = False,
@@ -209,7 +209,7 @@ def edit_notes(
     *,
     remove: Iterable[bytes | str] = (),
     set: Iterable[bytes | str] = (),
-    payloads: Mapping[str, bootimg.Buffer] | Mapping[bytes, bootimg.Buffer] = {},
+    payloads: Mapping[str, bootimg.Buffer] | Mapping[bytes, bootimg.Buffer] | None = None,
     fields: Mapping[str, Field] = {},
     time: int | None = None,
     hashes: bool = False,

@@ -566,7 +566,7 @@ class Image:
         *,
         remove: Iterable[bytes | str] = (),
         set: Iterable[bytes | str] = (),
-        payloads: Mapping[str, bootimg.Buffer] | Mapping[bytes, bootimg.Buffer] = {},
+        payloads: Mapping[str, bootimg.Buffer] | Mapping[bytes, bootimg.Buffer] | None = None,
         fields: Mapping[str, bytes | str | int] = {},
         time: int | None = None,
         hashes: bool = False,
