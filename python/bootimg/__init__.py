@@ -18,8 +18,8 @@ out of its range or a name is unknown, NotFound if there is nothing to extract, 
 OutOfMemory if an allocation fails.
 
 `python3 -m bootimg COMMAND ..` writes what `bootimg COMMAND ..` writes, and ends with the same
-status. It lacks `-o`, `--escaped`, `--offset`, `--all` and the options of `update` that edit, and its
-message about wrong arguments is different. It also takes names that are not UTF-8. `python3 -m
+status. It lacks `-o`, `--escaped`, `--offset`, `--all` and the options of `update` that edit, and
+its message about wrong arguments is different. It also takes names that are not UTF-8. `python3 -m
 bootimg --help` lists its commands.
 
 The module loads the library that the environment variable BOOTIMG_LIBRARY names, if it is set, or

@@ -1,25 +1,23 @@
-use Rattle.std.proofs.Common.{◌≡◌, ◌≤◌, ◌<◌, ◌∙◌, ℕ, List, [], ◌∷◌, ◌++◌, Some, lit≤, refl, sym, subst, arith}
+use Rattle.std.proofs.Common.{◌≡◌, ◌≤◌, ℕ, List, [], ◌∷◌, ◌++◌, Option, None, Some, Result, Ok, Err, IfOk, lit≤, arith}
+use Rattle.std.specs.Prelude.{IfNone}
 use Rattle.std.specs.List.{AllZip}
 use Rattle.bi_edit.specs.declared.edit.Edit.{Edit}
 use Rattle.bi_edit.specs.declared.edit.Edit.TheVariants.{RemoveNode, RemoveProperty, SetProperty, SetField, SetPayload, SetTime, SetDigests}
 use Rattle.bi_edit.specs.declared.edit.FieldValue.{FieldValue}
 use Rattle.bi_edit.specs.declared.edit.FieldValue.TheVariants as field
-use Rattle.bi_edit.specs.declared.form_choice.FormChoice.{FormChoice}
-use Rattle.bi_edit.specs.declared.form_choice.FormChoice.TheVariants as choice
 use Rattle.bi_edit.specs.EditWords.{IsRemovalWord}
-use Rattle.bi_fit.specs.declared.form.Form.{Form}
-use Rattle.bi_c.specs.Arguments.{number_of_form}
-use Rattle.bi_c.specs.EditCalls.{IsBadElement, IsEditOf, IsNewPayload, IsSetting, kind_of_field, number_of_choice}
+use Rattle.bi_c.specs.EditCalls.{IsBadElement, IsEditOf, IsNewPayload, IsSetting, kind_of_field}
 use Rattle.bi_c.specs.PieceBuilding.{bytes_of_piece}
 use Rattle.bi_c.specs.declared.edits.EditElement.{EditElement}
 
 -- The edit that an element is for, by its kind.
 
--- No choice of the form has a number that is neither 2 nor that of a form.
-pub no_choice : (number : ℕ) → ¬ (number ≡ 2) → ((form : Form) → ¬ (number_of_form form ≡ number)) → (choice : FormChoice) →
-    ¬ (number_of_choice choice ≡ number)
-no_choice number other none (choice.Given form) is = none form is
-no_choice number other none choice.Keep is = other (sym is)
+-- What follows where a call returned no value.
+pub no_value_by : {T E : Type 0} (P Q : Type 0) (result : Result (Option T) E) → (P → Q) → IfOk result (λ found. IfNone found P) →
+    IfOk result (λ found. IfNone found Q)
+no_value_by P Q (Ok None) so none = so none
+no_value_by P Q (Ok (Some value)) so none = tt
+no_value_by P Q (Err error) so none = tt
 
 -- Fields have kinds of their own.
 field_kind : (value : FieldValue) → 3 ≤ kind_of_field value
@@ -54,15 +52,6 @@ module _ (input : List ℕ) (element : EditElement) where
   no_removal_edit kind none SetDigests is = omega (arith, kind, is.is_kind)
 
   -- those of the second for new values,
-  pub setting_edit : (edit : Edit) → element.kind ≡ 1 → IsSetting (bytes_of_piece input element.word) edit → IsEditOf input element edit
-  setting_edit (SetProperty place value) kind is = record { is_kind = kind; has_values = is }
-  setting_edit (RemoveNode path) kind is = absurd is
-  setting_edit (RemoveProperty place) kind is = absurd is
-  setting_edit (SetField value) kind is = absurd is
-  setting_edit (SetPayload image payload) kind is = absurd is
-  setting_edit (SetTime time) kind is = absurd is
-  setting_edit SetDigests kind is = absurd is
-
   pub no_setting_edit : element.kind ≡ 1 → ((edit : Edit) → ¬ (IsSetting (bytes_of_piece input element.word) edit)) →
       IsBadElement input element
   no_setting_edit kind none (SetProperty place value) is = none (SetProperty place value) is.has_values
@@ -74,16 +63,6 @@ module _ (input : List ℕ) (element : EditElement) where
   no_setting_edit kind none SetDigests is = omega (arith, kind, is.is_kind)
 
   -- and those of the third for payloads.
-  pub payload_edit : (edit : Edit) → element.kind ≡ 2 →
-      IsNewPayload (bytes_of_piece input element.word) (bytes_of_piece input element.payload) edit → IsEditOf input element edit
-  payload_edit (SetPayload image payload) kind is = record { is_kind = kind; has_values = is }
-  payload_edit (RemoveNode path) kind is = absurd is
-  payload_edit (RemoveProperty place) kind is = absurd is
-  payload_edit (SetProperty place value) kind is = absurd is
-  payload_edit (SetField value) kind is = absurd is
-  payload_edit (SetTime time) kind is = absurd is
-  payload_edit SetDigests kind is = absurd is
-
   pub no_payload_edit : element.kind ≡ 2 →
       ((edit : Edit) → ¬ (IsNewPayload (bytes_of_piece input element.word) (bytes_of_piece input element.payload) edit)) →
       IsBadElement input element

@@ -1,15 +1,16 @@
-use Rattle.std.proofs.Common.{◌≡◌, ℕ, List, refl, sym, subst}
-use Rattle.std.specs.List.{AllByRecursion, AllZip}
+use Rattle.std.proofs.Common.{◌≡◌, ◌∙◌, ℕ, List, ap, refl, sym, subst}
+use Rattle.std.specs.List.{AllZip}
 use Rattle.bi_base.specs.declared.fault.Error.TheVariants as cause
-use Rattle.bi_base.specs.Limits.{Limits, IsInRange}
+use Rattle.bi_base.specs.Commands.{CommandFailed, SinkFailed, WasRefused}
+use Rattle.bi_base.specs.declared.fault.Error.{Error}
+use Rattle.bi_base.specs.Limits.{Limits}
 use Rattle.bi_edit.specs.declared.edit.Edit.{Edit}
 use Rattle.bi_edit.specs.declared.edit_error.EditError.{EditError}
 use Rattle.bi_edit.specs.declared.edit_error.EditError.TheVariants as error
 use Rattle.bi_edit.specs.declared.edit_notes.EditNotes.{EditNotes}
-use Rattle.bi_edit.specs.declared.form_choice.FormChoice.{FormChoice}
-use Rattle.bi_edit.specs.EditedFiles.{IsEditFileError, IsEditOutput}
+use Rattle.bi_edit.specs.EditedFiles.{IsEdited, IsEditFileError, IsEditOutput}
 use Rattle.bi_c.specs.Arguments.{bounds}
-use Rattle.bi_c.specs.EditCalls.{AreEditsFailure, HasEditElements, IsEditCallFailure, IsEditElement, IsEditOf, IsMadeOf, IsRefusedEdit, OfFile, OfWord}
+use Rattle.bi_c.specs.EditCalls.{AreEditsFailure, HasEditElements, IsEditCallFailure, IsEditOf, IsMadeOf, IsRefusedEdit, OfFile, OfWord}
 use Rattle.bi_c.specs.EditCalls.{failure_of_edit_error}
 use Rattle.bi_c.specs.declared.edits.EditElement.{EditElement}
 use Rattle.bi_c.specs.declared.failure.Failure.{Failure}
@@ -48,7 +49,7 @@ module _ (limit depth form : ℕ) (input : List ℕ) (elements : List EditElemen
       has_error = subst (λ (l : Limits). IsEditFileError edits has.choice l file cause) same is;
     }
 
-    pub not_made_of : (cause : EditError) → IsEditFileError edits has.choice limits file cause →
+    not_made_of : (cause : EditError) → IsEditFileError edits has.choice limits file cause →
         IsEditCallFailure limit depth form input elements file (failure_of_edit_error cause)
     not_made_of error.WrongKind is = OfFile (refused_edit error.WrongKind is)
     not_made_of (error.FindsNothing index) is = OfFile (refused_edit (error.FindsNothing index) is)
@@ -56,3 +57,14 @@ module _ (limit depth form : ℕ) (input : List ℕ) (elements : List EditElemen
     not_made_of (error.Failed cause.OutOfMemory) is = has
     not_made_of (error.Failed cause.ReadFailed) is = has
     not_made_of (error.Failed cause.WriteFailed) is = has
+
+    -- A sink in memory fails only if memory runs out.
+    pub not_made_in_memory : {S : Type 0} (fails : S → List ℕ → S → Error → Type 0) (old new : S) (failed : EditError) →
+        ((text : List ℕ) (other : Error) → fails old text new other → other ≡ cause.OutOfMemory) →
+        CommandFailed fails (λ other. error.Failed other) (IsEdited edits has.choice limits file)
+        (IsEditFileError edits has.choice limits file) old new failed →
+        IsEditCallFailure limit depth form input elements file (failure_of_edit_error failed)
+    not_made_in_memory fails old new failed full (WasRefused is same) = not_made_of failed is
+    not_made_in_memory fails old new failed full (SinkFailed text other is by same) =
+        subst (λ (e : EditError). IsEditCallFailure limit depth form input elements file (failure_of_edit_error e))
+        (sym (same ∙ ap (λ (e : Error). error.Failed e) (full text other by))) has
