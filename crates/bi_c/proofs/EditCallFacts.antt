@@ -2,6 +2,7 @@ use Rattle.std.proofs.Common.{◌≡◌, ◌∙◌, ◌++◌, ℕ, List, [], ◌
 use Rattle.std.specs.List.{AllZip, join_with_byte}
 use Rattle.bi_base.specs.Limits.{widest}
 use Rattle.bi_blob.specs.KnownTexts.{smallest_text}
+use Rattle.bi_common.specs.Shown.{path, shown_text}
 use Rattle.bi_describe.proofs.DescribedFileFacts.{only_smallest, tree_of_smallest_text}
 use Rattle.bi_edit.specs.declared.edit.Edit.{Edit}
 use Rattle.bi_edit.specs.declared.edit.Edit.TheVariants.{RemoveNode, RemoveProperty, SetProperty, SetField, SetPayload, SetTime, SetDigests}
@@ -12,9 +13,7 @@ use Rattle.bi_edit.specs.declared.edit_notes.EditNotes.{EditNotes}
 use Rattle.bi_edit.specs.declared.form_choice.FormChoice.TheVariants as choice
 use Rattle.bi_edit.specs.Cuts.{from_byte}
 use Rattle.bi_edit.specs.EditNotes.{AreEditNotes, AreNoNotes}
-use Rattle.bi_edit.specs.EditWords.{place_words}
 use Rattle.bi_edit.specs.Edits.{meaning_after}
-use Rattle.bi_edit.specs.Places.{PropertyPlaceModel}
 use Rattle.bi_fit.specs.declared.form.Form.{Form}
 use Rattle.bi_fit.specs.declared.form.Form.TheVariants.{Embedded}
 use Rattle.bi_legacy.specs.KnownImages.{multi_file, multi_image}
@@ -48,13 +47,13 @@ edit_elements_are_known = record {
 -- ---- arguments
 
 -- No text of a property and a value is empty.
-no_empty_place : (place : PropertyPlaceModel) (after : Option (List ℕ)) →
-    ¬ (join_with_byte 32 (place_words place) ++ from_byte 32 after ≡ [])
-no_empty_place (record { path = []; name = name }) after same = absurd cc
-no_empty_place (record { path = first ∷ later; name = name }) after same = absurd cc
+no_empty_text : (names : List (List ℕ)) (name : List ℕ) (after : Option (List ℕ)) →
+    ¬ (join_with_byte 32 (path names ∷ shown_text name ∷ []) ++ from_byte 32 after ≡ [])
+no_empty_text [] name after same = absurd cc
+no_empty_text (first ∷ later) name after same = absurd cc
 
 no_empty_setting : (edit : Edit) → ¬ (IsSetting [] edit)
-no_empty_setting (SetProperty place value) is = no_empty_place place is.after is.is
+no_empty_setting (SetProperty place value) is = no_empty_text place.path place.name is.after is.is
 no_empty_setting (RemoveNode path) is = is
 no_empty_setting (RemoveProperty place) is = is
 no_empty_setting (SetField value) is = is
