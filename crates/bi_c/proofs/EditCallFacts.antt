@@ -1,12 +1,9 @@
-use Rattle.std.proofs.Common.{◌≡◌, ◌∙◌, ◌++◌, ℕ, List, [], ◌∷◌, Option, None, codes, ap, lit<, lit≤, refl, sym, subst, arith}
+use Rattle.std.proofs.Common.{◌≡◌, ◌∙◌, ◌++◌, ℕ, List, [], ◌∷◌, Option, ap, lit<, lit≤, refl, sym, subst, arith}
 use Rattle.std.specs.List.{AllZip, join_with_byte}
-use Rattle.bi_base.specs.Limits.{widest}
-use Rattle.bi_blob.specs.KnownTexts.{smallest_text}
 use Rattle.bi_common.specs.Shown.{path, shown_text}
 use Rattle.bi_describe.proofs.DescribedFileFacts.{only_smallest, tree_of_smallest_text}
 use Rattle.bi_edit.specs.declared.edit.Edit.{Edit}
 use Rattle.bi_edit.specs.declared.edit.Edit.TheVariants.{RemoveNode, RemoveProperty, SetProperty, SetField, SetPayload, SetTime, SetDigests}
-use Rattle.bi_edit.specs.declared.edit.FieldValue.{FieldValue}
 use Rattle.bi_edit.specs.declared.edit.FieldValue.TheVariants as field
 use Rattle.bi_edit.specs.declared.edit_error.EditError.TheVariants as error
 use Rattle.bi_edit.specs.declared.edit_notes.EditNotes.{EditNotes}

@@ -7,7 +7,6 @@ use Rattle.bi_edit.specs.declared.edit.Edit.TheVariants.{SetProperty, SetField, 
 use Rattle.bi_edit.specs.declared.edit.Edit.TheVariants.{SetDigests}
 use Rattle.bi_edit.specs.declared.edit.FieldValue.TheVariants as field
 use Rattle.bi_edit.specs.declared.edit_error.EditError.TheVariants as error
-use Rattle.bi_edit.specs.declared.edit_notes.EditNotes.{EditNotes}
 use Rattle.bi_edit.specs.declared.form_choice.FormChoice.TheVariants as choice
 use Rattle.bi_edit.specs.EditWords.{IsChildWord, IsRemovalWord, IsSettingWord}
 use Rattle.bi_edit.specs.Places.{PropertyPlaceModel}

@@ -3,8 +3,6 @@
 ghost use Rattle.std.specs.Prelude.{◌≡◌, ◌<◌, ◌≤◌, ◌^◌, ◌↔◌, ℕ, List};
 ghost use Rattle.std.specs.Prelude.{IfErr, IfNone, IfOk, IfSome, IsTrue};
 ghost use Rattle.std.specs.List.{AllByRecursion, AllZip};
-ghost use Rattle.bi_base.specs.declared.fault.Error.TheVariants.{OutOfMemory};
-ghost use Rattle.bi_edit.specs.EditWords.{IsChildWord, IsRemovalWord, IsSettingWord};
 ghost use Rattle.bi_edit.specs.declared.edit.Edit.{Edit};
 ghost use Rattle.bi_edit.specs.declared.edit.Edit.TheVariants.{SetField};
 ghost use Rattle.bi_edit.specs.declared.form_choice.FormChoice.{FormChoice};
@@ -321,11 +319,7 @@ fn setting<'a>(alloc: Global, word: &[u8]) -> Result<Option<Edit<'a>>, Error>
 
 /// Returns the edit that gives the image that is printed as this word a payload. Returns None if
 /// and only if the word is no name. Fails if memory runs out.
-fn new_payload<'a>(
-    alloc: Global,
-    word: &[u8],
-    payload: &'a [u8],
-) -> Result<Option<Edit<'a>>, Error>
+fn new_payload<'a>(alloc: Global, word: &[u8], payload: &'a [u8]) -> Result<Option<Edit<'a>>, Error>
     ensures some { IfOk result (λ found. IfSome found
         (IsNewPayload word.now payload.entry.now)) }
     ensures none { IfOk result (λ found. IfNone found
