@@ -1,6 +1,7 @@
 use Rattle.std.proofs.Common.{◌≡◌, ◌≤◌, ℕ, List, [], ◌∷◌, ◌++◌, Option, None, Some, Result, Ok, Err, IfOk, lit≤, arith}
 use Rattle.std.specs.Prelude.{IfNone}
 use Rattle.std.specs.List.{AllZip}
+use Rattle.bi_base.specs.declared.fault.Error.{Error}
 use Rattle.bi_edit.specs.declared.edit.Edit.{Edit}
 use Rattle.bi_edit.specs.declared.edit.Edit.TheVariants.{RemoveNode, RemoveProperty, SetProperty, SetField, SetPayload, SetTime, SetDigests}
 use Rattle.bi_edit.specs.declared.edit.FieldValue.{FieldValue}
@@ -12,12 +13,12 @@ use Rattle.bi_c.specs.declared.edits.EditElement.{EditElement}
 
 -- The edit that an element is for, by its kind.
 
--- What follows where a call returned no value.
-pub no_value_by : {T E : Type 0} (P Q : Type 0) (result : Result (Option T) E) → (P → Q) → IfOk result (λ found. IfNone found P) →
+-- What follows where a word is for no edit.
+pub no_edit_by : (P Q : Type 0) (result : Result (Option Edit) Error) → (P → Q) → IfOk result (λ found. IfNone found P) →
     IfOk result (λ found. IfNone found Q)
-no_value_by P Q (Ok None) so none = so none
-no_value_by P Q (Ok (Some value)) so none = tt
-no_value_by P Q (Err error) so none = tt
+no_edit_by P Q (Ok None) so none = so none
+no_edit_by P Q (Ok (Some edit)) so none = tt
+no_edit_by P Q (Err error) so none = tt
 
 -- Fields have kinds of their own.
 field_kind : (value : FieldValue) → 3 ≤ kind_of_field value
