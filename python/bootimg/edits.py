@@ -74,7 +74,7 @@ class _Edits:
         self._pieces: list[bytes] = []
         self._offset = 0
         self._elements: list[_EditElement] = []
-        # The word of each edit and its index among those of its parameter.
+        # The word of each edit, and its index in its parameter.
         self._words: list[tuple[bytes | str, int]] = []
         for index, word in enumerate(remove):
             self._add(_REMOVE, word, index=index)
