@@ -12,6 +12,7 @@ pub mod SameLists
 pub mod PartLists
 pub mod KeptComparisons
 pub mod FurtherWords
+pub mod DeepFacts
 pub mod DescribedLines
 pub mod NothingLeftOut
 pub mod IgnoredFacts
@@ -21,6 +22,7 @@ pub mod EntryTokens
 pub mod PayloadSizes
 pub mod ShownNodes
 pub mod PrintedDescriptions
+pub mod InsideBlobs
 pub mod JsonReading
 pub mod JsonDescriptions
 pub mod DescriptionFacts
@@ -30,6 +32,7 @@ pub mod RefusalFacts
 pub mod LineSets
 pub mod KeptLines
 pub mod ComparedLines
+pub mod KnownDeepFacts
 pub mod LongNames
 pub mod ComparedImages
 pub mod ReadableDescriptions
