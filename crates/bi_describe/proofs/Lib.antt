@@ -41,3 +41,7 @@ pub mod NextNodes
 pub mod EntriesOfNodes
 pub mod DescribedFiles
 pub mod JsonComparisons
+pub mod OneInside
+pub mod NothingLeftOutDeep
+pub mod OpenedTrees
+pub mod DeepLines

@@ -53,7 +53,7 @@ nodes_stay above (node name own children later) =
     let after = nodes_stay above later in
     (λ i. node name (own_stays i) (below i) (after i))
 
-root_stays : (root : Root ComparedNode) → kept_root [] root ≡ Some root
+pub root_stays : (root : Root ComparedNode) → kept_root [] root ≡ Some root
 root_stays root = (λ i. Some (record {
   own = record { properties = properties_stay [] root.own.properties i; payload = root.own.payload };
   children = nodes_stay [] root.children i;

@@ -3,10 +3,10 @@ use Rattle.std.specs.Prelude.{None, Some, Option, bytes_eq, flat_map, is_some, m
 use Rattle.std.specs.Prelude.{if◌then◌else◌}
 use Rattle.std.specs.List.{list_any}
 use Rattle.bi_blob.specs.Tree.{Nodes, none, node, Root, with_each_node}
-use Rattle.bi_fit.specs.ImageTree.{with_image_nodes}
 use Rattle.bi_fit.specs.Names.{images_name}
 use Rattle.bi_common.specs.Lines.{Line}
-use Rattle.bi_describe.specs.ComparedNodes.{ComparedNode, ImageWith, plain_compared}
+use Rattle.bi_describe.specs.ComparedNodes.{ComparedNode, ComparedPayload, NoImage, ImageWith}
+use Rattle.bi_describe.specs.ComparedNodes.{plain_compared}
 use Rattle.bi_describe.specs.DeepDescriptions.{InsidesShown, lines_with_inside}
 use Rattle.bi_describe.specs.Devicetrees.{DeepMeaning, Devicetree, Insides}
 use Rattle.bi_describe.specs.Ignoring.{Ignored, IgnoredNode, IgnoredProperty, NodePlace}
@@ -81,19 +81,35 @@ is_opened words one other payload =
     (list_any (is_word_inside payload) words && not (is_payload_ignored words payload))
     && (is_some (one payload) && is_some (other payload))
 
--- Image nodes, of which those that are opened are left without a payload.
+-- The payload of a node, without its bytes if it is opened. Only image nodes have one.
+abbrev pub payload_unless : (is_out : Bool) → ComparedPayload → ComparedPayload
+payload_unless is_out NoImage = NoImage
+payload_unless is_out (ImageWith payload) =
+    if is_out then ImageWith None else ImageWith payload
+
+-- The node with this name, without its payload if that is opened.
 abbrev pub own_unless_opened : (is_opened : PayloadPlace → Bool) → (name : List ℕ) → ComparedNode
     → ComparedNode
-own_unless_opened is_opened name own =
-    if is_opened (OfImageNamed name)
-    then record { properties = own.properties; payload = ImageWith None } else own
+own_unless_opened is_opened name own = record {
+  properties = own.properties;
+  payload = payload_unless (is_opened (OfImageNamed name)) own.payload;
+}
 
-abbrev pub images_unless_opened : (is_opened : PayloadPlace → Bool) → Nodes ComparedNode
+-- Nodes, of which the image nodes that are opened are left without a payload.
+abbrev pub nodes_unless_opened : (is_opened : PayloadPlace → Bool) → Nodes ComparedNode
     → Nodes ComparedNode
-images_unless_opened is_opened none = none
-images_unless_opened is_opened (node name own children later) =
-    node name (own_unless_opened is_opened name own) children
-    (images_unless_opened is_opened later)
+nodes_unless_opened is_opened none = none
+nodes_unless_opened is_opened (node name own children later) =
+    node name (own_unless_opened is_opened name own) (nodes_unless_opened is_opened children)
+    (nodes_unless_opened is_opened later)
+
+-- A tree of such nodes. The root has no name.
+abbrev pub root_unless_opened : (is_opened : PayloadPlace → Bool) → Root ComparedNode
+    → Root ComparedNode
+root_unless_opened is_opened root = record {
+  own = own_unless_opened is_opened [] root.own;
+  children = nodes_unless_opened is_opened root.children;
+}
 
 -- A part, without its bytes if it is opened.
 abbrev pub part_unless_opened : (is_opened : PayloadPlace → Bool) → ℕ × List ℕ → ℕ × List ℕ
@@ -109,7 +125,7 @@ unless_opened is_opened (OfReducedLegacy image) = OfReducedLegacy (record {
 unless_opened is_opened (OfReducedTree tree) = OfReducedTree (record {
   cpu = tree.cpu;
   reservations = tree.reservations;
-  root = option_map (with_image_nodes (images_unless_opened is_opened)) tree.root;
+  root = option_map (root_unless_opened is_opened) tree.root;
 })
 
 -- ---- comparing

@@ -9,14 +9,14 @@ ghost use Rattle.bi_common.specs.LineTokens.{tokens_of_lines};
 ghost use Rattle.bi_common.specs.MadeFields.{bytes_of_names};
 ghost use Rattle.bi_describe.specs.DeepDescribing.{deep_text};
 ghost use Rattle.bi_describe.specs.DeepDescriptions.{deep_lines, line_at};
-ghost use Rattle.bi_describe.specs.DeepDescriptions.{lines_with_inside};
+ghost use Rattle.bi_describe.specs.DeepDescriptions.{lines_with_inside, name_of_last};
 ghost use Rattle.bi_describe.specs.DeepEntries.{deep_entry_tokens, entry_tokens_with};
 ghost use Rattle.bi_describe.specs.DeepEntries.{last_begun};
 ghost use Rattle.bi_describe.specs.DeepJson.{deep_object, deep_part_objects, inside_members};
 ghost use Rattle.bi_describe.specs.DeepJson.{object_with_inside};
 ghost use Rattle.bi_describe.specs.DescriptionJson.{digest_object_with};
 ghost use Rattle.bi_describe.specs.DescribedImages.{HoldsDescribedTree};
-ghost use Rattle.bi_describe.specs.Descriptions.{description_lines, part_line};
+ghost use Rattle.bi_describe.specs.Descriptions.{description_lines, part_line, part_lines};
 ghost use Rattle.bi_describe.specs.Devicetrees.{DeepMeaning, Insides as Trees};
 ghost use Rattle.bi_describe.specs.Ignoring.{OfPart, PayloadPlace as Place};
 ghost use Rattle.bi_describe.specs.DeepDescriptions.{insides_shown};
@@ -102,8 +102,19 @@ fn put_legacy_lines<L: LinePen>(image: &DescribedLegacy, insides: &mut Insides, 
         → HoldInsides trees insides.new }
 {
     put_header_lines(image.fields, pen);
-    for index in 0..image.parts.len() {
-        put_part_with_inside(index, image.parts[index], insides, &[], pen);
+    put_parts(&image.parts, insides, pen);
+}
+
+/// Puts the lines of parts, and of what is inside them.
+fn put_parts<L: LinePen>(parts: &[DescribedPart], insides: &mut Insides, pen: &mut L)
+    ensures put { (trees : Trees) → HoldInsides (whole_devicetrees trees) insides.old → L.puts pen.old
+        (tokens_of_lines (lines_with_inside (insides_shown trees)
+        (part_lines 0 (map digest_of_part parts.now)))) pen.new }
+    ensures same { (trees : Place → Option ReducedTree) → HoldInsides trees insides.old
+        → HoldInsides trees insides.new }
+{
+    for index in 0..parts.len() {
+        put_part_with_inside(index, parts[index], insides, &[], pen);
     }
 }
 
@@ -203,14 +214,25 @@ fn put_entry_with_inside<'a, L: LinePen>(
     ensures same { (trees : Place → Option ReducedTree) → HoldInsides trees insides.old
         → HoldInsides trees insides.new }
 {
-    match (entry, names) {
-        (Entry::Payload(_), [.., name]) => {
+    match entry {
+        Entry::Payload(_) => {
+            let name = last_name(names);
             if !has_image(opened, name) {
                 put_entry(entry, names, pen);
             }
             insides.put_lines_of_image(name, pen);
         }
         _ => put_entry(entry, names, pen),
+    }
+}
+
+/// Returns the last of these names: no bytes if there is none.
+fn last_name<'a>(names: &[&'a [u8]]) -> &'a [u8]
+    ensures { result.now ≡ name_of_last (bytes_of_names names.now) }
+{
+    match names {
+        [.., name] => name,
+        [] => b"",
     }
 }
 

@@ -91,9 +91,7 @@ impl<'a> KeptLegacy<'a> {
             (reduced_legacy_lines image))) pen.new }
     {
         put_header(self.fields, self.time, pen);
-        for part in &self.parts {
-            put_part_with_inside(part.index, part.part, insides, opened, pen);
-        }
+        put_deep_parts(&self.parts, insides, opened, pen);
     }
 
     /// Returns whether what stays of two images is the same but for the bytes of these parts.
@@ -242,6 +240,22 @@ fn put_parts<L: LinePen>(parts: &[KeptPart], pen: &mut L)
 {
     for part in parts {
         put_part(part.index, part.part, pen);
+    }
+}
+
+/// Puts the lines of parts, but for those of these, and those of what is inside them.
+fn put_deep_parts<L: LinePen>(
+    parts: &[KeptPart],
+    insides: &mut Insides,
+    opened: &[&PayloadPlace],
+    pen: &mut L,
+)
+    ensures put { (trees : Place → Option ReducedTree) → HoldInsides trees insides.old
+        → L.puts pen.old (tokens_of_lines (lines_with_inside (shown_by trees opened.now)
+        (reduced_part_lines (map numbered_part parts.now)))) pen.new }
+{
+    for part in parts {
+        put_part_with_inside(part.index, part.part, insides, opened, pen);
     }
 }
 

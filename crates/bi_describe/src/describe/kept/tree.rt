@@ -14,6 +14,7 @@ ghost use Rattle.bi_describe.specs.KeptImages.{IsKeptTree};
 ghost use Rattle.bi_describe.specs.DeepDescriptions.{lines_with_inside};
 ghost use Rattle.bi_describe.specs.Ignoring.{PayloadPlace as Place};
 ghost use Rattle.bi_describe.specs.MadeInsides.{HoldInsides, is_one_of_places, shown_by};
+ghost use Rattle.bi_describe.specs.OpenedEntries.{entries_unless_opened};
 ghost use Rattle.bi_describe.specs.OpenedPayloads.{unless_opened};
 ghost use Rattle.bi_describe.specs.ReducedMeanings.{OfReducedTree, ReducedTree, reduced_tree};
 ghost use Rattle.bi_describe.specs.ReducedMeanings.{reduced_tree_lines};
@@ -113,11 +114,7 @@ impl<'a, 'b> KeptFit<'a, 'b> {
             ≡ unless_opened (is_one_of_places opened.now) (OfReducedTree others)) }
     {
         have_same_heads(self.blob, other.blob)
-            && match (&self.entries, &other.entries) {
-                (Some(one), Some(other)) => are_same_unless_opened(one, other, opened),
-                (None, None) => true,
-                _ => false,
-            }
+            && have_same_trees_unless_opened(&self.entries, &other.entries, opened)
     }
 
     /// Returns whether what stays of two trees is the same. Payloads are compared byte by byte.
@@ -192,6 +189,24 @@ fn have_same_trees(one: &Option<Vec<Entry>>, other: &Option<Vec<Entry>>) -> bool
 {
     match (one, other) {
         (Some(one), Some(other)) => are_same_entries(one, other),
+        (None, None) => true,
+        _ => false,
+    }
+}
+
+/// Returns whether there are two trees with the same entries but for these payloads, or none.
+fn have_same_trees_unless_opened(
+    one: &Option<Vec<Entry>>,
+    other: &Option<Vec<Entry>>,
+    opened: &[&PayloadPlace],
+) -> bool
+    ensures { IsTrue result ↔ (option_map (λ entries. entries_unless_opened
+        (is_one_of_places opened.now) [] (map as_entry entries.items)) one.now
+        ≡ option_map (λ entries. entries_unless_opened
+        (is_one_of_places opened.now) [] (map as_entry entries.items)) other.now) }
+{
+    match (one, other) {
+        (Some(one), Some(other)) => are_same_unless_opened(one, other, opened),
         (None, None) => true,
         _ => false,
     }
