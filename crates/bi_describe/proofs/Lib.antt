@@ -45,3 +45,5 @@ pub mod OneInside
 pub mod NothingLeftOutDeep
 pub mod OpenedTrees
 pub mod DeepLines
+pub mod WithoutInside
+pub mod FurtherDeep
