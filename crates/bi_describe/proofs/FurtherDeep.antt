@@ -393,8 +393,9 @@ module _ (is_out : PayloadPlace → Bool) (words : List Ignored) (place : Payloa
       here = same_name (OfImageNamed name) bytes is
 
       kept : is_node_ignored words (images_name ∷ name ∷ []) ≡ false
-      kept = (both_false (is_node_ignored words (images_name ∷ [])) _
-      (both_false (is_node_ignored words []) _ (ap (is_payload_ignored words) here ∙ stays)).1).1
+      kept =
+          let (root, below) = both_false (is_node_ignored words []) _ (ap (is_payload_ignored words) here ∙ stays) in
+          (both_false (is_node_ignored words (images_name ∷ [])) _ below).1
   images_in stays (node name own children later) (Some bytes ∷ payloads) (inr has) =
       by (is_node_ignored words (images_name ∷ name ∷ [])) refl (images_in stays later payloads has)
     where
@@ -508,8 +509,10 @@ module _ (is_out : PayloadPlace → Bool) (words : List Ignored) (root : Root Pr
   left = option_map (root_unless_opened is_out) (kept_root words (compared_root root payloads))
 
   nodes_left : Option (Nodes PropertyMap) → Nodes ComparedNode
-  nodes_left images = nodes_or_none (option_map (nodes_unless_opened is_out)
-  (option_map (kept_nodes words (images_name ∷ [])) (option_map (λ images. compared_images images payloads) images)))
+  nodes_left images =
+      nodes_or_none
+      (option_map (nodes_unless_opened is_out)
+      (option_map (kept_nodes words (images_name ∷ [])) (option_map (λ images. compared_images images payloads) images)))
 
   found : (images : Option (Nodes PropertyMap)) → node_payloads (nodes_left images)
       ≡ node_payloads (nodes_unless_opened is_out (kept_nodes words (images_name ∷ []) (compared_images (nodes_or_none images) payloads)))

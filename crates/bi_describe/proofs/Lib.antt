@@ -47,3 +47,4 @@ pub mod OpenedTrees
 pub mod DeepLines
 pub mod WithoutInside
 pub mod FurtherDeep
+pub mod DeepJsonDescriptions
