@@ -14,7 +14,6 @@ use Rattle.bi_describe.specs.DescriptionJson.{digest_object, legacy_object_with,
 use Rattle.bi_describe.specs.Descriptions.{description_lines, digest_of_payload}
 use Rattle.bi_describe.specs.Devicetrees.{nothing_inside}
 use Rattle.bi_describe.specs.Ignoring.{PayloadPlace}
-use Rattle.bi_describe.specs.InsidePens.{token_inside}
 
 -- Deep descriptions with nothing inside are descriptions.
 
@@ -50,40 +49,3 @@ pub deep_tokens-append : (shown : InsidesShown) (xs ys : List Line) →
 deep_tokens-append shown xs ys =
     ap tokens_of_lines (flat_map-append (λ line. line_at shown (place_of_line line) line) xs ys)
     ∙ flat_map-append line_tokens (lines_with_inside shown xs) (lines_with_inside shown ys)
-
--- ---- paths inside a payload
-
-token_of_word : (payload : List ℕ) (word : Field) →
-    token_inside payload (NextField word) ≡ NextField (word_of_inside payload word)
-token_of_word payload (Text text) = refl
-token_of_word payload (Name name) = refl
-token_of_word payload (Decimal number) = refl
-token_of_word payload (Hexadecimal number) = refl
-token_of_word payload (Hexadecimal64 number) = refl
-token_of_word payload (Digits bytes) = refl
-token_of_word payload (Path names) = refl
-token_of_word payload (Value value) = refl
-
-words_inside_are : (payload : List ℕ) (words : Line) →
-    map (token_inside payload) (flat_map one_field words) ≡ flat_map one_field (map (word_of_inside payload) words)
-unfolding one_field
-words_inside_are payload [] = refl
-words_inside_are payload (word ∷ later) =
-    ap (λ (first : LineToken). first ∷ map (token_inside payload) (flat_map one_field later)) (token_of_word payload word)
-    ∙ ap (λ (rest : List LineToken). NextField (word_of_inside payload word) ∷ rest) (words_inside_are payload later)
-
-tokens_of_line : (payload : List ℕ) (words : Line) →
-    map (token_inside payload) (line_tokens words) ≡ line_tokens (line_inside payload words)
-unfolding end_of_line
-tokens_of_line payload words =
-    map-append (token_inside payload) (flat_map one_field words) (EndOfLine ∷ [])
-    ∙ ap (λ (first : List LineToken). first ++ EndOfLine ∷ []) (words_inside_are payload words)
-
--- The tokens of lines with the paths inside a payload.
-pub tokens_inside : (payload : List ℕ) (lines : List Line) →
-    map (token_inside payload) (tokens_of_lines lines) ≡ tokens_of_lines (map (line_inside payload) lines)
-tokens_inside payload [] = refl
-tokens_inside payload (words ∷ later) =
-    map-append (token_inside payload) (line_tokens words) (tokens_of_lines later)
-    ∙ ap (λ (first : List LineToken). first ++ map (token_inside payload) (tokens_of_lines later)) (tokens_of_line payload words)
-    ∙ ap (λ (rest : List LineToken). line_tokens (line_inside payload words) ++ rest) (tokens_inside payload later)

@@ -3,7 +3,7 @@ use Rattle.std.specs.Prelude.{codes, flat_map, map, option_map, if◌then◌else
 use Rattle.bi_blob.specs.Blob.{Reservation}
 use Rattle.bi_blob.specs.Tree.{with_each_node}
 use Rattle.bi_common.specs.CommonLines.{reservation_line}
-use Rattle.bi_common.specs.Lines.{Field, Line, Text, Decimal, Path, text_of_lines}
+use Rattle.bi_common.specs.Lines.{Field, Line, Text, Decimal, Path}
 use Rattle.bi_describe.specs.ComparedNodes.{plain_compared}
 use Rattle.bi_describe.specs.Descriptions.{description_lines}
 use Rattle.bi_describe.specs.Devicetrees.{DeepMeaning, Devicetree, Insides}
@@ -98,7 +98,3 @@ lines_with_inside shown lines = flat_map (λ line. line_at shown (place_of_line 
 -- The lines of a deep description.
 abbrev pub deep_lines : DeepMeaning → List Line
 deep_lines deep = lines_with_inside (insides_shown deep.insides) (description_lines deep.meaning)
-
--- The deep description: its lines, each ended by a newline.
-abbrev pub deep_description : DeepMeaning → List ℕ
-deep_description deep = text_of_lines (deep_lines deep)

@@ -63,8 +63,8 @@ pub fn more_words_keep_the_same_deep()
     ensures { MoreWordsKeepTheSameDeep }
 {}
 
-/// If nothing is ignored, what two files mean is compared with what is inside as `compare_deep`
-/// does.
+/// If nothing is ignored, what two files mean is compared with what is inside by all lines of their
+/// deep descriptions.
 pub fn nothing_left_out_compares_deep()
     ensures { NothingLeftOutComparesDeep }
 {}

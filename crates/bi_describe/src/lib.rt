@@ -2,8 +2,6 @@
 #![tactic(auto)]
 
 pub mod compare;
-#[cfg(test)]
-mod deep_tests;
 pub mod describe;
 pub mod ignored;
 pub mod known_deep;
