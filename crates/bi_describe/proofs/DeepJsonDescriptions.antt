@@ -78,18 +78,17 @@ devicetree_read limits payload tree is =
     by_name : Nodes PropertyMap
     by_name = with_each from_entries plain
 
-    own : AreBlobProperties (entries (from_entries (properties_of is.root.own)))
-    own = good-entries (from_entries (properties_of is.root.own)) (properties-from_entries (properties_of is.root.own)
-        (good_properties (properties_of is.root.own) content.is_tree.is_own.named
-        (each-front AreEventBytes (map NodeProperty (properties_of is.root.own)) (events plain ++ (NodeEnd ∷ [])) content.bytes.1)))
-
     nodes : CanReadValues (json_values (node_objects (with_each plain_node by_name)))
     nodes = nodes_read_with (λ name. []) (λ name. tt) (with_each plain_node by_name)
         (plain_shown by_name (AreNodes-with_each AreBlobProperties ArePropertiesByName from_entries properties-from_entries plain good.0)
         (bytes-with_each from_entries plain good.1))
 
     root : CanReadMembers (json_members (root_members tree.root))
-    root = subst (λ root. CanReadMembers (json_members (root_members root))) (sym is.is_root)
+    root =
+        let own = good-entries (from_entries (properties_of is.root.own)) (properties-from_entries (properties_of is.root.own)
+        (good_properties (properties_of is.root.own) content.is_tree.is_own.named
+        (each-front AreEventBytes (map NodeProperty (properties_of is.root.own)) (events plain ++ (NodeEnd ∷ [])) content.bytes.1))) in
+        subst (λ root. CanReadMembers (json_members (root_members root))) (sym is.is_root)
         (own_read_with [] (plain_node (from_entries (properties_of is.root.own))) (node_objects (with_each plain_node by_name)) tt own tt
         nodes)
 
@@ -105,7 +104,7 @@ all_read limits meaning insides are place = by (found_payload (payloads_at_place
   where
     by : FoundAt (payloads_at_places meaning) place → CanReadMembers (json_members (inside_members (insides place)))
     by (inl (payload, has)) = inside_read limits payload (insides place) (are.each place payload has)
-    by (inr none) = rw (are.other place none) tt
+    by (inr nothing) = rw (are.other place nothing) tt
 
 parts_read : (insides : Insides) → ((place : PayloadPlace) → CanReadMembers (json_members (inside_members (insides place)))) →
     (index : ℕ) (parts : List (List ℕ)) → AllByRecursion (λ (part : List ℕ). length part < 2 ^ 64) parts →

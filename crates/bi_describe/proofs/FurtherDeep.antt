@@ -310,7 +310,7 @@ compared_payloads (OfReducedTree tree) = root_payloads tree.root
 module _ (is_out : PayloadPlace → Bool) (words : List Ignored) (place : PayloadPlace) (payload : List ℕ)
     (is_shut : is_out place ≡ false) where
   -- The place of a pair.
-  same_name : (other : PayloadPlace) (bytes : List ℕ) → (other, bytes) ≡ (place, payload) → other ≡ place
+  same_name : (other : PayloadPlace) (bytes : List ℕ) → ◌≡◌ {A = PayloadPlace × List ℕ} (other, bytes) (place, payload) → other ≡ place
   same_name other bytes is = ap (λ (pair : PayloadPlace × List ℕ). pair.0) is
 
   shut_too : (other : PayloadPlace) → other ≡ place → is_out other ≡ false
@@ -318,7 +318,7 @@ module _ (is_out : PayloadPlace → Bool) (words : List Ignored) (place : Payloa
 
   -- ---- parts
 
-  parts_left : (parts : List (ℕ × List ℕ)) → List (PayloadPlace × List ℕ)
+  abbrev parts_left : (parts : List (ℕ × List ℕ)) → List (PayloadPlace × List ℕ)
   parts_left parts = map part_payload (map (part_unless_opened is_out) (flat_map (kept_part words) parts))
 
   parts_in : is_payload_ignored words place ≡ false → (index : ℕ) (parts : List (List ℕ)) →
@@ -346,9 +346,10 @@ module _ (is_out : PayloadPlace → Bool) (words : List Ignored) (place : Payloa
       by (is_part_ignored words index) refl has (parts_from (index + 1) later)
     where
       first : (b : Bool) → is_out (OfPart index) ≡ b →
-          part_payload (part_unless_opened is_out (index, part)) ≡ (place, payload) → (OfPart index, part) ≡ (place, payload)
+          part_payload (part_unless_opened is_out (index, part)) ≡ (place, payload) →
+          ◌≡◌ {A = PayloadPlace × List ℕ} (OfPart index, part) (place, payload)
       first true is same =
-          let there : (OfPart index, []) ≡ (place, payload) = rw is at same in
+          let there : ◌≡◌ {A = PayloadPlace × List ℕ} (OfPart index, []) (place, payload) = rw is at same in
           absurd (true≢false (sym is ∙ shut_too (OfPart index) (same_name (OfPart index) [] there)))
       first false is same = rw is at same
 
@@ -367,7 +368,7 @@ module _ (is_out : PayloadPlace → Bool) (words : List Ignored) (place : Payloa
 
   -- ---- images
 
-  images_left : Nodes PropertyMap → List (Option (List ℕ)) → List (PayloadPlace × List ℕ)
+  abbrev images_left : Nodes PropertyMap → List (Option (List ℕ)) → List (PayloadPlace × List ℕ)
   images_left nodes payloads =
       node_payloads (nodes_unless_opened is_out (kept_nodes words (images_name ∷ []) (compared_images nodes payloads)))
 
@@ -505,10 +506,10 @@ no_images words (node name own children later) is_out =
 
 -- The payloads of the image nodes that stay.
 module _ (is_out : PayloadPlace → Bool) (words : List Ignored) (root : Root PropertyMap) (payloads : List (Option (List ℕ))) where
-  left : Option (Root ComparedNode)
+  abbrev left : Option (Root ComparedNode)
   left = option_map (root_unless_opened is_out) (kept_root words (compared_root root payloads))
 
-  nodes_left : Option (Nodes PropertyMap) → Nodes ComparedNode
+  abbrev nodes_left : Option (Nodes PropertyMap) → Nodes ComparedNode
   nodes_left images =
       nodes_or_none
       (option_map (nodes_unless_opened is_out)
@@ -554,7 +555,9 @@ payload_in is_out words (OfFit tree) place payload shut stays has = by place ref
     no_part none payloads index has = has
     no_part (node name own children later) [] index has = has
     no_part (node name own children later) (None ∷ payloads) index has = no_part later payloads index has
-    no_part (node name own children later) (Some bytes ∷ payloads) index (inl is) = absurd cc
+    no_part (node name own children later) (Some bytes ∷ payloads) index (inl is) =
+        let apart : OfImageNamed name ≡ OfPart index = ap (λ (pair : PayloadPlace × List ℕ). pair.0) is in
+        absurd cc
     no_part (node name own children later) (Some bytes ∷ payloads) index (inr has) = no_part later payloads index has
 
     by : (other : PayloadPlace) → place ≡ other →
@@ -651,8 +654,8 @@ more_words_keep_the_same_deep limits file other_file words more one other means 
             (subst (λ meaning. In (compared_payloads meaning) (place, payload)) same.rest compared) in
             one_inside limits payload (one.insides place) (other.insides place) (means.are_inside.each place payload has)
             (other_means.are_inside.each place payload (from_list _ _ also))
-        by (inr none) =
-            absurd (true≢false (sym is_there ∙ ap is_some (means.are_inside.other place none)))
+        by (inr nothing) =
+            absurd (true≢false (sym is_there ∙ ap is_some (means.are_inside.other place nothing)))
 
     trees : (place : PayloadPlace) → is_out_later place ≡ true →
         tree_at_without (words ++ more) one.insides place ≡ tree_at_without (words ++ more) other.insides place

@@ -40,7 +40,6 @@ unfolding digits cell cell8
 deep_descriptions_are_known = record {
   image = simp (no_entries, sorted_entries only_load_address tt, sorted_entries (only_model (codes "m")) tt) refl;
   part = rw (sorted_entries (only_model (codes "m")) tt, no_entries) refl;
-  json = simp (no_entries, sorted_entries only_load_address tt, sorted_entries (only_model (codes "m")) tt) refl;
 }
 
 pub inside_keys_are_known : InsideKeysAreKnown
@@ -65,11 +64,14 @@ at_one words one other same payload = by (is_same_payload at_a payload) refl
     by false is = rw is refl
 
 -- Without the property they are the same.
+abbrev properties_of_model : (value : List ℕ) → PropertyMap
+properties_of_model value = from_sorted (only_model value)
+
 no_model : (p : List ℕ → Bool) → p (codes "model") ≡ false →
-    retain_keys (from_sorted (only_model (codes "m"))) p ≡ retain_keys (from_sorted (only_model (codes "n"))) p
+    retain_keys (properties_of_model (codes "m")) p ≡ retain_keys (properties_of_model (codes "n")) p
 no_model p out = same_entries_map _ _ (left (codes "m") ∙ sym (left (codes "n")))
   where
-    left : (value : List ℕ) → entries (retain_keys (from_sorted (only_model value)) p) ≡ []
+    left : (value : List ℕ) → entries (retain_keys (properties_of_model value) p) ≡ []
     left value = rw (entries_kept, sorted_entries (only_model value) tt, out) refl
 
 abbrev with_properties : List Ignored → PropertyMap → ReducedTree

@@ -10,7 +10,6 @@ use Rattle.bi_norm.specs.Meaning.{OfLegacy, OfFit}
 use Rattle.bi_common.specs.KnownWords.{lines}
 use Rattle.bi_describe.specs.DeepComparing.{deep_comparison_without}
 use Rattle.bi_describe.specs.DeepDescriptions.{deep_lines}
-use Rattle.bi_describe.specs.DeepJson.{deep_json}
 use Rattle.bi_describe.specs.Devicetrees.{DeepMeaning, Devicetree, HasInside, Insides}
 use Rattle.bi_describe.specs.Differences.{line_bytes, text_of_differences}
 use Rattle.bi_describe.specs.Ignoring.{Ignored, IgnoredNode, IgnoredProperty, IgnoredTime}
@@ -110,18 +109,6 @@ pub record DeepDescriptionsAreKnown : Type 0 where
       ∷ codes "node part-1//chosen"
       ∷ codes "node part-1//chosen/%2D"
       ∷ []
-  pub json : deep_json (deep_tree (codes "m"))
-      ≡ codes "{\"kind\":\"fit\",\"boot_cpu\":0,\"reservations\":[],\"root\":{\"properties\":["
-      ++ (codes "],\"children\":[{\"name\":\"images\",\"properties\":[],\"children\":[{"
-      ++ (codes "\"name\":\"a\",\"payload\":{\"size\":1,\"sha256\":\""
-      ++ (sha256_digits (codes "m")
-      ++ (codes "\",\"devicetree\":{\"boot_cpu\":3,\"reservations\":[{"
-      ++ (codes "\"address\":\"0x0000000000001000\",\"size\":\"0x0000000000000020\"}],"
-      ++ (codes "\"root\":{\"properties\":[{\"name\":\"model\",\"strings\":[\"m\"]}],"
-      ++ (codes "\"children\":[{\"name\":\"chosen\",\"properties\":[],\"children\":[{"
-      ++ (codes "\"name\":\"%2D\",\"properties\":[],\"children\":[]}]}]}}},"
-      ++ (codes "\"properties\":[{\"name\":\"load\",\"hex\":\"00000002\"}],\"children\":[]}]}]}}"
-      ++ codes "\n")))))))))
 
 -- The models of the two devicetrees differ, and so do the bytes.
 abbrev pub SameModels : List Ignored → Type 0
