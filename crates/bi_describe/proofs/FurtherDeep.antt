@@ -230,7 +230,7 @@ module _ (is_out is_out_later : PayloadPlace → Bool) (more : List Ignored)
           let there = below is in
           let payload = payload_less_twice above name own.payload placed.0 root top is in
           rw is (λ i.
-              node name (record { properties = kept_properties more inner own.properties; payload = payload i }) (there i) (after i))
+          node name (record { properties = kept_properties more inner own.properties; payload = payload i }) (there i) (after i))
 
   root_twice : (root : Option (Root ComparedNode)) → OnlyImagesIn root →
       option_map (root_unless_opened is_out_later) (kept_again more (option_map (root_unless_opened is_out) root))

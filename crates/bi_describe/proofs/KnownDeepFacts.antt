@@ -60,7 +60,7 @@ at_one words one other same payload = by (is_same_payload at_a payload) refl
         tree_at_without words (inside_one at_a one) payload ≡ tree_at_without words (inside_one at_a other) payload
     by true is =
         rw is (ap Some
-            (subst (λ payload. tree_without words payload one ≡ tree_without words payload other) (same_place at_a payload is) same))
+        (subst (λ payload. tree_without words payload one ≡ tree_without words payload other) (same_place at_a payload is) same))
     by false is = rw is refl
 
 -- Without the property they are the same.

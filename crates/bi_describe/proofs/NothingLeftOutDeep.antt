@@ -77,7 +77,7 @@ nothing_left_out_compares_deep limits other_limits file other_file one other mea
     record {
       is_same = (
         (λ same. plain.is_same.0 (sym (meaning_closed (meaning_without [] one.meaning)) ∙ same.rest
-        ∙ meaning_closed (meaning_without [] other.meaning))),
+            ∙ meaning_closed (meaning_without [] other.meaning))),
         (λ same. record {
           rest = ap (λ meaning. unless_opened closed (meaning_without [] meaning)) same;
           trees = λ payload opened. absurd (true≢false (sym opened));

@@ -126,9 +126,11 @@ properties_plain names are (property ∷ later) = (rw (names_no_two names are) r
 own_plain : (names : List (List ℕ)) → AllByRecursion IsChildNameOfBytes names → (own : DescribedNode) →
     AllByRecursion IsPlain (own_lines names own)
 own_plain names are own =
-    let properties : List Property = entries own.properties in
-    (rw (names_no_two names are) refl, each-append IsPlain (payload_lines names own.payload) (map (property_line names) properties)
-    (payload_plain own.payload) (properties_plain names are properties))
+    let properties : List Property = entries own.properties in (
+      rw (names_no_two names are) refl,
+      each-append IsPlain (payload_lines names own.payload) (map (property_line names) properties)
+          (payload_plain own.payload) (properties_plain names are properties),
+    )
   where
     payload_plain : (payload : NodePayload) → AllByRecursion IsPlain (payload_lines names payload)
     payload_plain NotAnImage = tt
