@@ -1,4 +1,5 @@
-use Rattle.std.proofs.Common.{◌≡◌, ◌<◌, ◌^◌, ◌+◌, ℕ, List, [], ◌∷◌, ◌++◌, map, None, Some, Option, refl, sym, subst, arith, inl, inr, length, rules}
+use Rattle.std.proofs.Common.{◌≡◌, ◌<◌, ◌^◌, ◌+◌, ℕ, List, [], ◌∷◌, ◌++◌, map, None, Some, Option, refl, sym, subst, arith, inl, inr}
+use Rattle.std.proofs.Common.{length, rules}
 use Rattle.std.specs.FinMap.{entries, from_entries}
 use Rattle.std.specs.List.{AllByRecursion}
 use Rattle.bi_base.specs.Limits.{Limits}
@@ -25,7 +26,7 @@ use Rattle.bi_describe.specs.Ignoring.{OfImageNamed, OfPart, PayloadPlace}
 use Rattle.bi_describe.proofs.JsonDescriptions.{digest_read_with, fit_read_with, legacy_read_with, nodes_read_with, own_read_with}
 use Rattle.bi_describe.proofs.JsonDescriptions.{reservations_read}
 use Rattle.bi_describe.proofs.JsonReading.{CanReadMembers, CanReadValue, CanReadValues, has_numbers}
-use Rattle.bi_describe.proofs.OneInside.{FoundAt, found_at}
+use Rattle.bi_describe.proofs.OneInside.{FoundAt, found_payload}
 use Rattle.bi_describe.proofs.ShownNodes.{digest_shown, plain_shown}
 
 -- Each deep description in JSON is JSON.
@@ -77,19 +78,19 @@ devicetree_read limits payload tree is =
     by_name : Nodes PropertyMap
     by_name = with_each from_entries plain
 
-    own : AreBlobProperties (entries (from_entries (properties_of is.root.own)))
-    own = good-entries (from_entries (properties_of is.root.own)) (properties-from_entries (properties_of is.root.own)
-        (good_properties (properties_of is.root.own) content.is_tree.is_own.named
-        (each-front AreEventBytes (map NodeProperty (properties_of is.root.own)) (events plain ++ (NodeEnd ∷ [])) content.bytes.1)))
-
     nodes : CanReadValues (json_values (node_objects (with_each plain_node by_name)))
     nodes = nodes_read_with (λ name. []) (λ name. tt) (with_each plain_node by_name)
         (plain_shown by_name (AreNodes-with_each AreBlobProperties ArePropertiesByName from_entries properties-from_entries plain good.0)
         (bytes-with_each from_entries plain good.1))
 
     root : CanReadMembers (json_members (root_members tree.root))
-    root = subst (λ root. CanReadMembers (json_members (root_members root))) (sym is.is_root)
-        (own_read_with [] (plain_node (from_entries (properties_of is.root.own))) (node_objects (with_each plain_node by_name)) tt own tt nodes)
+    root =
+        let own = good-entries (from_entries (properties_of is.root.own)) (properties-from_entries (properties_of is.root.own)
+        (good_properties (properties_of is.root.own) content.is_tree.is_own.named
+        (each-front AreEventBytes (map NodeProperty (properties_of is.root.own)) (events plain ++ (NodeEnd ∷ [])) content.bytes.1))) in
+        subst (λ root. CanReadMembers (json_members (root_members root))) (sym is.is_root)
+        (own_read_with [] (plain_node (from_entries (properties_of is.root.own))) (node_objects (with_each plain_node by_name)) tt own tt
+        nodes)
 
 -- The members for what is inside a payload.
 inside_read : (limits : Limits) (payload : List ℕ) (found : Option Devicetree) → HasInside limits payload found →
@@ -99,11 +100,11 @@ inside_read limits payload (Some tree) has = (refl, (devicetree_read limits payl
 
 all_read : (limits : Limits) (meaning : Meaning) (insides : Insides) → AreInside limits meaning insides → (place : PayloadPlace) →
     CanReadMembers (json_members (inside_members (insides place)))
-all_read limits meaning insides are place = by (found_at (payloads_at_places meaning) place)
+all_read limits meaning insides are place = by (found_payload (payloads_at_places meaning) place)
   where
     by : FoundAt (payloads_at_places meaning) place → CanReadMembers (json_members (inside_members (insides place)))
     by (inl (payload, has)) = inside_read limits payload (insides place) (are.each place payload has)
-    by (inr none) = rw (are.other place none) tt
+    by (inr nothing) = rw (are.other place nothing) tt
 
 parts_read : (insides : Insides) → ((place : PayloadPlace) → CanReadMembers (json_members (inside_members (insides place)))) →
     (index : ℕ) (parts : List (List ℕ)) → AllByRecursion (λ (part : List ℕ). length part < 2 ^ 64) parts →

@@ -1,9 +1,9 @@
-use Rattle.std.proofs.Common.{◌≡◌, ◌⊎◌, ℕ, ◌+◌, Bool, true, false, not, List, [], ◌∷◌, ◌++◌, Contains, Option, None, Some, bytes_eq, flat_map, inl, inr}
-use Rattle.std.proofs.Common.{map, refl, sym, ap, ap₂, subst, ◌∙◌, true≢false}
+use Rattle.std.proofs.Common.{◌≡◌, ◌⊎◌, ℕ, ◌+◌, Bool, true, false, not, List, [], ◌∷◌, ◌++◌, Contains, Option, None, Some, bytes_eq}
+use Rattle.std.proofs.Common.{flat_map, inl, inr, map, refl, sym, ap, ap₂, subst, ◌∙◌, true≢false}
 use Rattle.std.specs.Prelude.{◌&&◌, ◌||◌, ⊤, is_some, if◌then◌else◌}
 use Rattle.std.specs.List.{list_any}
 use Rattle.std.specs.Option.{option_map}
-use Rattle.std.proofs.lemmas.Bool.{and_parts}
+use Rattle.std.proofs.lemmas.Bool.{and_parts, not-true}
 use Rattle.std.proofs.lemmas.Grind.{flat_map-append}
 use Rattle.std.proofs.lemmas.List.Folds.{list_any-append}
 use Rattle.bi_base.specs.Limits.{Limits}
@@ -18,14 +18,15 @@ use Rattle.bi_describe.specs.ComparedNodes.{nodes_to_compare, plain_compared}
 use Rattle.bi_describe.specs.DeepLaws.{MoreWordsKeepTheSameDeep}
 use Rattle.bi_describe.specs.Devicetrees.{AreInside, DeepMeaning, Devicetree, Insides, MeansWithInside, image_payloads_at}
 use Rattle.bi_describe.specs.Devicetrees.{payloads_at_places, payloads_of_parts}
-use Rattle.bi_describe.specs.Ignoring.{Ignored, OfImageNamed, OfPart, PayloadPlace, is_node_ignored, is_part_ignored, names_node, names_part}
+use Rattle.bi_describe.specs.Ignoring.{Ignored, OfImageNamed, OfPart, PayloadPlace, is_node_ignored, is_part_ignored, names_node}
+use Rattle.bi_describe.specs.Ignoring.{names_part}
 use Rattle.bi_describe.specs.OpenedPayloads.{AreSameDeep, is_opened, is_payload_ignored, is_word_inside, nodes_unless_opened}
 use Rattle.bi_describe.specs.OpenedPayloads.{own_unless_opened, part_unless_opened, payload_unless, root_unless_opened, tree_at_without}
 use Rattle.bi_describe.specs.OpenedPayloads.{tree_without, unless_opened, word_inside, words_inside}
 use Rattle.bi_describe.specs.ReducedMeanings.{OfReducedLegacy, OfReducedTree, ReducedMeaning, ReducedTree, compared_root, kept_nodes}
 use Rattle.bi_describe.specs.ReducedMeanings.{kept_own, kept_part, kept_properties, kept_root, meaning_without, numbered_parts}
 use Rattle.bi_describe.proofs.FurtherWords.{kept_again, kept_time_again, meaning_kept, reduced_again, root_kept}
-use Rattle.bi_describe.proofs.OneInside.{FoundAt, found_at, one_inside, place_found}
+use Rattle.bi_describe.proofs.OneInside.{FoundAt, found_payload, one_inside, place_found}
 
 -- What is the same without some words is the same without more, also with what is inside.
 
@@ -34,10 +35,6 @@ use Rattle.bi_describe.proofs.OneInside.{FoundAt, found_at, one_inside, place_fo
 both_false : (one other : Bool) → (one || other) ≡ false → (one ≡ false) × (other ≡ false)
 both_false true other is = absurd (true≢false is)
 both_false false other is = (refl, is)
-
-is_not : (b : Bool) → not b ≡ true → b ≡ false
-is_not true is = absurd (true≢false (sym is))
-is_not false is = refl
 
 -- ---- elements
 
@@ -111,7 +108,7 @@ opened words one other place is =
     let (words_are, there) = and_parts (list_any (is_word_inside place) words && not (is_payload_ignored words place)) _ is in
     let (has_word, stays) = and_parts (list_any (is_word_inside place) words) _ words_are in
     let (is_there, is_in_other) = and_parts (is_some (one place)) (is_some (other place)) there in
-    record { has_word = has_word; stays = is_not _ stays; is_there = is_there; is_in_other = is_in_other }
+    record { has_word = has_word; stays = not-true _ stays; is_there = is_there; is_in_other = is_in_other }
 
 opened_by : (words : List Ignored) (one other : Insides) (place : PayloadPlace) → IsOpened words one other place →
     is_opened words one other place ≡ true
@@ -125,7 +122,8 @@ Placed above (ImageWith payload) = above ≡ images_name ∷ []
 
 abbrev OnlyImages : (above : List (List ℕ)) → Nodes ComparedNode → Type 0
 OnlyImages above none = ⊤
-OnlyImages above (node name own children later) = Placed above own.payload × OnlyImages (above ++ name ∷ []) children × OnlyImages above later
+OnlyImages above (node name own children later) =
+    Placed above own.payload × OnlyImages (above ++ name ∷ []) children × OnlyImages above later
 
 plain_placed : (above : List (List ℕ)) (nodes : Nodes PropertyMap) → OnlyImages above (with_each plain_compared nodes)
 plain_placed above none = tt
@@ -231,7 +229,8 @@ module _ (is_out is_out_later : PayloadPlace → Bool) (more : List Ignored)
       by false is below after =
           let there = below is in
           let payload = payload_less_twice above name own.payload placed.0 root top is in
-          rw is (λ i. node name (record { properties = kept_properties more inner own.properties; payload = payload i }) (there i) (after i))
+          rw is (λ i.
+          node name (record { properties = kept_properties more inner own.properties; payload = payload i }) (there i) (after i))
 
   root_twice : (root : Option (Root ComparedNode)) → OnlyImagesIn root →
       option_map (root_unless_opened is_out_later) (kept_again more (option_map (root_unless_opened is_out) root))
@@ -311,7 +310,7 @@ compared_payloads (OfReducedTree tree) = root_payloads tree.root
 module _ (is_out : PayloadPlace → Bool) (words : List Ignored) (place : PayloadPlace) (payload : List ℕ)
     (is_shut : is_out place ≡ false) where
   -- The place of a pair.
-  same_name : (other : PayloadPlace) (bytes : List ℕ) → (other, bytes) ≡ (place, payload) → other ≡ place
+  same_name : (other : PayloadPlace) (bytes : List ℕ) → ◌≡◌ {A = PayloadPlace × List ℕ} (other, bytes) (place, payload) → other ≡ place
   same_name other bytes is = ap (λ (pair : PayloadPlace × List ℕ). pair.0) is
 
   shut_too : (other : PayloadPlace) → other ≡ place → is_out other ≡ false
@@ -319,7 +318,7 @@ module _ (is_out : PayloadPlace → Bool) (words : List Ignored) (place : Payloa
 
   -- ---- parts
 
-  parts_left : (parts : List (ℕ × List ℕ)) → List (PayloadPlace × List ℕ)
+  abbrev parts_left : (parts : List (ℕ × List ℕ)) → List (PayloadPlace × List ℕ)
   parts_left parts = map part_payload (map (part_unless_opened is_out) (flat_map (kept_part words) parts))
 
   parts_in : is_payload_ignored words place ≡ false → (index : ℕ) (parts : List (List ℕ)) →
@@ -347,14 +346,16 @@ module _ (is_out : PayloadPlace → Bool) (words : List Ignored) (place : Payloa
       by (is_part_ignored words index) refl has (parts_from (index + 1) later)
     where
       first : (b : Bool) → is_out (OfPart index) ≡ b →
-          part_payload (part_unless_opened is_out (index, part)) ≡ (place, payload) → (OfPart index, part) ≡ (place, payload)
+          part_payload (part_unless_opened is_out (index, part)) ≡ (place, payload) →
+          ◌≡◌ {A = PayloadPlace × List ℕ} (OfPart index, part) (place, payload)
       first true is same =
-          let there : (OfPart index, []) ≡ (place, payload) = rw is at same in
+          let there : ◌≡◌ {A = PayloadPlace × List ℕ} (OfPart index, []) (place, payload) = rw is at same in
           absurd (true≢false (sym is ∙ shut_too (OfPart index) (same_name (OfPart index) [] there)))
       first false is same = rw is at same
 
       by : (b : Bool) → is_part_ignored words index ≡ b → In (parts_left (numbered_parts index (part ∷ later))) (place, payload) →
-          (In (parts_left (numbered_parts (index + 1) later)) (place, payload) → In (payloads_of_parts (index + 1) later) (place, payload)) →
+          (In (parts_left (numbered_parts (index + 1) later)) (place, payload) →
+          In (payloads_of_parts (index + 1) later) (place, payload)) →
           In (payloads_of_parts index (part ∷ later)) (place, payload)
       by true is has rest = inr (rest (rw is at has))
       by false is has rest = which (rw is at has)
@@ -367,7 +368,7 @@ module _ (is_out : PayloadPlace → Bool) (words : List Ignored) (place : Payloa
 
   -- ---- images
 
-  images_left : Nodes PropertyMap → List (Option (List ℕ)) → List (PayloadPlace × List ℕ)
+  abbrev images_left : Nodes PropertyMap → List (Option (List ℕ)) → List (PayloadPlace × List ℕ)
   images_left nodes payloads =
       node_payloads (nodes_unless_opened is_out (kept_nodes words (images_name ∷ []) (compared_images nodes payloads)))
 
@@ -505,10 +506,10 @@ no_images words (node name own children later) is_out =
 
 -- The payloads of the image nodes that stay.
 module _ (is_out : PayloadPlace → Bool) (words : List Ignored) (root : Root PropertyMap) (payloads : List (Option (List ℕ))) where
-  left : Option (Root ComparedNode)
+  abbrev left : Option (Root ComparedNode)
   left = option_map (root_unless_opened is_out) (kept_root words (compared_root root payloads))
 
-  nodes_left : Option (Nodes PropertyMap) → Nodes ComparedNode
+  abbrev nodes_left : Option (Nodes PropertyMap) → Nodes ComparedNode
   nodes_left images =
       nodes_or_none
       (option_map (nodes_unless_opened is_out)
@@ -554,7 +555,9 @@ payload_in is_out words (OfFit tree) place payload shut stays has = by place ref
     no_part none payloads index has = has
     no_part (node name own children later) [] index has = has
     no_part (node name own children later) (None ∷ payloads) index has = no_part later payloads index has
-    no_part (node name own children later) (Some bytes ∷ payloads) index (inl is) = absurd cc
+    no_part (node name own children later) (Some bytes ∷ payloads) index (inl is) =
+        let apart : OfImageNamed name ≡ OfPart index = ap (λ (pair : PayloadPlace × List ℕ). pair.0) is in
+        absurd cc
     no_part (node name own children later) (Some bytes ∷ payloads) index (inr has) = no_part later payloads index has
 
     by : (other : PayloadPlace) → place ≡ other →
@@ -601,7 +604,8 @@ tree_more : (words more : List Ignored) (place : PayloadPlace) (found : Option D
 tree_more words more place None = refl
 tree_more words more place (Some tree) =
     let root = with_each_node plain_compared tree.root in
-    let is : kept_root (words_inside place (words ++ more)) root ≡ kept_again (words_inside place more) (kept_root (words_inside place words) root) =
+    let is : kept_root (words_inside place (words ++ more)) root
+    ≡ kept_again (words_inside place more) (kept_root (words_inside place words) root) =
     ap (λ words. kept_root words root) (flat_map-append (word_inside place) words more)
     ∙ sym (root_kept (words_inside place words) (words_inside place more) root) in
     (λ i. Some (record { cpu = tree.cpu; reservations = tree.reservations; root = is i }))
@@ -639,9 +643,9 @@ more_words_keep_the_same_deep limits file other_file words more one other means 
         ∙ sym (further other.meaning)
 
     -- A payload that was compared byte by byte.
-    same_inside : (place : PayloadPlace) → is_out place ≡ false → is_payload_ignored words place ≡ false → is_some (one.insides place) ≡ true →
-        one.insides place ≡ other.insides place
-    same_inside place shut stays is_there = by (found_at (payloads_at_places one.meaning) place)
+    same_inside : (place : PayloadPlace) → is_out place ≡ false → is_payload_ignored words place ≡ false →
+        is_some (one.insides place) ≡ true → one.insides place ≡ other.insides place
+    same_inside place shut stays is_there = by (found_payload (payloads_at_places one.meaning) place)
       where
         by : FoundAt (payloads_at_places one.meaning) place → one.insides place ≡ other.insides place
         by (inl (payload, has)) =
@@ -650,8 +654,8 @@ more_words_keep_the_same_deep limits file other_file words more one other means 
             (subst (λ meaning. In (compared_payloads meaning) (place, payload)) same.rest compared) in
             one_inside limits payload (one.insides place) (other.insides place) (means.are_inside.each place payload has)
             (other_means.are_inside.each place payload (from_list _ _ also))
-        by (inr none) =
-            absurd (true≢false (sym is_there ∙ ap is_some (means.are_inside.other place none)))
+        by (inr nothing) =
+            absurd (true≢false (sym is_there ∙ ap is_some (means.are_inside.other place nothing)))
 
     trees : (place : PayloadPlace) → is_out_later place ≡ true →
         tree_at_without (words ++ more) one.insides place ≡ tree_at_without (words ++ more) other.insides place

@@ -88,8 +88,8 @@ abbrev pub first_payload : ReducedMeaning → ComparedPayload
 first_payload (OfReducedLegacy image) = NoImage
 first_payload (OfReducedTree tree) = payload_of_root tree.root
 
-pub same_bytes : (one other : List ℕ) → ImageWith (Some one) ≡ ImageWith (Some other) → one ≡ other
-same_bytes one other same = cc
+pub same_image_bytes : (one other : List ℕ) → ImageWith (Some one) ≡ ImageWith (Some other) → one ≡ other
+same_image_bytes one other same = cc
 
 -- The kind.
 abbrev is_of_legacy : ReducedMeaning → Bool
@@ -103,7 +103,7 @@ same_without_is_known = record {
   other_part = λ same. begin_apart 97 99 [] [] refl (ap first_part same);
   no_image = refl;
   payload = λ same. begin_apart 99 100 [] [] refl
-      (later_same (later_same (same_bytes (codes "abc") (codes "abd") (ap first_payload same))));
+      (later_same (later_same (same_image_bytes (codes "abc") (codes "abd") (ap first_payload same))));
   kinds = λ same. true≢false (ap is_of_legacy same);
 }
 

@@ -10,7 +10,7 @@ use Rattle.bi_describe.specs.Ignoring.{PayloadPlace}
 use Rattle.bi_describe.specs.OpenedPayloads.{deep_lines_without, nodes_unless_opened, own_unless_opened, part_unless_opened, payload_unless}
 use Rattle.bi_describe.specs.OpenedPayloads.{root_unless_opened, shown_without, tree_without, unless_opened}
 use Rattle.bi_describe.specs.ReducedMeanings.{OfReducedLegacy, OfReducedTree, ReducedMeaning, meaning_without}
-use Rattle.bi_describe.proofs.NothingLeftOut.{all_lines, nothing_left_out_compares, root_stays}
+use Rattle.bi_describe.proofs.NothingLeftOut.{all_lines, nothing_left_out_compares, whole_root_stays}
 
 -- Without words no payload is opened, and all of what is inside stays.
 
@@ -59,7 +59,7 @@ tree_stays payload None = refl
 tree_stays payload (Some tree) = (λ i. Some (record {
   cpu = tree.cpu;
   reservations = tree.reservations;
-  root = root_stays (with_each_node plain_compared tree.root) i;
+  root = whole_root_stays (with_each_node plain_compared tree.root) i;
 }))
 
 all_shown : (insides : Insides) → shown_without [] closed insides ≡ insides_shown insides
@@ -77,7 +77,7 @@ nothing_left_out_compares_deep limits other_limits file other_file one other mea
     record {
       is_same = (
         (λ same. plain.is_same.0 (sym (meaning_closed (meaning_without [] one.meaning)) ∙ same.rest
-        ∙ meaning_closed (meaning_without [] other.meaning))),
+            ∙ meaning_closed (meaning_without [] other.meaning))),
         (λ same. record {
           rest = ap (λ meaning. unless_opened closed (meaning_without [] meaning)) same;
           trees = λ payload opened. absurd (true≢false (sym opened));

@@ -1,5 +1,5 @@
-use Rattle.std.proofs.Common.{◌≡◌, ◌⊎◌, ℕ, Bool, true, false, List, [], ◌∷◌, Contains, Option, None, Some, inl, inr, refl, sym, ap, subst, ◌∙◌}
-use Rattle.std.proofs.Common.{true≢false}
+use Rattle.std.proofs.Common.{◌≡◌, ◌⊎◌, ℕ, Bool, true, false, List, [], ◌∷◌, Contains, Option, None, Some, inl, inr, refl, sym, ap}
+use Rattle.std.proofs.Common.{subst, ◌∙◌, true≢false}
 use Rattle.std.proofs.lemmas.Bool.{eqb-true, eq-eqb}
 use Rattle.std.proofs.lemmas.Slice.Eq.{bytes_eq-Decides}
 use Rattle.bi_base.specs.Limits.{Limits}
@@ -38,9 +38,9 @@ abbrev pub FoundAt : List (PayloadPlace × List ℕ) → PayloadPlace → Type 0
 FoundAt payloads place =
     ((payload : List ℕ) × Contains payloads (place, payload)) ⊎ ((payload : List ℕ) → ¬ (Contains payloads (place, payload)))
 
-pub found_at : (payloads : List (PayloadPlace × List ℕ)) (place : PayloadPlace) → FoundAt payloads place
-found_at [] place = inr (λ payload has. Contains-none (place, payload) has)
-found_at (first ∷ later) place = by (is_same_payload first.0 place) refl (found_at later place)
+pub found_payload : (payloads : List (PayloadPlace × List ℕ)) (place : PayloadPlace) → FoundAt payloads place
+found_payload [] place = inr (λ payload has. Contains-none (place, payload) has)
+found_payload (first ∷ later) place = by (is_same_payload first.0 place) refl (found_payload later place)
   where
     none_first : is_same_payload first.0 place ≡ false → ((payload : List ℕ) → ¬ (Contains later (place, payload))) →
         (payload : List ℕ) → ((first ≡ (place, payload)) ⊎ Contains later (place, payload)) → ⊥
@@ -75,7 +75,7 @@ one_inside limits payload (Some tree) None is also = absurd (also tree is)
 one_inside limits payload (Some one) (Some other) is also = ap Some (same_devicetree limits payload one other is also)
 
 pub one_is_inside : OneIsInside
-one_is_inside limits meaning insides other is also place = by (found_at (payloads_at_places meaning) place)
+one_is_inside limits meaning insides other is also place = by (found_payload (payloads_at_places meaning) place)
   where
     by : FoundAt (payloads_at_places meaning) place → insides place ≡ other place
     by (inl (payload, has)) =

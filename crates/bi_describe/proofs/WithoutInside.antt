@@ -1,4 +1,5 @@
-use Rattle.std.proofs.Common.{◌≡◌, ℕ, ◌+◌, Bool, true, false, not, List, [], ◌∷◌, ◌++◌, Option, None, Some, codes, filter, map, refl, sym, ap, ap₂, ◌∙◌}
+use Rattle.std.proofs.Common.{◌≡◌, ℕ, ◌+◌, Bool, true, false, not, List, [], ◌∷◌, ◌++◌, Option, None, Some, codes, filter, map}
+use Rattle.std.proofs.Common.{refl, ap, ap₂, ◌∙◌}
 use Rattle.std.specs.FinMap.{entries}
 use Rattle.std.specs.List.{AllByRecursion}
 use Rattle.std.specs.Option.{option_map}
@@ -17,7 +18,8 @@ use Rattle.bi_describe.specs.ComparedNodes.{described_node, plain_compared}
 use Rattle.bi_describe.specs.DeepDescriptions.{deep_lines, inside_lines, inside_reservation_line, insides_shown, line_at, line_inside}
 use Rattle.bi_describe.specs.DeepDescriptions.{lines_at, lines_with_inside, place_of_line, whole_devicetree}
 use Rattle.bi_describe.specs.DeepLaws.{WithoutInsideIsDescription, is_line_inside}
-use Rattle.bi_describe.specs.Descriptions.{DescribedNode, NodePayload, NotAnImage, OfImage, PayloadDigest, description_lines, digest_of_payload, head_lines, node_line}
+use Rattle.bi_describe.specs.Descriptions.{DescribedNode, NodePayload, NotAnImage, OfImage, PayloadDigest, description_lines, digest_of_payload}
+use Rattle.bi_describe.specs.Descriptions.{head_lines, node_line}
 use Rattle.bi_describe.specs.Descriptions.{described_nodes, node_lines, own_lines, part_lines, payload_lines, plain_node, property_line}
 use Rattle.bi_describe.specs.Devicetrees.{Devicetree, Insides}
 use Rattle.bi_describe.specs.IgnoredWords.{inside_path, payload_path}
@@ -124,8 +126,11 @@ properties_plain names are (property ∷ later) = (rw (names_no_two names are) r
 own_plain : (names : List (List ℕ)) → AllByRecursion IsChildNameOfBytes names → (own : DescribedNode) →
     AllByRecursion IsPlain (own_lines names own)
 own_plain names are own =
-    (rw (names_no_two names are) refl, each-append IsPlain (payload_lines names own.payload) (map (property_line names) (entries own.properties))
-    (payload_plain own.payload) (properties_plain names are (entries own.properties)))
+    let properties : List Property = entries own.properties in (
+      rw (names_no_two names are) refl,
+      each-append IsPlain (payload_lines names own.payload) (map (property_line names) properties)
+          (payload_plain own.payload) (properties_plain names are properties),
+    )
   where
     payload_plain : (payload : NodePayload) → AllByRecursion IsPlain (payload_lines names payload)
     payload_plain NotAnImage = tt
