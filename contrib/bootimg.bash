@@ -15,7 +15,7 @@ declare -gA _bootimg_options=(
     [verify]="--json --offset= --limit= -o= --output="
     [check]="--allow= --signed --json --offset= --limit= -o= --output="
     [scan]="--json --offset= --limit= -o= --output="
-    [update]="--time= --hashes --external --align= --offset= --limit= -o= --output="
+    [update]="--remove= --set= --payload= --time= --hashes --keep-form --external --align= --offset= --limit= -o= --output="
     [get]="--as= --offset= --limit= -o= --output="
     [extract]="--part= --image= --config= --default --all --key= --index= --escaped --offset= --limit= -o= --output="
     [convert]="--offset= --limit= -o= --output="

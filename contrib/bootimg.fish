@@ -67,7 +67,7 @@ complete $first -s V -l version -d 'Print the version'
 
 # Commands, and then options and arguments, each for the commands that have it.
 # lists.py: begin fish
-set -g __bootimg_valued --align --offset --limit -o --output --ignore --allow --time --as --part --image --config --key --index
+set -g __bootimg_valued --align --offset --limit -o --output --ignore --allow --remove --set --payload --time --as --part --image --config --key --index
 complete $first -a normalise -d 'Write the normal form of an image'
 complete $first -a show -d 'Print an overview of an image'
 complete $first -a list -d 'List what an image holds'
@@ -76,7 +76,7 @@ complete $first -a compare -d 'Compare what two images mean'
 complete $first -a verify -d 'Check the checksums and digests of an image'
 complete $first -a check -d 'Find what is not protected in an image'
 complete $first -a scan -d 'Find the images inside a file'
-complete $first -a update -d 'Set the time of an image, or compute its digests again'
+complete $first -a update -d 'Edit an image: its properties and payloads, its time, its digests'
 complete $first -a get -d 'Print values of properties of an image'
 complete $first -a extract -d 'Write one part or payload of an image'
 complete $first -a convert -d 'Convert a legacy image to a FIT'
@@ -99,8 +99,12 @@ complete -c bootimg -n '__bootimg_is compare diff' -F
 complete -c bootimg -n '__bootimg_is compare diff' -F
 complete -c bootimg -n '__bootimg_is check' -l allow -x -d 'Leave out the lines of these kinds' -a '(__fish_complete_list , "printf %s\n bad-hash skipped-hash unhashed weak-hash bad-list missing unsigned no-nodes no-images uncovered foreign strings unit-address bad-default trailing")'
 complete -c bootimg -n '__bootimg_is check' -l signed -d 'Also find each configuration that has no signature'
+complete -c bootimg -n '__bootimg_is update' -l remove -x -d 'Remove the node at a PATH with all below it'
+complete -c bootimg -n '__bootimg_is update' -l set -x -d 'Set a property'
+complete -c bootimg -n '__bootimg_is update' -l payload -x -d 'Take the payload of an image of a FIT'
 complete -c bootimg -n '__bootimg_is update' -l time -x -d 'Set the time of creation'
 complete -c bootimg -n '__bootimg_is update' -l hashes -d 'Compute the digest of each hash node with a known algorithm again'
+complete -c bootimg -n '__bootimg_is update' -l keep-form -d 'Leave the payloads of a FIT where they are'
 complete -c bootimg -n '__bootimg_is get' -l as -x -d 'How values are written' -a 'text number raw'
 complete -c bootimg -n '__bootimg_is get; and __bootimg_at_first' -F
 complete -c bootimg -n '__bootimg_is get' -a '(__bootimg_names where)'

@@ -815,35 +815,149 @@ def normal_fit(image, options):
     return 0, text, text_of("bootimg: note: " + note for note in notes)
 
 
-def notes_on_places(image, text):
-    """What is noted of the payloads that the tree places after the blob, and that this text of it places elsewhere."""
-    placed = [
-        (given, before, after) for (_, payload, given, before), (*_, after) in zip(image.images, Fit(text).images)
-        if payload and given != b"data"]
+def placed_payloads(image):
+    """The payloads that are not empty and that the tree does not have itself: their image nodes, properties and places."""
+    return [(node, given, place) for node, payload, given, place in image.images if payload and given != b"data"]
+
+
+def alignment_of(places):
+    """The greatest alignment that all places have."""
     alignment = 1048576
-    while any(before % alignment for _, before, _ in placed):
+    while any(place % alignment for place in places):
         alignment //= 2
-    if any(after % alignment for _, _, after in placed):
+    return alignment
+
+
+def notes_on_places(image, text, is_aligned=False):
+    """What is noted of the payloads that the tree places after the blob, and that this text of it places elsewhere."""
+    places = {node.name: place for node, payload, _, place in Fit(text).images if payload is not None}
+    placed = [(given, before, places[node.name]) for node, given, before in placed_payloads(image) if node.name in places]
+    alignment = alignment_of([before for _, before, _ in placed])
+    if not is_aligned and any(after % alignment for _, _, after in placed):
         yield f"payloads are no longer aligned to {alignment} bytes, see --align"
     positions = sum(given == b"data-position" for given, _, _ in placed)
     if positions:
         yield f"{positions} fixed positions of payloads were not kept"
 
 
-def update(file, options):
-    image, time = read(file, options["limit"]), options.get("time")
-    if isinstance(image, Legacy):
-        time = image.time if time is None else time
-        return legacy_text(time, image.load, image.entry, image.codes, image.name, image.payloads(), options["limit"])
+# Edits.
+
+
+EDITS = ("remove", "set", "payload", "keep-form")
+WRONG_KIND = "the selection does not fit this kind of image"
+
+
+def edit(files, options):
+    """The image is read before the files of the payloads."""
+    name, limit = (options["words"] or ["-"])[0], options["limit"]
+    with about_image(name):
+        file = within(files.image(name), limit)
+    contents = {}
+    for image, path in options["payload"]:
+        with about(path):
+            contents[image] = within(files.named(path), limit)
+    with about_image(name):
+        image = read(file[options["offset"]:], limit)
+        return edit_legacy(image, contents, options) if isinstance(image, Legacy) else edit_fit(image, contents, options)
+
+
+def edit_legacy(image, contents, options):
+    numbers = [re.fullmatch(rb"0|[1-9][0-9]*", part) and int(part) for part in contents]
+    if options["remove"] or not all(isinstance(place, str) for place, _ in options["set"]):
+        raise Refused(WRONG_KIND)
+    if not all(number is not None and number < 1 << 64 for number in numbers):
+        raise Refused(WRONG_KIND)
+    fields = {"name": image.name, "time": image.time, "load": image.load, "entry": image.entry, **image.codes} | dict(options["set"])
+    parts = image.payloads()
+    for number, payload in zip(numbers, contents.values()):
+        if number >= len(parts):
+            raise Refused("no such part")
+        parts[number] = payload
+    codes = {field: fields[field] for field in FIELDS}
+    time = options.get("time", fields["time"])
+    return legacy_text(time, fields["load"], fields["entry"], codes, fields["name"], parts, options["limit"])
+
+
+def edit_fit(fit, contents, options):
+    limit, root = options["limit"], fit.blob.root
+    if any(isinstance(place, str) for place, _ in options["set"]):
+        raise Refused(WRONG_KIND)
+    payloads = {node: payload for node, payload, _, _ in fit.images if payload is not None}
+    for node, _, _, _ in fit.images:
+        node.properties = dict(fit.properties(node))
+    for word, path, name in options["remove"]:
+        if not remove(root, path, name):
+            raise Refused(f"nothing to remove {word}")
+    for (path, name), value in options["set"]:
+        node_to_set(root, path).properties[name] = value
+    for name, payload in contents.items():
+        if root.child(b"images").child(name) is None:
+            raise Refused("no such image")
+        payloads[root.child(b"images").child(name)] = payload
+    if "time" in options:
+        root.properties[b"timestamp"] = cell(options["time"])
+    images = root.child(b"images").children
     if options["hashes"]:
-        image.check_payloads(options["limit"])
-        for node, payload, _, _ in image.images:
-            for child, name, _, _ in image.verdicts(node, payload):
-                if payload is not None and name in DIGESTS:
-                    child.properties[b"value"] = DIGESTS[name](payload)
-    if time is not None:
-        image.blob.root.properties[b"timestamp"] = cell(time)
-    return normal_fit(image, options)
+        if sum(len(payloads[node]) for node in images if node in payloads) > limit:
+            refuse("TooLarge", limit)
+        for node in images:
+            if node in payloads:
+                hash_again(node, payloads[node])
+    return edited_text(fit, [payloads.get(node) for node in images], options)
+
+
+def edited_text(fit, payloads, options):
+    """The text of a tree after edits, with these payloads, and the notes on it."""
+    blob, placed = fit.blob, placed_payloads(fit)
+    form = dict(options)
+    if options["keep-form"] and placed:
+        form |= {"external": True, "align": max(4, alignment_of([place for _, _, place in placed]))}
+    text = fit_text(blob.cpu, blob.reservations, blob.root, payloads, form)
+    new = Fit(text)
+    notes = [f"{new.signatures()} signature nodes carried, not checked"] if new.signatures() else []
+    if not form["external"]:
+        filled = {node.name for node, payload, _, _ in new.images if payload}
+        inside = sum(node.name in filled for node, _, _ in placed)
+        notes += [f"{inside} payloads are inside the blob now, see --external"] if inside else []
+    elif "align" not in options:
+        notes += notes_on_places(fit, text, options["keep-form"])
+    return 0, text, text_of("bootimg: note: " + note for note in notes)
+
+
+def node_at(node, path):
+    """The node with this path below a node, or None."""
+    for name in path:
+        node = node and node.child(name)
+    return node
+
+
+def node_to_set(node, path):
+    """The same. The nodes that are not there are added."""
+    for name in path:
+        if node.child(name) is None:
+            node.children.append(Node(name))
+        node = node.child(name)
+    return node
+
+
+def remove(root, path, name):
+    """Removes a node, or the property of this name. Returns whether it was there."""
+    node = node_at(root, path)
+    if node is None or name is not None and name not in node.properties:
+        return False
+    if name is None:
+        node_at(root, path[:-1]).children.remove(node)
+    else:
+        del node.properties[name]
+    return True
+
+
+def hash_again(image, payload):
+    """Sets the value of each hash node with a known algorithm."""
+    for child in image.children:
+        name, zero, _ = child.properties.get(b"algo", b"").partition(b"\0")
+        if child.name.startswith(b"hash") and zero and name in DIGESTS:
+            child.properties[b"value"] = DIGESTS[name](payload)
 
 
 def size_and_digest(payload):
@@ -1548,6 +1662,71 @@ def steps_of(path):
     return steps
 
 
+def property_name(text):
+    name = name_of(text, True)
+    if not name or b"\0" in name:
+        raise Refused("usage: bad value")
+    return name
+
+
+def place_of(path, name):
+    """The path of a node and the name of a property. Those that give the payload of an image cannot be edited."""
+    steps, name = tuple(steps_of(path)), property_name(name)
+    if len(steps) == 2 and steps[0] == b"images" and name in PLACES:
+        raise Refused("usage: bad value")
+    return steps, name
+
+
+def removal_of(text):
+    path, space, name = text.partition(" ")
+    if space:
+        return (text, *place_of(path, name))
+    steps = steps_of(path)
+    if steps in ([], [b"images"]):
+        raise Refused("usage: bad value")
+    return text, steps, None
+
+
+def value_of_text(text):
+    """The value that is written so: digits of either case, or texts in quotes as they are printed."""
+    if re.fullmatch("0x([0-9A-Fa-f]{2})*", text, re.ASCII):
+        return bytes.fromhex(text[2:])
+    pieces = re.findall(r'"((?:[^"\\]|\\.)*)"', text)
+    value = b"".join(re.sub(r"\\(.)", r"\1", piece).encode() + b"\0" for piece in pieces)
+    if not pieces or " ".join(value_text(value)) != text:
+        raise Refused("usage: bad value")
+    return value
+
+
+def setting_of(text):
+    """What is set, and its value: the path of a node and the name of a property, or a field of a legacy image."""
+    first, space, rest = text.partition(" ")
+    if first.startswith("/"):
+        name, has_value, value = rest.partition(" ")
+        return place_of(first, name), value_of_text(value) if has_value else b""
+    if not space or first not in ("name", "time", "load", "entry", "os", "arch", "compression"):
+        raise Refused("usage: bad value")
+    if first == "name":
+        return first, name_of(rest, True)
+    return first, code(first, rest) if first in FIELDS else number(rest)
+
+
+def payload_of(text):
+    """The name of an image, and the name of the file that has its payload."""
+    image, _, path = text.partition("=@")
+    name = property_name(image)
+    if not path or b"/" in name:
+        raise Refused("usage: bad value")
+    return name, path
+
+
+def each_once(pairs):
+    """These pairs. No two have the same first part."""
+    if len({first for first, _ in pairs}) < len(pairs):
+        raise Refused("usage: bad value")
+    return pairs
+
+
 def form_of(text):
     if text not in ("text", "number", "raw"):
         raise Refused("usage: bad value")
@@ -1615,7 +1794,11 @@ COMMANDS = {
     "check": (of_image(check), {"allow": (kinds, ()), "signed": FLAG, "json": FLAG, **OFFSET}),
     "show": (of_image(show), {"layout": FLAG, "json": FLAG, **OFFSET}),
     "scan": (of_image(scan), {"json": FLAG, **OFFSET}),
-    "update": (of_image(update), {"time": (number, ()), "hashes": FLAG, **EXTERNAL, **OFFSET}),
+    "update": (edit, {
+        "remove": (lambda texts: [removal_of(text) for text in texts], []),
+        "set": (lambda texts: each_once([setting_of(text) for text in texts]), []),
+        "payload": (lambda texts: each_once([payload_of(text) for text in texts]), []),
+        "time": (number, ()), "hashes": FLAG, "keep-form": FLAG, **EXTERNAL, **OFFSET}),
     "get": (of_image(get), {"as": (form_of, ()), **OFFSET}),
     "extract": (of_image(extract), {
         "part": (number, ()), "image": (str, ()), "config": (str, ()), "default": FLAG, "key": (key, "kernel"), "index": (number, "0"),
@@ -1674,7 +1857,7 @@ def parse(arguments):
         raise Unusable(f"--{missing[0]} is missing")
     if name == "extract" and len({"part", "image", "config", "default"} & set(given)) != 1:
         raise Refused("usage: give one of --part, --image, --config")
-    if name == "update" and not {"time", "hashes"} & set(given):
+    if name == "update" and not {"time", "hashes", *EDITS} & set(given):
         raise Refused("usage: give --time or --hashes")
     if name in ("compare", *SEVERAL) and words.count("-") > 1:
         raise Refused("usage: bad value")
@@ -1684,7 +1867,7 @@ def parse(arguments):
             values[option] = option in given
         elif option in given or how[1] != ():
             values[option] = how[0](given.get(option, how[1]))
-    if "align" in values and not values["external"]:
+    if "align" in values and not values["external"] or name == "update" and values["keep-form"] and values["external"]:
         raise Refused("usage: bad value")
     if name == "show" and values["json"] and values["layout"]:
         raise Refused("usage: bad value")

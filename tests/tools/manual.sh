@@ -257,8 +257,8 @@ check "no name is run" test ! -e made
 # Other lines of failures.
 awk '/^These lines have no offset/ { on = 1 } /^\.Sh SEE/ { on = 0 } on && /^\.It Li/' "$page" |
     sed 's/^\.It Li //; /^usage/!s/ , /\n/g' > got
-sed -n '/fn put_text/,/^    }$/p' "$root/crates/bootimg/src/failure.rt" | grep -oE '(put|put_numbered|put_value)\(b"[^"]*"(, index|, words)?' |
-    sed 's/.*"\(.*\)", index$/\1N/; s/.*"\(.*\)", words$/\1PATH NAME/; s/.*"\(.*\)"$/\1/' > lines
+sed -n '/fn put_text/,/^    }$/p' "$root/crates/bootimg/src/failure.rt" | grep -oE '(put|put_numbered|put_value|put_word)\(b"[^"]*"(, index|, words?)?' |
+    sed 's/.*"\(.*\)", index$/\1N/; s/.*"\(.*\)", words$/\1PATH NAME/; s/.*"\(.*\)", word$/\1WORD/; s/.*"\(.*\)"$/\1/' > lines
 check "the page has the other lines of failures, of the code" same lines got
 for status in 0 1 2; do
     check "the page has the exit status $status" grep -Fqx ".It $status" "$page"

@@ -102,6 +102,13 @@ hints("an offset", ["list", "--offset", "a b"], BAD_VALUE, f"--offset takes {NUM
 hints("an offset that is -", ["list", "--offset", "-"], BAD_VALUE, f"--offset takes {NUMBER}, not '-'")
 hints("an alignment", ["normalise", "--external", "--align", "3"], BAD_VALUE, "--align takes a power of two from 4 to 1048576, not '3'")
 hints("a new time", ["update", "--time", "x"], BAD_VALUE, f"--time takes {NUMBER}, not 'x'")
+hints("a removal", ["update", "--remove", "images"], BAD_VALUE,
+      "--remove takes the PATH of a node, or 'PATH NAME' of a property, not 'images'")
+hints("a new value", ["update", "--set", "/images/k load 5"], BAD_VALUE,
+      "--set takes 'PATH NAME', 'PATH NAME VALUE' or 'FIELD VALUE', not '/images/k%20load%205'")
+hints("a new payload", ["update", "--payload", "k=new"], BAD_VALUE, "--payload takes IMAGE=@FILE, not 'k=new'")
+hints("two values of one place", ["update", "--set", "load 1", "--set", "load 2"], BAD_VALUE, "see bootimg explain 'bad value'")
+hints("two forms", ["update", "--keep-form", "--external"], BAD_VALUE, "see bootimg explain 'bad value'")
 hints("a form", ["get", "--as", "numbr", "-", "load"], BAD_VALUE,
       "--as takes one of text, number, raw, not 'numbr': did you mean 'number'?")
 hints("a part", ["extract", "--part", "one"], BAD_VALUE, f"--part takes {NUMBER}, not 'one'")

@@ -1,8 +1,9 @@
 #!/bin/sh
 # Compares updated images with those that mkimage makes. A source that dtc compiles, with its digests computed and its time set by
 # update, means what mkimage makes of it: with payloads inside the blob and after it, with several configurations, and where the
-# source has no values of hash nodes or wrong ones. A legacy image with another time is the one that mkimage makes at that time. It
-# needs Debian's u-boot-tools, device-tree-compiler and python3, and installs them if one is missing and it runs as root.
+# source has no values of hash nodes or wrong ones. A legacy image with another time is the one that mkimage makes at that time. Edits
+# do what fdtput does, and a payload or a field that is replaced gives what mkimage makes with it in the first place. It needs Debian's
+# u-boot-tools, device-tree-compiler and python3, and installs them if one is missing and it runs as root.
 set -u
 
 root=$(cd "$(dirname "$0")/../.." && pwd)
@@ -76,6 +77,76 @@ for algo in md5 sha1 sha256 sha384 sha512; do
     sed "s/algo = \"md5\"/algo = \"$algo\"/" tree.its > algo.its
     check "mkimage with $algo" updates algo.its
 done
+
+# as_fdtput WORD FDTPUT..: the image of mkimage after the edit of this word, which begins with the name of an option, means what it does
+# after fdtput with these arguments, where IMAGE is its name.
+as_fdtput() {
+    word=$1
+    shift
+    cp made IMAGE && fdtput "$@" && bootimg update "${word%%=*}" "${word#*=}" made > edited &&
+        bootimg compare edited IMAGE && bootimg normalise IMAGE | cmp - edited && ! bootimg compare --quiet made edited
+}
+check "mkimage makes the image once more" sh -c 'mkimage -f tree.its made > log'
+check "a number as by fdtput" as_fdtput '--set=/images/kernel-1 load 0x00009000' -t x IMAGE /images/kernel-1 load 9000
+check "bytes as by fdtput" as_fdtput '--set=/images/kernel-1 load 0x00FF' -t bx IMAGE /images/kernel-1 load 0 ff
+check "a text as by fdtput" as_fdtput '--set=/ description "say \"a\""' -t s IMAGE / description 'say "a"'
+check "texts as by fdtput" as_fdtput '--set=/configurations/conf-2 fdt "fdt-1" "kernel-1"' \
+    -t s IMAGE /configurations/conf-2 fdt fdt-1 kernel-1
+check "a new property as by fdtput" as_fdtput '--set=/images/ramdisk-1 zstd-level 0x00000003' -t u IMAGE /images/ramdisk-1 zstd-level 3
+check "a removed property as by fdtput" as_fdtput '--remove=/images/kernel-1 load' -d IMAGE /images/kernel-1 load
+check "a removed node as by fdtput" as_fdtput '--remove=/images/kernel-1/hash-1' -r IMAGE /images/kernel-1/hash-1
+check "a removed image as by fdtput" as_fdtput --remove=/images/byte-1 -r IMAGE /images/byte-1
+# fdtput puts a new node before the others, so the order differs. That of single properties does not.
+check "new nodes as by fdtput" sh -c 'cp made IMAGE && fdtput -p -t s IMAGE /images/byte-1/hash-2 algo sha256 &&
+    bootimg update --set "/images/byte-1/hash-2 algo \"sha256\"" made > edited &&
+    bootimg describe IMAGE | sort > one && bootimg describe edited | sort | cmp - one && bootimg get edited /images/byte-1/hash-2 algo |
+    grep -Fx "\"sha256\""'
+
+# Each property that describe prints can be set to what it prints, all at once.
+check "what describe prints changes nothing" sh -c 'bootimg describe made | sed -n "s/^property //p" > words && test -s words &&
+    sed "s/^/--set\n/" words | xargs -d "\n" sh -c "bootimg update \"\$@\" made" sh > same && bootimg normalise made | cmp - same'
+
+# replaced OPTION..: a payload and its hashes that are replaced in an image of mkimage are what mkimage makes with the payload, in each
+# form. With --keep-form payloads after the blob stay there, at multiples of what they were at.
+replaced() {
+    printf x > byte-1 && mkimage -f tree.its "$@" made > log && printf 'some other bytes' > byte-1 && cp byte-1 new &&
+        mkimage -f tree.its "$@" wanted > log || return 1
+    bootimg update --payload byte-1=@new --hashes made > edited 2> notes && bootimg normalise wanted | cmp - edited &&
+        bootimg update --external --payload byte-1=@new --hashes made > edited 2>> notes &&
+        bootimg normalise --external wanted | cmp - edited &&
+        bootimg update --keep-form --payload byte-1=@new --hashes made > edited 2>> notes && bootimg compare wanted edited
+}
+check "a payload is replaced" replaced
+check "it was inside the blob, and no note says otherwise" test ! -s notes
+check "with --keep-form it still is" sh -c 'bootimg list edited | grep "^image byte-1 size 16 data at "'
+check "a payload after the blob is replaced" replaced -E
+check "the notes say that four are inside now" sh -c '
+    head -n 1 notes | grep -Fx "bootimg: note: 4 payloads are inside the blob now, see --external"'
+check "with --keep-form they are not" sh -c '[ "$(bootimg list edited | grep -c " data-offset at ")" = 4 ]'
+check "a payload at a multiple of 512 is replaced" replaced -E -B 0x200
+check "with --keep-form it is at one" sh -c 'bootimg list edited | sed -n "s/^image .* data-offset at //p" > places &&
+    [ "$(wc -l < places)" = 4 ] && while read -r place; do [ $((place % 512)) = 0 ] || exit; done < places'
+check "a payload at a position is replaced" replaced -E -p 0x20000
+check "the positions are not kept" sh -c 'tail -n 1 notes | grep -Fx "bootimg: note: 4 fixed positions of payloads were not kept"'
+printf x > byte-1
+
+# fields_are_set WORD OPTION..: the first image with this new value is the one that mkimage makes with these options.
+fields_are_set() {
+    word=$1
+    shift
+    mkimage -A arm -O linux -T kernel -C none -a 0x8000 -e 0x8040 -n kernel "$@" -d kernel-1 wanted > log &&
+        bootimg update --set "$word" first | cmp - wanted
+}
+mkimage -A arm -O linux -T kernel -C none -a 0x8000 -e 0x8040 -n kernel -d kernel-1 first > log
+check "a load address" fields_are_set 'load 0x9000' -a 0x9000
+check "an entry point" fields_are_set 'entry 0xffffffff' -e 0xffffffff
+check "a name" fields_are_set 'name a%20name' -n 'a name'
+check "an operating system" fields_are_set 'os netbsd' -O netbsd
+check "an architecture" fields_are_set 'arch powerpc' -A powerpc
+check "a compression" fields_are_set 'compression gzip' -C gzip
+check "a part of a multi-file image" sh -c 'mkimage -A arm -O linux -T multi -C none -n parts -d kernel-1:byte-1 first > log &&
+    mkimage -A arm -O linux -T multi -C none -n parts -d kernel-1:new wanted > log &&
+    bootimg update --payload 1=@new first | cmp - wanted'
 
 # time_is_set OPTION..: the image of mkimage with these options, with another time, is the one that it makes at that time.
 time_is_set() {

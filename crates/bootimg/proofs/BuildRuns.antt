@@ -35,7 +35,7 @@ use Rattle.bootimg.specs.declared.tasks.Done.{Done}
 -- ---- sources that are read in turn
 
 -- One more source was read.
-one_more_read : {S V : Type 0} (IsRead : S → V → (old new : Option (List FileStep)) → Type 0) (sources : List S) (values : List V)
+pub one_more_read : {S V : Type 0} (IsRead : S → V → (old new : Option (List FileStep)) → Type 0) (sources : List S) (values : List V)
     (source : S) (value : V) (old middle new : Option (List FileStep)) → WereReadInTurn IsRead sources values old middle
     → IsRead source value middle new → WereReadInTurn IsRead (sources ++ source ∷ []) (values ++ value ∷ []) old new
 one_more_read IsRead [] [] source value old middle new were one = (new, subst (λ o. IsRead source value o new) were one, refl)
@@ -45,7 +45,7 @@ one_more_read IsRead (s ∷ sources) (v ∷ values) source value old middle new 
     (were.0, were.1, one_more_read IsRead sources values source value were.0 middle new were.2 one)
 
 -- Each source has one value.
-one_value_each : {S V : Type 0} (IsRead : S → V → (old new : Option (List FileStep)) → Type 0) (sources : List S) (values : List V)
+pub one_value_each : {S V : Type 0} (IsRead : S → V → (old new : Option (List FileStep)) → Type 0) (sources : List S) (values : List V)
     (old new : Option (List FileStep)) → WereReadInTurn IsRead sources values old new → length values ≡ length sources
 one_value_each IsRead [] [] old new were = refl
 one_value_each IsRead [] (v ∷ values) old new were = absurd were

@@ -170,6 +170,7 @@ is_without_notes done is = λ i. record {
     lost_alignment = is.says_nothing.alignment i;
     lost_positions = is.says_nothing.positions i;
   };
+  inside = is.none_inside i;
 }
 
 built_of : (plan : LegacyPlan) (parts : List Part) (first : List ℕ) (known : List (List ℕ)) (limits : Limits) (work : Work) (done : Done) →

@@ -1,4 +1,4 @@
-use Rattle.std.proofs.Common.{◌≡◌, ◌∙◌, ◌<◌, ℕ, suc, zero, false, List, [], ◌∷◌, None, Some}
+use Rattle.std.proofs.Common.{◌≡◌, ◌≢◌, ◌∙◌, ◌<◌, ℕ, suc, zero, false, true, List, [], ◌∷◌, Option, None, Some}
 use Rattle.std.proofs.Common.{codes, length, map, lit<, lit≤, ◌⊎◌, inl, inr, ap, refl, sym, subst, subst₂, arith, slice_get, true≢false}
 use Rattle.std.specs.Global.{Vec}
 use Rattle.std.specs.List.{AllZip}
@@ -6,22 +6,25 @@ use Rattle.std.specs.Ptr.{null_ptr}
 use Rattle.bi_base.specs.Limits.{Limits, widest}
 use Rattle.bi_base.proofs.EqualBytes.{other_bytes}
 use Rattle.bi_commands.specs.KnownChoices.{lent}
-use Rattle.bi_fit.specs.declared.changes.Changes.{Changes}
 use Rattle.bi_fit.specs.declared.form.Form.TheVariants.{Embedded}
 use Rattle.bi_hash.specs.declared.algo.Algo.TheVariants.{Sha256}
 use Rattle.bi_norm.specs.FitBuilding.{names_of_specs}
 use Rattle.clap.specs.declared.parser.matches.ArgMatches.{ArgMatches}
+use Rattle.clap.specs.Simple.{subcommand_of}
+use Rattle.clap.specs.Walk.{first_of, one_of}
 use Rattle.clap.proofs.OnLiterals.{clap_on_literals}
-use Rattle.bootimg.specs.CommandLine.{AreOwnTexts, ChangesHashes, HasFitValues, HasNoForm, IsBadPlan, IsChanges, IsChangesFailure}
-use Rattle.bootimg.specs.CommandLine.{IsFirstBad, IsFitPlanFailure, IsForm, IsFormWith, IsImageText, IsLimits, IsNewTime}
-use Rattle.bootimg.specs.CommandLine.{IsTaskFailure, NoneIs, NotAllowed, NotChanged, NotCompared, NotExplained, NotFit, NotFormed}
-use Rattle.bootimg.specs.CommandLine.{NotFormedChanged, NotLegacy, NotLimited, NotNamed, NotPlaced, NotSelected, NotShown, align_option}
-use Rattle.bootimg.specs.CommandLine.{external_flag}
-use Rattle.bootimg.specs.CommandLine.{given_offset, hashes_flag, limit_of, option_of, value_of, values_of}
+use Rattle.bootimg.specs.CommandLine.{AreOwnTexts, HasFitValues, HasNoForm, IsBadPlan, IsEditPlanFailure, NoForm}
+use Rattle.bootimg.specs.CommandLine.{IsFirstBad, IsFitPlanFailure, IsForm, IsFormWith, IsImageText, IsLimits}
+use Rattle.bootimg.specs.CommandLine.{IsTaskFailure, NoneIs, NotAllowed, NotCompared, NotExplained, NotFit, NotFormed}
+use Rattle.bootimg.specs.CommandLine.{NotLegacy, NotLimited, NotNamed, NotPlaced, NotSelected, NotShown, align_option}
+use Rattle.bootimg.specs.CommandLine.{AsksForEdits, AsksForHashes, AsksForNoEdit, AsksForPayloads, AsksForTime, AsksToKeepForm, AsksToRemove, AsksToSet}
+use Rattle.bootimg.specs.CommandLine.{Gives, IsFlag, NotEdited, external_flag, keep_form_flag}
+use Rattle.bootimg.specs.CommandLine.{hashes_flag, limit_of, option_of, value_of, values_of}
 use Rattle.bootimg.specs.ConfigurationWords.{AreHashes, IsDefault, IsFirstBadConfiguration, name_of_word}
 use Rattle.bootimg.specs.KnownBuildRequests.{FirstFailuresAreKnown, IsTheOne, text_for_name}
 use Rattle.bootimg.specs.Numbers.{IsNumber}
 use Rattle.bootimg.specs.OwnTexts.{AreDescriptions, AreNamedTexts}
+use Rattle.bootimg.specs.KnownWords.{words_of_line}
 use Rattle.bootimg.specs.Program.{program_app}
 use Rattle.bootimg.specs.Words.{parts_of}
 use Rattle.bootimg.specs.declared.codes.CodeField.TheVariants.{Os, Arch, ImageType, Compression}
@@ -33,9 +36,10 @@ use Rattle.bootimg.specs.declared.failure.Failure.{Failure}
 use Rattle.bootimg.specs.declared.failure.Failure.TheVariants.{BadConfiguration, BadImage, BadValue, NoChange}
 use Rattle.bootimg.proofs.ArgumentFacts.{code_with_name, decimal_digits, is_no_number}
 use Rattle.bootimg.proofs.BuildRequestFacts.{first_is_bad, no_first_word, unknown_md4, vec_of, without_list}
-use Rattle.bootimg.proofs.OptionFacts.{found_values}
-use Rattle.bootimg.proofs.RequestFacts.{flag_is, no_change_fails, no_time_given, not_given_and_missing, option_is, value_is}
-use Rattle.bootimg.proofs.TaskNames.{not_a_task}
+use Rattle.bootimg.proofs.OptionFacts.{found_values, values_in}
+use Rattle.bootimg.proofs.RequestFacts.{flag_is, not_given_and_missing, option_is, rows_given}
+use Rattle.bootimg.proofs.RequestFacts.{value_is}
+use Rattle.bootimg.proofs.TaskNames.{no_task_updates, not_a_task}
 
 -- Which of two failures small command lines have is known.
 
@@ -297,9 +301,7 @@ fit_failure : (options : ArgMatches) (failure : Failure) → IsTaskFailure (code
 fit_failure options failure (NotFormed name fails) = absurd (other_bytes (codes "build-fit") (codes "normalise") refl name)
 fit_failure options failure (NotShown name fails) = absurd (other_bytes (codes "build-fit") (codes "show") refl name)
 fit_failure options failure (NotAllowed name fails) = absurd (other_bytes (codes "build-fit") (codes "check") refl name)
-fit_failure options failure (NotChanged name fails) = absurd (other_bytes (codes "build-fit") (codes "update") refl name)
-fit_failure options failure (NotFormedChanged name changes are fails) =
-    absurd (other_bytes (codes "build-fit") (codes "update") refl name)
+fit_failure options failure (NotEdited name fails) = absurd (other_bytes (codes "build-fit") (codes "update") refl name)
 fit_failure options failure (NotNamed name fails) = absurd (other_bytes (codes "build-fit") (codes "get") refl name)
 fit_failure options failure (NotSelected name all fails) = absurd (other_bytes (codes "build-fit") (codes "extract") refl name)
 fit_failure options failure (NotPlaced given is fails) = absurd (not_a_task given is.0)
@@ -324,73 +326,95 @@ plan_fails options limits wanted are one =
       only failure (inl fails) = absurd (fails.1 limits are)
       only failure (inr fails) = one.1 failure fails.2
 
--- The failures of `update` are those of its changes, and then those of its form or its offset.
-abbrev IsUpdateTaskFailure : ArgMatches → Failure → Type 0
-IsUpdateTaskFailure options failure =
-    IsChangesFailure options failure ⊎ (((changes : Changes) × IsChanges options changes × (failure ≡ BadValue))
-    ⊎ ((failure ≡ BadValue) × NoneIs (IsNumber (given_offset options))))
-
+-- The failures of `update` are those of its plan.
 update_failure : (options : ArgMatches) (failure : Failure) → IsTaskFailure (codes "update") options failure →
-    IsUpdateTaskFailure options failure
+    IsEditPlanFailure options failure
 update_failure options failure (NotFormed name fails) = absurd (other_bytes (codes "update") (codes "normalise") refl name)
 update_failure options failure (NotShown name fails) = absurd (other_bytes (codes "update") (codes "show") refl name)
 update_failure options failure (NotAllowed name fails) = absurd (other_bytes (codes "update") (codes "check") refl name)
-update_failure options failure (NotChanged name fails) = inl fails
-update_failure options failure (NotFormedChanged name changes are fails) = inr (inl (changes, are, fails.0))
+update_failure options failure (NotEdited name fails) = fails
 update_failure options failure (NotNamed name fails) = absurd (other_bytes (codes "update") (codes "get") refl name)
 update_failure options failure (NotSelected name all fails) = absurd (other_bytes (codes "update") (codes "extract") refl name)
-update_failure options failure (NotPlaced given is fails) = inr (inr fails)
+update_failure options failure (NotPlaced given is fails) = absurd (no_task_updates given is.0)
 update_failure options failure (NotLegacy name fails) = absurd (other_bytes (codes "update") (codes "build-legacy") refl name)
 update_failure options failure (NotLimited name fails) = absurd (other_bytes (codes "update") (codes "build-fit") refl name)
 update_failure options failure (NotFit name limits are fails) = absurd (other_bytes (codes "update") (codes "build-fit") refl name)
 update_failure options failure (NotCompared name fails) = absurd (other_bytes (codes "update") (codes "compare") refl name)
 update_failure options failure (NotExplained name fails) = absurd (other_bytes (codes "update") (codes "explain") refl name)
 
--- Digests do not change.
-no_hashes_change : (options : ArgMatches) → hashes_flag options ≡ Some (codes "false") → ChangesHashes options false
-no_hashes_change options flag = record {
+-- A flag that is not given is off.
+flag_is_off : (text : Option (List ℕ)) → text ≡ Some (codes "false") → IsFlag text false
+flag_is_off text flag = record {
   given = λ yes. absurd (other flag yes);
   not_given = λ no. refl;
   unknown = λ none. refl;
 } where
-  other : hashes_flag options ≡ Some (codes "false") → hashes_flag options ≡ Some (codes "true") → ⊥
+  other : text ≡ Some (codes "false") → text ≡ Some (codes "true") → ⊥
   other is also = let same : codes "true" ≡ codes "false" = cc in other_bytes (codes "true") (codes "false") refl same
 
-pub change_fails : (options : ArgMatches) → option_of options (codes "time") ≡ None → hashes_flag options ≡ Some (codes "false") →
-    given_offset options ≡ codes "0" → IsTheOne (IsTaskFailure (codes "update") options) NoChange
-change_fails options time flag offset =
-    (NotChanged refl (time, no_hashes_change options flag), λ failure is. only failure (update_failure options failure is)) where
-      only : (failure : Failure) → IsUpdateTaskFailure options failure → failure ≡ NoChange
-      only failure (inl fails) = no_change_fails options time failure fails
-      only failure (inr (inl fails)) =
-          absurd (fails.1.some (no_time_given _ time fails.0.time fails.1.time, fails.1.hashes.not_given flag))
-      only failure (inr (inr fails)) =
-          absurd (fails.1 0 (subst (λ a. IsNumber a 0) (sym offset) (decimal_digits (codes "0") refl refl).0))
+-- A flag that is given is on.
+pub flag_is_on : (text : Option (List ℕ)) → text ≡ Some (codes "true") → IsFlag text true
+flag_is_on text flag = record {
+  given = λ is. refl;
+  not_given = λ is. absurd (other flag is);
+  unknown = λ none. absurd (let e : None ≡ Some (codes "true") = sym none ∙ flag in cc);
+} where
+  other : text ≡ Some (codes "true") → text ≡ Some (codes "false") → ⊥
+  other is also = let same : codes "true" ≡ codes "false" = cc in other_bytes (codes "true") (codes "false") refl same
 
-changes_of_time : (options : ArgMatches) → option_of options (codes "time") ≡ Some (codes "1") →
-    hashes_flag options ≡ Some (codes "false") → IsChanges options (record { time = Some 1; hashes = false })
-changes_of_time options time flag = record {
-  time = subst (λ o. IsNewTime o (Some 1)) (sym time) (decimal_digits (codes "1") refl refl).0;
-  hashes = no_hashes_change options flag;
-  some = λ none. not_given_and_missing (Some 1) 1 refl none.0;
-}
+-- Options that request nothing of `update`.
+pub record NothingAsked (options : ArgMatches) : Type 0 where
+  pub none : AsksForNoEdit options
+  pub no_hashes : hashes_flag options ≡ Some (codes "false")
+  pub no_form : keep_form_flag options ≡ Some (codes "false")
 
-form_of_update_fails : (options : ArgMatches) → option_of options (codes "time") ≡ Some (codes "1") →
-    hashes_flag options ≡ Some (codes "false") → HasNoForm options → IsTheOne (IsTaskFailure (codes "update") options) BadValue
-form_of_update_fails options time flag none = (
-  NotFormedChanged refl _ (changes_of_time options time flag) (refl, none),
-  λ failure is. only failure (update_failure options failure is),
-)
-  where
-    change : (failure : Failure) → IsChangesFailure options failure → failure ≡ BadValue
-    change NoChange is = absurd (not_given_and_missing _ (codes "1") time is.0)
-    change BadValue is = refl
-    change other is = absurd is
+pub nothing_asked : (options : ArgMatches) → NothingAsked options → ¬ (AsksForEdits options)
+nothing_asked options asked (AsksToRemove some) = some asked.none.no_removal
+nothing_asked options asked (AsksToSet some) = some asked.none.no_setting
+nothing_asked options asked (AsksForPayloads some) = some asked.none.no_payload
+nothing_asked options asked (AsksForTime some) = some asked.none.no_time
+nothing_asked options asked (AsksForHashes is) = true≢false (is.not_given asked.no_hashes)
+nothing_asked options asked (AsksToKeepForm is) = true≢false (is.not_given asked.no_form)
 
-    only : (failure : Failure) → IsUpdateTaskFailure options failure → failure ≡ BadValue
-    only failure (inl fails) = change failure fails
-    only failure (inr (inl fails)) = fails.2
-    only failure (inr (inr fails)) = fails.0
+-- A command line of `update` that requests nothing.
+pub no_edits : (line : List ℕ) (options : ArgMatches) → Gives (words_of_line line) (codes "update") options →
+    values_in (codes "remove") (subcommand_of program_app (words_of_line line)) ≡ [] →
+    values_in (codes "set") (subcommand_of program_app (words_of_line line)) ≡ [] →
+    values_in (codes "payload") (subcommand_of program_app (words_of_line line)) ≡ [] →
+    first_of (codes "time") (rows_given line) ≡ None →
+    one_of (codes "hashes") (rows_given line) ≡ Some (codes "false") →
+    one_of (codes "keep-form") (rows_given line) ≡ Some (codes "false") → NothingAsked options
+no_edits line options is remove set payload time hashes keep =
+    let no_hashes = flag_is line (codes "update") options is (codes "hashes") ∙ hashes in
+    let no_form = flag_is line (codes "update") options is (codes "keep-form") ∙ keep in
+    record {
+      none = record {
+        no_removal = found_values line (codes "update") options is (codes "remove") ∙ remove;
+        no_setting = found_values line (codes "update") options is (codes "set") ∙ set;
+        no_payload = found_values line (codes "update") options is (codes "payload") ∙ payload;
+        no_time = option_is line (codes "update") options is (codes "time") ∙ time;
+        no_hashes = flag_is_off (hashes_flag options) no_hashes;
+        no_form = flag_is_off (keep_form_flag options) no_form;
+      };
+      no_hashes = no_hashes;
+      no_form = no_form;
+    }
+
+pub change_fails : (options : ArgMatches) → NothingAsked options → IsTheOne (IsTaskFailure (codes "update") options) NoChange
+change_fails options asked = (NotEdited refl asked.none, λ failure is. only failure (update_failure options failure is)) where
+  only : (failure : Failure) → IsEditPlanFailure options failure → failure ≡ NoChange
+  only NoChange is = refl
+  only BadValue is = absurd (nothing_asked options asked is.0)
+  only other is = absurd is
+
+form_of_update_fails : (options : ArgMatches) → option_of options (codes "time") ≢ None → HasNoForm options →
+    IsTheOne (IsTaskFailure (codes "update") options) BadValue
+form_of_update_fails options time none =
+    (NotEdited refl (AsksForTime time, inr (NoForm none)), λ failure is. only failure (update_failure options failure is)) where
+      only : (failure : Failure) → IsEditPlanFailure options failure → failure ≡ BadValue
+      only NoChange is = absurd (time is.no_time)
+      only BadValue is = refl
+      only other is = absurd is
 
 -- An alignment without `--external` gives no form.
 no_form_without_external : (options : ArgMatches) (argument : List ℕ) → external_flag options ≡ Some (codes "false") →
@@ -558,16 +582,12 @@ first_failures_are_known = record {
       (codes "a" ∷ []) 0 (found_values line name options is (codes "images") ∙ refl)
       (first_image_is_bad (codes "a") [] (few_fields (codes "a") refl))
       (λ images. no_first (codes "a") [] images (few_fields (codes "a") refl)));
-  change_before_form = λ options is.
-      let line = codes "update --align 3" in
-      let name = codes "update" in
-      change_fails options (option_is line name options is (codes "time") ∙ refl) (flag_is line name options is (codes "hashes") ∙ refl)
-      (value_is line name options is (codes "offset") (codes "0") ∙ refl);
+  change_before_form = λ options is. change_fails options (no_edits (codes "update --align 3") options is refl refl refl refl refl refl);
   form_of_update = λ options is.
       let line = codes "update --time 1 --align 3" in
       let name = codes "update" in
-      form_of_update_fails options (option_is line name options is (codes "time") ∙ refl)
-      (flag_is line name options is (codes "hashes") ∙ refl)
+      form_of_update_fails options
+      (not_given_and_missing _ (codes "1") (option_is line name options is (codes "time") ∙ refl))
       (no_form_without_external options (codes "3") (flag_is line name options is (codes "external") ∙ refl)
       (option_is line name options is (codes "align") ∙ refl));
 }

@@ -18,7 +18,9 @@ use Rattle.bootimg.specs.declared.jobs.SourceFailure.{SourceFailure}
 use Rattle.bootimg.specs.declared.tasks.Done.{Done}
 use Rattle.bootimg.specs.Failures.{failure_to_save}
 use Rattle.bootimg.specs.Runs.{Inputs, Work, source_failure, IsNotRead, IsImageRead, InputRead, FileRead, IsImageNotRead, InputNotRead}
-use Rattle.bootimg.specs.Runs.{FileNotRead, IsFileRead, IsFileNotRead, OpenedNotRead}
+use Rattle.bootimg.specs.Runs.{FileNotRead, IsEditWork, IsFileRead, IsFileNotRead, OpenedNotRead}
+use Rattle.bootimg.specs.declared.command_line.Job.TheVariants.{Edit as EditJob}
+use Rattle.bootimg.specs.declared.command_line.edits.EditPlan.{EditPlan}
 use Rattle.bootimg.specs.Runs.{IsComparedWork, IsCompareWork, BothRead, OtherNotRead, IsFailedWork, IsBuildWork}
 use Rattle.bootimg.specs.Runs.{IsExplainWork, IsJobWork, IsPlanWork, IsHeldWork, IsHeldFailure, failure_in_memory, Run, work_of}
 use Rattle.bootimg.specs.Runs.{inputs_before, inputs_after, IsOutputRun, IsSavedWork, OutputSaved, OutputNotSaved, ToStandardOutput, ToFile}
@@ -132,6 +134,12 @@ pub images_are_compared : (files : KnownFiles) (job : Job) (plan : ComparePlan) 
     (old new : Option (List FileStep)) → job ≡ Compare plan → IsCompareWork files plan limits work old new
     → IsJobWork files job limits work old new
 images_are_compared files job plan limits work old new is done = subst (λ j. IsJobWork files j limits work old new) (sym is) done
+
+-- The job is to edit an image.
+pub image_is_edited : (files : KnownFiles) (job : Job) (plan : EditPlan) (limits : Limits) (work : Work)
+    (old new : Option (List FileStep)) → job ≡ EditJob plan → IsEditWork files plan limits work old new
+    → IsJobWork files job limits work old new
+image_is_edited files job plan limits work old new is done = subst (λ j. IsJobWork files j limits work old new) (sym is) done
 
 -- The job is to explain.
 pub explained_work : (files : KnownFiles) (job : Job) (topic : Option Topic) (limits : Limits) (work : Work)

@@ -1,4 +1,4 @@
-use Rattle.std.proofs.Common.{◌≡◌, ◌∷◌, [], ◌∙◌, ℕ, Bool, true, false, List, Bor, Option, Some, None, Result, Ok, Err, ap, refl}
+use Rattle.std.proofs.Common.{◌≡◌, ◌∷◌, [], ◌∙◌, ℕ, Bool, true, false, List, Bor, Option, Some, None, Result, Ok, Err, ap, refl, inl, inr}
 use Rattle.std.specs.Prelude.{IfSome}
 use Rattle.bi_base.specs.Limits.{Limits}
 use Rattle.bi_base.specs.Traces.{ReadTrace, WriteTrace}
@@ -14,7 +14,6 @@ use Rattle.bootimg.specs.declared.command_line.part.PartSource.TheVariants as pa
 use Rattle.bootimg.specs.declared.command_line.source.ComparePlan.{ComparePlan}
 use Rattle.bootimg.specs.declared.command_line.source.ImageSource.{ImageSource}
 use Rattle.bootimg.specs.declared.failure.Failure.{Failure}
-use Rattle.bootimg.specs.declared.jobs.SourceFailure.{SourceFailure}
 use Rattle.bootimg.specs.declared.tasks.Done.{Done}
 use Rattle.bootimg.specs.declared.terminal.Terminal.{Terminal}
 use Rattle.bootimg.specs.CommandLine.{IsAllRequested, IsImagesRequested, IsRequest, sources_of}
@@ -34,6 +33,11 @@ use Rattle.bootimg.specs.Runs.{FileNotOpened, IsCompareWork, BothRead, OneNotRea
 use Rattle.bootimg.specs.Runs.{PartNotRead, NoRoom, IsJobWork, IsSavedWork, OutputSaved, OutputNotSaved, NoOutput, IsOutputRun}
 use Rattle.bootimg.specs.Runs.{ToStandardOutput, ToFile, IsEnd, EndsWell, EndsWithFailure, IsTextRun, IsWritten, IsNotWritten}
 use Rattle.bootimg.specs.Runs.{DidJob, IsRequestRun, IsUsage, KeptFromTerminal, inputs_before, inputs_after}
+use Rattle.bootimg.specs.Runs.{AllRead, ArePayloadsRead, ImageNotRead, IsEditWork, IsPayloadsFailure, PayloadsNotRead}
+use Rattle.bootimg.specs.declared.command_line.Job.TheVariants.{Edit as EditJob}
+use Rattle.bootimg.specs.declared.command_line.edits.EditPlan.{EditPlan}
+use Rattle.bootimg.specs.declared.jobs.SourceFailure.{SourceFailure}
+use Rattle.bi_edit.specs.declared.words.PayloadWord.{PayloadWord}
 use Rattle.bootimg.specs.ProgramRuns.{IsRun, RanJob, ExtractedAll, Rejected, WroteText}
 use Rattle.bootimg.specs.Runs.{IsAllWork, PayloadsSaved, PayloadsNotSaved, NotExtracted, NothingRead}
 use Rattle.bootimg.specs.Tasks.{status_of}
@@ -123,10 +127,39 @@ build_work_keeps base files plan limits work old new (PartNotRead failed is not 
 build_work_keeps base files plan limits work old new (NoRoom first is same) =
     parts_keep base files limits first.first first.parts old new first.are_read
 
+payloads_keep : (base : Names) (files : KnownFiles) (limits : Limits) (words : List PayloadWord) (contents : List (List ℕ))
+    (old new : Option (List FileStep)) → ArePayloadsRead files limits words contents old new → KeepsNames base old new
+payloads_keep base files limits [] [] old new are = keeps_same base old new are
+payloads_keep base files limits [] (bytes ∷ contents) old new are = absurd are
+payloads_keep base files limits (word ∷ words) [] old new are = absurd are
+payloads_keep base files limits (word ∷ words) (bytes ∷ contents) old new are =
+    keeps_in_turn base old are.0 new (file_read_keeps base files limits word.file.now bytes old are.0 are.1)
+    (payloads_keep base files limits words contents are.0 new are.2)
+
+payloads_failure_keeps : (base : Names) (files : KnownFiles) (limits : Limits) (words : List PayloadWord) (failed : SourceFailure)
+    (old new : Option (List FileStep)) → IsPayloadsFailure files limits words failed old new → KeepsNames base old new
+payloads_failure_keeps base files limits words failed old new (inl is) =
+    keeps_in_turn base old is.middle new (payloads_keep base files limits is.before is.contents old is.middle is.are_read)
+    (file_not_read_keeps base files limits is.word.file.now failed.failure is.middle new is.not_read)
+payloads_failure_keeps base files limits words failed old new (inr memory) =
+    payloads_keep base files limits memory.0.first memory.0.contents old new memory.0.are_read
+
+edit_work_keeps : (base : Names) (files : KnownFiles) (plan : EditPlan) (limits : Limits) (work : Work)
+    (old new : Option (List FileStep)) → IsEditWork files plan limits work old new → KeepsNames base old new
+edit_work_keeps base files plan limits work old new (AllRead image contents middle read are edited) =
+    keeps_in_turn base old middle new (image_read_keeps base files limits _ _ image plan.source read)
+    (payloads_keep base files limits plan.payloads.items contents middle new are)
+edit_work_keeps base files plan limits work old new (ImageNotRead failure not_read failed) =
+    image_not_read_keeps base files limits _ _ failure plan.source not_read
+edit_work_keeps base files plan limits work old new (PayloadsNotRead image middle failed read not_read was) =
+    keeps_in_turn base old middle new (image_read_keeps base files limits _ _ image plan.source read)
+    (payloads_failure_keeps base files limits plan.payloads.items failed middle new not_read)
+
 job_work_keeps_names : (base : Names) (files : KnownFiles) (job : Job) (limits : Limits) (work : Work) (old new : Option (List FileStep))
     → IsJobWork files job limits work old new → KeepsNames base old new
 job_work_keeps_names base files (RunTask plan) limits work old new done = image_work_keeps base files _ plan.source limits work old new done
 job_work_keeps_names base files (Compare plan) limits work old new done = compare_work_keeps base files plan limits work old new done
+job_work_keeps_names base files (EditJob plan) limits work old new done = edit_work_keeps base files plan limits work old new done
 job_work_keeps_names base files (Explain cause) limits work old new done = keeps_same base old new done.1
 job_work_keeps_names base files (Build plan) limits work old new done = build_work_keeps base files plan limits work old new done
 

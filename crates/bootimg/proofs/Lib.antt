@@ -6,6 +6,13 @@ pub mod ComparedPlans
 pub mod ListedTexts
 pub mod KeyLists
 pub mod ConfigurationFacts
+pub mod EditOptionFacts
+pub mod DistinctPlaces
+pub mod EditPlans
+pub mod PayloadPlans
+pub mod EditRuns
+pub mod SetWords
+pub mod FieldTexts
 pub mod NamedTexts
 pub mod AlgorithmFacts
 pub mod PlanFailures

@@ -76,6 +76,7 @@ options_are_known = record {
   check = gives_values _ _ _ refl refl refl;
   scan = gives_values _ _ _ refl refl refl;
   update = gives_values _ _ _ refl refl refl;
+  update_edits = gives_values _ _ _ refl refl refl;
   get = gives_values _ _ _ refl refl refl;
   extract = gives_values _ _ _ refl refl refl;
   extract_flags = gives_values _ _ _ refl refl refl;

@@ -1,4 +1,4 @@
-use Rattle.std.proofs.Common.{◌≡◌, ◌≤◌, ◌∙◌, ℕ, true≢false, Bor, List, [], ◌∷◌, None, Some, codes, inl, inr, length}
+use Rattle.std.proofs.Common.{◌≡◌, ◌≤◌, ◌∙◌, ℕ, true≢false, Bor, List, [], ◌∷◌, Some, codes, inl, inr, length}
 use Rattle.std.proofs.Common.{ap, arith, refl, sym, subst}
 use Rattle.std.specs.Prelude.{option_map}
 use Rattle.bi_base.proofs.EqualBytes.{other_bytes}
@@ -11,22 +11,22 @@ use Rattle.bootimg.specs.CommandLine.{Gives, IsJob, IsLimits, IsTaskFailure, NoJ
 use Rattle.bootimg.specs.CommandLine.{AreImageSources, IsTask, NotEach, TakesImages, TwoInputs, image_arguments}
 use Rattle.bootimg.specs.declared.command_line.source.ImageSource.{ImageSource}
 use Rattle.bootimg.specs.declared.command_line.source.ImageSource.TheVariants.{File, Standard}
-use Rattle.bootimg.specs.CommandLine.{NotAll, NotAllowed, NotChanged, NotCompared, NotExplained, NotFit, NotFormed, NotFormedChanged}
-use Rattle.bootimg.specs.CommandLine.{NotLegacy, NotLimited, NotNamed, NotPlaced, NotSelected, NotShown, all_flag, hashes_flag, limit_of}
-use Rattle.bootimg.specs.CommandLine.{option_of}
+use Rattle.bootimg.specs.CommandLine.{NotAll, NotAllowed, NotCompared, NotExplained, NotFit, NotFormed}
+use Rattle.bootimg.specs.CommandLine.{NotLegacy, NotLimited, NotNamed, NotPlaced, NotSelected, NotShown, all_flag, limit_of}
+use Rattle.bootimg.specs.CommandLine.{NotEdited}
 use Rattle.bootimg.specs.KnownOrders.{IsListOfFile, IsRejectedFor, RejectionsAreKnown, RequestsAreKnown}
 use Rattle.bootimg.specs.Program.{program_app}
 use Rattle.bootimg.specs.declared.command_line.Job.{Job}
-use Rattle.bootimg.specs.declared.command_line.Job.TheVariants.{Run, Compare, Build, Explain}
+use Rattle.bootimg.specs.declared.command_line.Job.TheVariants.{Run, Compare, Build, Edit, Explain}
 use Rattle.bootimg.specs.declared.command_line.build.BuildPlan.TheVariants as build
 use Rattle.bootimg.specs.declared.failure.Failure.{Failure}
 use Rattle.bootimg.specs.declared.failure.Failure.TheVariants.{BadValue, NoChange}
 use Rattle.bootimg.proofs.ArgumentFacts.{decimal_digits, limits_are_known}
-use Rattle.bootimg.proofs.FirstFailureFacts.{change_fails}
+use Rattle.bootimg.proofs.FirstFailureFacts.{NothingAsked, change_fails, no_edits, nothing_asked}
 use Rattle.bootimg.proofs.RequestFacts.{all_requests_are_known, file_is_named, flag_is}
 use Rattle.bootimg.proofs.RequestFacts.{number_of_argument, option_is, value_is}
 use Rattle.bootimg.proofs.OptionFacts.{found_values}
-use Rattle.bootimg.proofs.TaskNames.{list_task, no_update_task, verify_task}
+use Rattle.bootimg.proofs.TaskNames.{list_task, no_task_updates, verify_task}
 
 -- What whole command lines request, or why they request nothing, is known.
 
@@ -53,6 +53,7 @@ list_job options is (Run plan) holds = (
   file_is_named _ (codes "in") plan.source (option_is list_line (codes "list") options is (codes "file") ∙ refl) refl holds.source,
 )
 list_job options is (Compare plan) holds = other_bytes (codes "list") (codes "compare") refl holds.0
+list_job options is (Edit plan) holds = other_bytes (codes "list") (codes "update") refl holds.0
 list_job options is (Explain cause) holds = other_bytes (codes "list") (codes "explain") refl holds.0
 list_job options is (Build (build.Legacy plan)) holds = other_bytes (codes "list") (codes "build-legacy") refl holds.0
 list_job options is (Build (build.Fit plan)) holds = other_bytes (codes "list") (codes "build-fit") refl holds.0
@@ -84,6 +85,7 @@ no_one_job options is (Run plan) holds =
     two_are_more (image_arguments options) (found_values several_line (codes "verify") options is (codes "file") ∙ refl)
     (holds.no_more (inr (inl refl)))
 no_one_job options is (Compare plan) holds = other_bytes (codes "verify") (codes "compare") refl holds.0
+no_one_job options is (Edit plan) holds = other_bytes (codes "verify") (codes "update") refl holds.0
 no_one_job options is (Explain cause) holds = other_bytes (codes "verify") (codes "explain") refl holds.0
 no_one_job options is (Build (build.Legacy plan)) holds = other_bytes (codes "verify") (codes "build-legacy") refl holds.0
 no_one_job options is (Build (build.Fit plan)) holds = other_bytes (codes "verify") (codes "build-fit") refl holds.0
@@ -159,21 +161,20 @@ update_rejected line name only none failure (NotAll options is all fails) =
 update_rejected line name only none failure (NoMemory is) = inr is
 
 -- No job is an update without a change.
-no_update_job : (options : ArgMatches) → option_of options (codes "time") ≡ None → hashes_flag options ≡ Some (codes "false") →
-    (job : Job) → ¬ (IsJob (codes "update") options job)
-no_update_job options time flag (Run plan) is = no_update_task options time flag plan.task is.task
-no_update_job options time flag (Compare plan) is = other_bytes (codes "update") (codes "compare") refl is.0
-no_update_job options time flag (Explain cause) is = other_bytes (codes "update") (codes "explain") refl is.0
-no_update_job options time flag (Build (build.Legacy plan)) is = other_bytes (codes "update") (codes "build-legacy") refl is.0
-no_update_job options time flag (Build (build.Fit plan)) is = other_bytes (codes "update") (codes "build-fit") refl is.0
+no_update_job : (options : ArgMatches) → NothingAsked options → (job : Job) → ¬ (IsJob (codes "update") options job)
+no_update_job options none (Run plan) is = no_task_updates plan.task is.task.0
+no_update_job options none (Compare plan) is = other_bytes (codes "update") (codes "compare") refl is.0
+no_update_job options none (Edit plan) is = nothing_asked options none is.1
+no_update_job options none (Explain cause) is = other_bytes (codes "update") (codes "explain") refl is.0
+no_update_job options none (Build (build.Legacy plan)) is = other_bytes (codes "update") (codes "build-legacy") refl is.0
+no_update_job options none (Build (build.Fit plan)) is = other_bytes (codes "update") (codes "build-fit") refl is.0
 
 -- Each failure of `scan` is that of a bad value.
 scan_failure : (options : ArgMatches) (failure : Failure) → IsTaskFailure (codes "scan") options failure → failure ≡ BadValue
 scan_failure options failure (NotFormed name fails) = fails.0
 scan_failure options failure (NotShown name fails) = fails.0
 scan_failure options failure (NotAllowed name fails) = fails.0
-scan_failure options failure (NotChanged name fails) = absurd (other_bytes (codes "scan") (codes "update") refl name)
-scan_failure options failure (NotFormedChanged name changes are fails) = fails.0
+scan_failure options failure (NotEdited name fails) = absurd (other_bytes (codes "scan") (codes "update") refl name)
 scan_failure options failure (NotNamed name fails) = fails.0
 scan_failure options failure (NotSelected name all fails) = absurd (other_bytes (codes "scan") (codes "extract") refl name)
 scan_failure options failure (NotPlaced given is fails) = fails.0
@@ -188,8 +189,7 @@ list_failure : (options : ArgMatches) (failure : Failure) → IsTaskFailure (cod
 list_failure options failure (NotFormed name fails) = fails.0
 list_failure options failure (NotShown name fails) = fails.0
 list_failure options failure (NotAllowed name fails) = fails.0
-list_failure options failure (NotChanged name fails) = absurd (other_bytes (codes "list") (codes "update") refl name)
-list_failure options failure (NotFormedChanged name changes are fails) = fails.0
+list_failure options failure (NotEdited name fails) = absurd (other_bytes (codes "list") (codes "update") refl name)
 list_failure options failure (NotNamed name fails) = fails.0
 list_failure options failure (NotSelected name all fails) = absurd (other_bytes (codes "list") (codes "extract") refl name)
 list_failure options failure (NotPlaced given is fails) = fails.0
@@ -237,8 +237,7 @@ all_failure : (options : ArgMatches) → all_flag options ≡ Some (codes "true"
 all_failure options flag failure (NotFormed name fails) = fails.0
 all_failure options flag failure (NotShown name fails) = fails.0
 all_failure options flag failure (NotAllowed name fails) = fails.0
-all_failure options flag failure (NotChanged name fails) = absurd (other_bytes (codes "extract") (codes "update") refl name)
-all_failure options flag failure (NotFormedChanged name changes are fails) = fails.0
+all_failure options flag failure (NotEdited name fails) = absurd (other_bytes (codes "extract") (codes "update") refl name)
 all_failure options flag failure (NotNamed name fails) = fails.0
 all_failure options flag failure (NotSelected name all fails) = absurd (true≢false (sym (all.given flag)))
 all_failure options flag failure (NotPlaced given is fails) = fails.0
@@ -272,27 +271,11 @@ pub rejections_are_known : RejectionsAreKnown
 unfolding program_app clap_on_literals
 rejections_are_known = record {
   no_change = update_rejected (codes "update") refl
-      (λ options is.
-      let line = codes "update" in
-      let name = codes "update" in
-      (change_fails options (option_is line name options is (codes "time") ∙ refl) (flag_is line name options is (codes "hashes") ∙ refl)
-      (value_is line name options is (codes "offset") (codes "0") ∙ refl)).1)
-      (λ options is.
-      let line = codes "update" in
-      let name = codes "update" in
-      no_update_job options (option_is line name options is (codes "time") ∙ refl)
-      (flag_is line name options is (codes "hashes") ∙ refl));
+      (λ options is. (change_fails options (no_edits (codes "update") options is refl refl refl refl refl refl)).1)
+      (λ options is. no_update_job options (no_edits (codes "update") options is refl refl refl refl refl refl));
   change_before_limit = update_rejected (codes "update --limit 1") refl
-      (λ options is.
-      let line = codes "update --limit 1" in
-      let name = codes "update" in
-      (change_fails options (option_is line name options is (codes "time") ∙ refl) (flag_is line name options is (codes "hashes") ∙ refl)
-      (value_is line name options is (codes "offset") (codes "0") ∙ refl)).1)
-      (λ options is.
-      let line = codes "update --limit 1" in
-      let name = codes "update" in
-      no_update_job options (option_is line name options is (codes "time") ∙ refl)
-      (flag_is line name options is (codes "hashes") ∙ refl));
+      (λ options is. (change_fails options (no_edits (codes "update --limit 1") options is refl refl refl refl refl refl)).1)
+      (λ options is. no_update_job options (no_edits (codes "update --limit 1") options is refl refl refl refl refl refl));
   two_inputs = two_inputs_rejected;
   bad_limit = scan_rejected;
   no_directory = all_rejected;

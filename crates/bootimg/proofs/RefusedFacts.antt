@@ -9,6 +9,8 @@ use Rattle.std.proofs.lemmas.Bool.{le-leb, lt-leb}
 use Rattle.std.proofs.lemmas.List.Concat.{flat_map-append, flat_map_single}
 use Rattle.bi_base.proofs.ListMembers.{each-append}
 use Rattle.std.specs.Borrow.{Bor}
+use Rattle.bi_edit.specs.declared.words.PayloadWord.{PayloadWord}
+use Rattle.bi_edit.specs.EditWords.{IsPayloadWord}
 use Rattle.bootimg.specs.CommandLine.{NoneIs, texts_of}
 use Rattle.bootimg.specs.RefusedWords.{FindsFirst, GivenWordModel, IsFirstRefusedWord, IsRefused, OptionTextModel, RefusedWordModel}
 use Rattle.bootimg.specs.RefusedWords.{all_option_words}
@@ -219,3 +221,12 @@ pub taken_if_known : {T : Type 0} (Is : T → Type 0) (given : Option T) (is_giv
 taken_if_known Is None is_given some exactly same =
     (λ holds. absurd (true≢false (sym holds ∙ same)), λ is. absurd (let e : None ≡ Some is.0 = exactly is.0 is.1 in cc))
 taken_if_known Is (Some value) is_given some exactly same = (λ holds. (value, some), λ is. same)
+
+-- The same for the word for a new payload.
+pub payload_is_taken : (word : List ℕ) (given : Option PayloadWord) (is_given : Bool)
+    → IfSome given (λ payload. IsPayloadWord word payload.image payload.file.now)
+    → IfNone given ((image file : List ℕ) → IsPayloadWord word image file → ⊥) → is_given ≡ is_some given
+    → IsTrue is_given ↔ ((image : List ℕ) × (file : List ℕ) × IsPayloadWord word image file)
+payload_is_taken word None is_given some none same =
+    (λ holds. absurd (true≢false (sym holds ∙ same)), λ is. absurd (none is.0 is.1 is.2))
+payload_is_taken word (Some payload) is_given some none same = (λ holds. (payload.image, payload.file.now, some), λ is. same)

@@ -28,7 +28,7 @@ use Rattle.clap.proofs.OnLiterals.{clap_on_literals}
 use Rattle.clap.proofs.WalkLemmas.{first_value-rows, one_text-rows}
 use Rattle.bootimg.specs.CodeWords.{IsCode}
 use Rattle.bootimg.specs.CommandLine.{IsFormWith, IsShown, json_flag, layout_flag}
-use Rattle.bootimg.specs.CommandLine.{Gives, IsAddress, IsAllowed, IsChangesFailure, IsFields, IsImageSource, IsImageText, IsNewTime}
+use Rattle.bootimg.specs.CommandLine.{Gives, IsAddress, IsAllowed, IsFields, IsImageSource, IsImageText, IsNewTime}
 use Rattle.bootimg.specs.CommandLine.{IsPartSource, IsSelection, IsSelectionFailure, IsBuildPlan, NamesAFile, NoneIs}
 use Rattle.bootimg.specs.CommandLine.{IsAllFailure, IsEntry, IsNameOf, IsNoneGiven, SelectsDefault, default_flag}
 use Rattle.bootimg.specs.CommandLine.{given_count, list_of, option_of, value_of}
@@ -54,7 +54,7 @@ use Rattle.bootimg.specs.declared.command_line.show.ShowForm.{ShowForm}
 use Rattle.bootimg.specs.declared.command_line.show.ShowForm.TheVariants as show_form
 use Rattle.bootimg.specs.declared.command_line.source.ImageSource.{ImageSource}
 use Rattle.bootimg.specs.declared.command_line.source.ImageSource.TheVariants.{Standard, File}
-use Rattle.bootimg.specs.declared.failure.Failure.TheVariants.{NoChange, NoSelection, BadValue}
+use Rattle.bootimg.specs.declared.failure.Failure.TheVariants.{NoSelection, BadValue}
 use Rattle.bootimg.proofs.ArgumentFacts.{decimal_digits, hexadecimal_digits_after, code_with_name, is_no_number}
 
 -- Small command lines request what is known.
@@ -353,18 +353,6 @@ bad_time_given option argument given not_number time is = by time (subst (λ o. 
   by None is = is
   by (Some other) is = not_number other is
 
--- The failure without a change, and with a bad time.
-pub no_change_fails : (options : ArgMatches) → option_of options (codes "time") ≡ None → IsOnlyOne (IsChangesFailure options) NoChange
-no_change_fails options missing NoChange is = refl
-no_change_fails options missing BadValue is = absurd (not_given_and_missing _ is.0 is.1 missing)
-no_change_fails options missing other is = absurd is
-
-bad_time_fails : (options : ArgMatches) (argument : List ℕ) → option_of options (codes "time") ≡ Some argument
-    → IsOnlyOne (IsChangesFailure options) BadValue
-bad_time_fails options argument given NoChange is = absurd (not_given_and_missing _ argument given is.0)
-bad_time_fails options argument given BadValue is = refl
-bad_time_fails options argument given other is = absurd is
-
 pub changes_are_known : ChangesAreKnown
 unfolding program_app clap_on_literals
 changes_are_known = record {
@@ -387,22 +375,15 @@ changes_are_known = record {
       changes.time holds.time in
       let hashes = holds.hashes.given (flag_is (codes "update --hashes --time 0") (codes "update") options is (codes "hashes") ∙ refl) in
       (λ i. record { time = time i; hashes = hashes i });
-  no_change = λ options is. (
-    λ changes holds.
-        holds.some (
-          no_time_given _ (option_is (codes "update") (codes "update") options is (codes "time") ∙ refl) changes.time holds.time,
-          holds.hashes.not_given (flag_is (codes "update") (codes "update") options is (codes "hashes") ∙ refl),
-        ),
-    no_change_fails options (option_is (codes "update") (codes "update") options is (codes "time") ∙ refl),
-  );
-  bad_time = λ options is. (
-    λ changes holds.
-        bad_time_given _ (codes "x")
-        (option_is (codes "update --time x") (codes "update") options is (codes "time") ∙ refl)
-        (is_no_number (codes "x") refl refl) changes.time
-        holds.time,
-    bad_time_fails options (codes "x") (option_is (codes "update --time x") (codes "update") options is (codes "time") ∙ refl),
-  );
+  no_change = λ options is changes holds.
+      let time = no_time_given _ (option_is (codes "update") (codes "update") options is (codes "time") ∙ refl) changes.time holds.time in
+      let hashes = holds.hashes.not_given (flag_is (codes "update") (codes "update") options is (codes "hashes") ∙ refl) in
+      (λ i. record { time = time i; hashes = hashes i });
+  bad_time = λ options is changes holds.
+      bad_time_given _ (codes "x")
+      (option_is (codes "update --time x") (codes "update") options is (codes "time") ∙ refl)
+      (is_no_number (codes "x") refl refl) changes.time
+      holds.time;
 }
 
 -- ---- extract

@@ -5,6 +5,7 @@ use Rattle.bi_base.specs.Traces.{WriteTrace}
 use Rattle.bi_commands.specs.declared.parts.Part.{Part}
 use Rattle.bootimg.specs.declared.command_line.Job.{Job}
 use Rattle.bootimg.specs.declared.command_line.Job.TheVariants.{Run as RunTask, Compare, Build, Explain}
+use Rattle.bootimg.specs.declared.command_line.Job.TheVariants.{Edit as EditJob}
 use Rattle.bootimg.specs.declared.command_line.build.BuildPlan.{BuildPlan}
 use Rattle.bootimg.specs.declared.command_line.source.ComparePlan.{ComparePlan}
 use Rattle.bootimg.specs.declared.command_line.source.ImageSource.{ImageSource}
@@ -17,8 +18,10 @@ use Rattle.bootimg.specs.declared.jobs.SourceFailure.{SourceFailure}
 use Rattle.bootimg.specs.declared.tasks.Done.{Done}
 use Rattle.bootimg.specs.declared.terminal.Terminal.{Terminal}
 use Rattle.bootimg.specs.Runs.{Inputs, Promise, Run, Work, no_input, work_of, with_input, Logs, IsLogged, HasStopped, Notes}
-use Rattle.bootimg.specs.Runs.{NotesCount, NotesAlignment, note_line, alignment_line, positions_line}
-use Rattle.bi_fit.specs.declared.kept.Kept.{Kept}
+use Rattle.bootimg.specs.Runs.{NotesCount, NotesAlignment, note_line, inside_line, alignment_line, positions_line}
+use Rattle.bootimg.specs.Runs.{AllRead, CouldNotEdit, ImageNotRead, IsEditWork, IsEditedWork, NoRoomForEdits, NotWholeWritten}
+use Rattle.bootimg.specs.Runs.{PayloadsNotRead, WroteEdited}
+use Rattle.bootimg.specs.declared.command_line.edits.EditPlan.{EditPlan}
 use Rattle.bootimg.specs.Runs.{HasNone, HasSome, IsRejection, IsTaskWork, Succeeded, HasFailed, IsImageWork, DoneOnInput, DoneOnFile}
 use Rattle.bootimg.specs.Runs.{FileNotOpened, IsImageRead, InputRead, FileRead, IsImageNotRead, InputNotRead, FileNotRead, IsComparedWork}
 use Rattle.bootimg.specs.Runs.{WroteDifferences, NotAllWritten, NotCompared, IsCompareWork, BothRead, OneNotRead, OtherNotRead}
@@ -55,11 +58,12 @@ alignment_keeps : (alignment : Option ℕ) (old new : WriteTrace) → NotesAlign
 alignment_keeps None old new same = ap (λ trace. trace.writer) same
 alignment_keeps (Some bytes) old new logs = logs_keep old new (alignment_line bytes) logs
 
-notes_keep : (kept : Kept) (old new : WriteTrace) → Notes kept old new → new.writer ≡ old.writer
-notes_keep kept old new notes =
-    count_keeps kept.lost_positions (positions_line kept.lost_positions) notes.second new notes.positions
-    ∙ alignment_keeps kept.lost_alignment notes.first notes.second notes.alignment
-    ∙ count_keeps kept.signatures (note_line kept.signatures) old notes.first notes.signatures
+notes_keep : (done : Done) (old new : WriteTrace) → Notes done old new → new.writer ≡ old.writer
+notes_keep done old new notes =
+    count_keeps done.kept.lost_positions (positions_line done.kept.lost_positions) notes.third new notes.positions
+    ∙ alignment_keeps done.kept.lost_alignment notes.second notes.third notes.alignment
+    ∙ count_keeps done.inside (inside_line done.inside) notes.first notes.second notes.inside
+    ∙ count_keeps done.kept.signatures (note_line done.kept.signatures) old notes.first notes.signatures
 
 -- The reader is the same after an image was read, or not read, from its source.
 read_keeps : (files : KnownFiles) (limits : Limits) (old new : Inputs) (image : List ℕ) (source : ImageSource)
@@ -124,6 +128,24 @@ compare_work_keeps files plan limits work old new (OtherNotRead one middle failu
   writer = ap (λ trace. trace.writer) failed.nothing_written;
 }
 
+-- The output is the same after an image was edited.
+edited_keeps_writer : (plan : EditPlan) (limits : Limits) (image : List ℕ) (contents : List (List ℕ)) (work : Work)
+    → IsEditedWork plan limits image contents work → work.new_output.writer ≡ work.output.writer
+edited_keeps_writer plan limits image contents work (WroteEdited edits are notes text is wrote done ended outcome) = wrote.same_writer
+edited_keeps_writer plan limits image contents work (NotWholeWritten edits are text is error stopped outcome) = stopped.same_writer
+edited_keeps_writer plan limits image contents work (CouldNotEdit edits are error is failure why failed) =
+    ap (λ trace. trace.writer) failed.nothing_written
+edited_keeps_writer plan limits image contents work (NoRoomForEdits failed) = ap (λ trace. trace.writer) failed.nothing_written
+
+edit_work_keeps : (files : KnownFiles) (plan : EditPlan) (limits : Limits) (work : Work) (old new : Option (List FileStep))
+    → IsEditWork files plan limits work old new → KeepsWork work
+edit_work_keeps files plan limits work old new (AllRead image contents middle read are edited) =
+    record { reader = read_keeps _ _ _ _ _ _ read; writer = edited_keeps_writer _ _ _ _ _ edited }
+edit_work_keeps files plan limits work old new (ImageNotRead failure not_read failed) =
+    record { reader = not_read_keeps _ _ _ _ _ _ not_read; writer = ap (λ trace. trace.writer) failed.nothing_written }
+edit_work_keeps files plan limits work old new (PayloadsNotRead image middle failed read not_read was) =
+    record { reader = read_keeps _ _ _ _ _ _ read; writer = ap (λ trace. trace.writer) was.nothing_written }
+
 explain_work_keeps : (topic : Option Topic) (work : Work) → IsExplainWork topic work → KeepsWork work
 explain_work_keeps topic work (WroteExplanation wrote done ended outcome input) =
     record { reader = ap (λ trace. trace.reader) input; writer = wrote.same_writer }
@@ -158,6 +180,7 @@ pub job_work_keeps : (files : KnownFiles) (job : Job) (limits : Limits) (work : 
     → IsJobWork files job limits work old new → KeepsWork work
 job_work_keeps files (RunTask plan) limits work old new done = image_work_keeps _ _ _ _ _ _ _ done
 job_work_keeps files (Compare plan) limits work old new done = compare_work_keeps _ _ _ _ _ _ done
+job_work_keeps files (EditJob plan) limits work old new done = edit_work_keeps _ _ _ _ _ _ done
 job_work_keeps files (Explain cause) limits work old new done = explain_work_keeps _ _ done.0
 job_work_keeps files (Build plan) limits work old new done = build_work_keeps _ _ _ _ _ _ done
 

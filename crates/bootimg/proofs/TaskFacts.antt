@@ -1,8 +1,7 @@
 use Rattle.std.proofs.Common.{◌≡◌, ◌∙◌, ℕ, Bool, false, List, [], ◌∷◌, ap, inl, inr, refl, subst, subst₂, sym}
 use Rattle.bi_base.specs.declared.fault.Error.TheVariants.{OutOfMemory}
 use Rattle.bi_base.specs.Limits.{widest}
-use Rattle.bi_commands.proofs.ExtractFacts.{extracts_are_known, updated_texts_are_known}
-use Rattle.bi_commands.proofs.PromiseFacts.{kept_of_updates_is_known}
+use Rattle.bi_commands.proofs.ExtractFacts.{extracts_are_known}
 use Rattle.bi_common.specs.declared.format.Format.TheVariants.{Lines}
 use Rattle.bi_describe.proofs.DescribedFileFacts.{described_files_are_known}
 use Rattle.bi_fit.specs.KnownJudgements.{short_crc}
@@ -34,7 +33,12 @@ use Rattle.bootimg.specs.Tasks.{EndedWith}
 -- How tasks on small files end is known.
 
 ends : (good : Bool) → EndedWith good (without_notes good)
-ends good = record { is_answer = refl; no_signatures = refl; says_nothing = record { alignment = refl; positions = refl } }
+ends good = record {
+  is_answer = refl;
+  no_signatures = refl;
+  says_nothing = record { alignment = refl; positions = refl };
+  none_inside = refl;
+}
 
 -- ---- getting values
 
@@ -87,12 +91,10 @@ pub task_ends_are_known : OneLegacyMeaning → ScansAreKnown → PagesAreKnown �
 task_ends_are_known one_legacy scans pages objects =
     let verified = verify_outputs_are_known one_legacy in
     let checked = check_outputs_are_known one_legacy in
-    let updated = updated_texts_are_known one_legacy in
-    let updates = kept_of_updates_is_known one_legacy in
     let got = field_values_are_known one_legacy in
     let extracted = (extracts_are_known one_legacy).second_part in
     record {
-      normalise = ((kept_of_normal_forms_is_known one_legacy).external, refl);
+      normalise = ((kept_of_normal_forms_is_known one_legacy).external, (refl, refl));
       layout = (pages.kernel, ends _);
       no_layout = (pages.no_layout, ends _);
       page_in_json = (objects.kernel, ends _);
@@ -109,12 +111,6 @@ task_ends_are_known one_legacy scans pages objects =
       scan = (_, scans.two.is_output, ends _);
       scan_in_json = (_, scans.two_in_json.is_output, ends _);
       nothing_found = (_, scans.none.is_output, ends _);
-      update = λ form. record {
-        done = λ done other is. updated.text form other is.0.output.is;
-        text = λ other is. updated.text form other is;
-      };
-      updated = λ form. (updates.legacy form, refl);
-      lost_alignment = (updates.external, refl);
       get = λ plan form_is names_are. record {
         done = λ done other is. only_got Shown load_and_name _ got.two plan form_is names_are other is.0;
         text = λ other is. only_got Shown load_and_name _ got.two plan form_is names_are other is;

@@ -1,13 +1,12 @@
-use Rattle.std.proofs.Common.{◌≡◌, None, Some, codes, ap, refl}
+use Rattle.std.proofs.Common.{◌≡◌, Some, codes, ap, refl}
 use Rattle.bi_base.proofs.EqualBytes.{other_bytes}
 use Rattle.bi_common.specs.declared.format.Format.TheVariants.{Json}
 use Rattle.clap.specs.declared.parser.matches.ArgMatches.{ArgMatches}
-use Rattle.bootimg.specs.CommandLine.{IsTask, hashes_flag, json_flag, name_of_task, option_of}
+use Rattle.bootimg.specs.CommandLine.{IsTask, json_flag, name_of_task}
 use Rattle.bootimg.specs.declared.command_line.Task.{Task}
 use Rattle.bootimg.specs.declared.command_line.Task.TheVariants as task
-use Rattle.bootimg.proofs.RequestFacts.{no_time_given}
 
--- The names of tasks are those of other commands than `build-fit` and `explain`, and the tasks of `list` and `update` are known.
+-- The names of tasks are those of other commands than `build-fit`, `explain` and `update`, and the tasks of `list` and `verify` are known.
 
 pub not_a_task : (given : Task) → ¬ (codes "build-fit" ≡ name_of_task given)
 not_a_task (task.Normalise form) = other_bytes (codes "build-fit") (codes "normalise") refl
@@ -17,7 +16,6 @@ not_a_task (task.Describe format) = other_bytes (codes "build-fit") (codes "desc
 not_a_task (task.Verify format) = other_bytes (codes "build-fit") (codes "verify") refl
 not_a_task (task.Check policy format) = other_bytes (codes "build-fit") (codes "check") refl
 not_a_task (task.Scan format) = other_bytes (codes "build-fit") (codes "scan") refl
-not_a_task (task.Update changes form) = other_bytes (codes "build-fit") (codes "update") refl
 not_a_task (task.Get plan) = other_bytes (codes "build-fit") (codes "get") refl
 not_a_task (task.Extract selection) = other_bytes (codes "build-fit") (codes "extract") refl
 not_a_task task.Convert = other_bytes (codes "build-fit") (codes "convert") refl
@@ -30,10 +28,21 @@ no_task_explains (task.Describe format) same = other_bytes (codes "explain") (co
 no_task_explains (task.Verify format) same = other_bytes (codes "explain") (codes "verify") refl same
 no_task_explains (task.Check policy format) same = other_bytes (codes "explain") (codes "check") refl same
 no_task_explains (task.Scan format) same = other_bytes (codes "explain") (codes "scan") refl same
-no_task_explains (task.Update changes form) same = other_bytes (codes "explain") (codes "update") refl same
 no_task_explains (task.Get plan) same = other_bytes (codes "explain") (codes "get") refl same
 no_task_explains (task.Extract selection) same = other_bytes (codes "explain") (codes "extract") refl same
 no_task_explains task.Convert same = other_bytes (codes "explain") (codes "convert") refl same
+
+pub no_task_updates : (given : Task) → ¬ (codes "update" ≡ name_of_task given)
+no_task_updates (task.Normalise form) same = other_bytes (codes "update") (codes "normalise") refl same
+no_task_updates (task.Show how) same = other_bytes (codes "update") (codes "show") refl same
+no_task_updates (task.List format) same = other_bytes (codes "update") (codes "list") refl same
+no_task_updates (task.Describe format) same = other_bytes (codes "update") (codes "describe") refl same
+no_task_updates (task.Verify format) same = other_bytes (codes "update") (codes "verify") refl same
+no_task_updates (task.Check policy format) same = other_bytes (codes "update") (codes "check") refl same
+no_task_updates (task.Scan format) same = other_bytes (codes "update") (codes "scan") refl same
+no_task_updates (task.Get plan) same = other_bytes (codes "update") (codes "get") refl same
+no_task_updates (task.Extract selection) same = other_bytes (codes "update") (codes "extract") refl same
+no_task_updates task.Convert same = other_bytes (codes "update") (codes "convert") refl same
 
 -- The task of `list --json`.
 pub list_task : (options : ArgMatches) → json_flag options ≡ Some (codes "true") → (given : Task) → IsTask (codes "list") options given →
@@ -45,7 +54,6 @@ list_task options flag (task.Describe format) is = absurd (other_bytes (codes "l
 list_task options flag (task.Verify format) is = absurd (other_bytes (codes "list") (codes "verify") refl is.0)
 list_task options flag (task.Check policy format) is = absurd (other_bytes (codes "list") (codes "check") refl is.0)
 list_task options flag (task.Scan format) is = absurd (other_bytes (codes "list") (codes "scan") refl is.0)
-list_task options flag (task.Update changes form) is = absurd (other_bytes (codes "list") (codes "update") refl is.0)
 list_task options flag (task.Get plan) is = absurd (other_bytes (codes "list") (codes "get") refl is.0)
 list_task options flag (task.Extract selection) is = absurd (other_bytes (codes "list") (codes "extract") refl is.0)
 list_task options flag task.Convert is = absurd (other_bytes (codes "list") (codes "convert") refl is.0)
@@ -61,23 +69,6 @@ verify_task options flag (task.Describe format) is = absurd (other_bytes (codes 
 verify_task options flag (task.Verify format) is = ap task.Verify (is.1.given flag)
 verify_task options flag (task.Check policy format) is = absurd (other_bytes (codes "verify") (codes "check") refl is.0)
 verify_task options flag (task.Scan format) is = absurd (other_bytes (codes "verify") (codes "scan") refl is.0)
-verify_task options flag (task.Update changes form) is = absurd (other_bytes (codes "verify") (codes "update") refl is.0)
 verify_task options flag (task.Get plan) is = absurd (other_bytes (codes "verify") (codes "get") refl is.0)
 verify_task options flag (task.Extract selection) is = absurd (other_bytes (codes "verify") (codes "extract") refl is.0)
 verify_task options flag task.Convert is = absurd (other_bytes (codes "verify") (codes "convert") refl is.0)
-
--- No task is an update without a change.
-pub no_update_task : (options : ArgMatches) → option_of options (codes "time") ≡ None → hashes_flag options ≡ Some (codes "false") →
-    (given : Task) → ¬ (IsTask (codes "update") options given)
-no_update_task options time flag (task.Normalise form) is = other_bytes (codes "update") (codes "normalise") refl is.0
-no_update_task options time flag (task.Show how) is = other_bytes (codes "update") (codes "show") refl is.0
-no_update_task options time flag (task.List format) is = other_bytes (codes "update") (codes "list") refl is.0
-no_update_task options time flag (task.Describe format) is = other_bytes (codes "update") (codes "describe") refl is.0
-no_update_task options time flag (task.Verify format) is = other_bytes (codes "update") (codes "verify") refl is.0
-no_update_task options time flag (task.Check policy format) is = other_bytes (codes "update") (codes "check") refl is.0
-no_update_task options time flag (task.Scan format) is = other_bytes (codes "update") (codes "scan") refl is.0
-no_update_task options time flag (task.Update changes form) is =
-    is.1.0.some (no_time_given _ time changes.time is.1.0.time, is.1.0.hashes.not_given flag)
-no_update_task options time flag (task.Get plan) is = other_bytes (codes "update") (codes "get") refl is.0
-no_update_task options time flag (task.Extract selection) is = other_bytes (codes "update") (codes "extract") refl is.0
-no_update_task options time flag task.Convert is = other_bytes (codes "update") (codes "convert") refl is.0

@@ -62,10 +62,10 @@ use Rattle.bootimg.specs.Runs.{NothingRead, OutputNotSaved, OutputSaved, Payload
 use Rattle.bootimg.specs.ProgramRuns.{RanJob, Rejected}
 use Rattle.bootimg.specs.Runs.{ToFile, ToStandardOutput, Work, WroteExplanation, failure_in_memory, source_failure}
 use Rattle.bootimg.specs.ProgramRuns.{WroteText}
-use Rattle.bootimg.specs.Runs.{NotesAlignment, NotesCount, inputs_after, inputs_before, note_line, positions_line, with_input, work_of}
+use Rattle.bootimg.specs.Runs.{NotesAlignment, NotesCount, inputs_after, inputs_before, inside_line, note_line, positions_line, with_input, work_of}
 use Rattle.bootimg.specs.Tasks.{IsCallFailure, EndedWith, plan_promise, status_of}
 use Rattle.bootimg.specs.declared.command_line.Job.{Job}
-use Rattle.bootimg.specs.declared.command_line.Job.TheVariants.{Run as RunTask, Compare, Build, Explain}
+use Rattle.bootimg.specs.declared.command_line.Job.TheVariants.{Run as RunTask, Compare, Build, Edit, Explain}
 use Rattle.bootimg.specs.declared.command_line.build.BuildPlan.TheVariants as build
 use Rattle.bootimg.specs.declared.command_line.part.PartSource.{PartSource}
 use Rattle.bootimg.specs.declared.command_line.part.PartSource.TheVariants as part
@@ -218,11 +218,12 @@ no_count : (count : ℕ) (line : List ℕ) (old new : WriteTrace) → count ≡ 
 no_count count line old new none (HasNone zero same) = same
 no_count count line old new none (HasSome some logs) = absurd (omega (arith, none, some))
 
-no_notes : (done : Done) (old new : WriteTrace) → EndedWith true done → Notes done.kept old new → new ≡ old
+no_notes : (done : Done) (old new : WriteTrace) → EndedWith true done → Notes done old new → new ≡ old
 no_notes done old new ended notes =
-    no_count done.kept.lost_positions (positions_line done.kept.lost_positions) notes.second new ended.says_nothing.positions
+    no_count done.kept.lost_positions (positions_line done.kept.lost_positions) notes.third new ended.says_nothing.positions
     notes.positions
-    ∙ subst (λ alignment. NotesAlignment alignment notes.first notes.second) ended.says_nothing.alignment notes.alignment
+    ∙ subst (λ alignment. NotesAlignment alignment notes.second notes.third) ended.says_nothing.alignment notes.alignment
+    ∙ no_count done.inside (inside_line done.inside) notes.first notes.second ended.none_inside notes.inside
     ∙ no_count done.kept.signatures (note_line done.kept.signatures) old notes.first ended.no_signatures notes.signatures
 
 -- What a run of `explain` requests.
@@ -240,6 +241,7 @@ explain_job : (options : ArgMatches) → Gives (words_of_line explain_line) (cod
 unfolding program_app clap_on_literals
 explain_job options is (RunTask plan) holds = absurd (no_task_explains plan.task holds.task.0)
 explain_job options is (Compare plan) holds = absurd (other_bytes (codes "explain") (codes "compare") refl holds.0)
+explain_job options is (Edit plan) holds = absurd (other_bytes (codes "explain") (codes "update") refl holds.0)
 explain_job options is (Explain cause) holds =
     ap Explain (no_cause _ cause (option_is explain_line (codes "explain") options is (codes "cause") ∙ refl) holds.1)
 explain_job options is (Build (build.Legacy plan)) holds = absurd (other_bytes (codes "explain") (codes "build-legacy") refl holds.0)

@@ -22,6 +22,7 @@ use Rattle.bi_norm.specs.declared.fit_building.ImageTexts.{ImageTexts}
 use Rattle.bootimg.specs.CodeWords.{IsCode, text_of_code, four_texts}
 use Rattle.bootimg.specs.ConfigurationWords.{AreConfigurations, AreHashes, IsDefault}
 use Rattle.bootimg.specs.ConfigurationWords.{name_of_word}
+use Rattle.bootimg.specs.EditOptions.{AreGivenEdits, ArePayloadWords}
 use Rattle.bootimg.specs.OwnTexts.{AreDescriptions, AreNamedTexts}
 use Rattle.bootimg.specs.Explanations.{IsAbout}
 use Rattle.bootimg.specs.declared.explanations.Topic.{Topic}
@@ -34,6 +35,7 @@ use Rattle.bootimg.specs.declared.command_line.NoRequest.TheVariants as outcome
 use Rattle.bootimg.specs.declared.command_line.ImagePlan.{ImagePlan}
 use Rattle.bootimg.specs.declared.command_line.Job.{Job}
 use Rattle.bootimg.specs.declared.command_line.Job.TheVariants.{Run, Compare, Build, Explain}
+use Rattle.bootimg.specs.declared.command_line.Job.TheVariants.{Edit}
 use Rattle.bootimg.specs.declared.command_line.Order.{Order}
 use Rattle.bootimg.specs.declared.command_line.Order.TheVariants as order
 use Rattle.bootimg.specs.declared.command_line.Request.{Request}
@@ -43,6 +45,7 @@ use Rattle.bootimg.specs.declared.command_line.build.BuildPlan.{BuildPlan}
 use Rattle.bootimg.specs.declared.command_line.build.BuildPlan.TheVariants.{Legacy, Fit}
 use Rattle.bootimg.specs.declared.command_line.build.FitPlan.{FitPlan}
 use Rattle.bootimg.specs.declared.command_line.build.LegacyPlan.{LegacyPlan}
+use Rattle.bootimg.specs.declared.command_line.edits.EditPlan.{EditPlan}
 use Rattle.bootimg.specs.declared.command_line.image.ImageFields.{ImageFields}
 use Rattle.bootimg.specs.declared.command_line.image.ImageWord.{ImageWord}
 use Rattle.bootimg.specs.declared.command_line.images.ImagesRequest.{ImagesRequest}
@@ -57,6 +60,8 @@ use Rattle.bootimg.specs.declared.command_line.source.ImageSource.TheVariants.{S
 use Rattle.bi_common.specs.declared.format.Format.{Format}
 use Rattle.bi_common.specs.declared.format.Format.TheVariants.{Lines, Json}
 use Rattle.bi_common.specs.Unshown.{IsNameShownAs}
+use Rattle.bi_edit.specs.declared.form_choice.FormChoice.{FormChoice}
+use Rattle.bi_edit.specs.declared.form_choice.FormChoice.TheVariants as choice
 use Rattle.bi_describe.specs.IgnoredWords.{AreWordsOfValues}
 use Rattle.bi_describe.specs.Ignoring.{Ignored}
 use Rattle.bi_describe.specs.MadeWords.{ignored_words}
@@ -99,6 +104,7 @@ HasLengths (Fit plan) = length plan.payloads.items ≡ length plan.images.items
 abbrev pub HasJobLengths : Job → Type 0
 HasJobLengths (Run plan) = ⊤
 HasJobLengths (Compare plan) = ⊤
+HasJobLengths (Edit plan) = ⊤
 HasJobLengths (Explain topic) = ⊤
 HasJobLengths (Build plan) = HasLengths plan
 
@@ -361,20 +367,88 @@ IsNewTime None None = ⊤
 IsNewTime (Some argument) (Some time) = IsNumber argument time
 IsNewTime argument time = ⊥
 
--- The options request these changes, of which there is one at least.
-pub record IsChanges (options : ArgMatches) (changes : Changes) : Type 0 where
+-- The options request this time and these digests, or neither.
+pub record AreChanges (options : ArgMatches) (changes : Changes) : Type 0 where
   pub time : IsNewTime (option_of options (codes "time")) changes.time
   pub hashes : ChangesHashes options changes.hashes
-  pub some : ¬ ((changes.time ≡ None) × (changes.hashes ≡ false))
 
--- The failure of options that request no changes: that nothing is to change, or else that the time
--- is not a number.
-abbrev pub IsChangesFailure : ArgMatches → Failure → Type 0
-IsChangesFailure options NoChange =
-    (option_of options (codes "time") ≡ None) × ChangesHashes options false
-IsChangesFailure options BadValue = (argument : List ℕ)
-    × (option_of options (codes "time") ≡ Some argument) × NoneIs (IsNumber argument)
-IsChangesFailure options failure = ⊥
+-- The values of `--remove`, of `--set` and of `--payload`.
+abbrev pub removal_arguments : ArgMatches → List (List ℕ)
+removal_arguments options = values_of options (codes "remove")
+
+abbrev pub set_arguments : ArgMatches → List (List ℕ)
+set_arguments options = values_of options (codes "set")
+
+abbrev pub payload_arguments : ArgMatches → List (List ℕ)
+payload_arguments options = values_of options (codes "payload")
+
+-- The text of the flag `--keep-form`: `true` or `false`.
+abbrev pub keep_form_flag : ArgMatches → Option (List ℕ)
+keep_form_flag options = one_text (found_of options) (codes "keep-form")
+
+-- The form of the image is kept with `--keep-form`, and else not.
+abbrev pub KeepsForm : ArgMatches → Bool → Type 0
+KeepsForm options keeps = IsFlag (keep_form_flag options) keeps
+
+-- None of `--remove`, `--set`, `--payload`, `--time`, `--hashes` and `--keep-form` is given.
+pub record AsksForNoEdit (options : ArgMatches) : Type 0 where
+  pub no_removal : removal_arguments options ≡ []
+  pub no_setting : set_arguments options ≡ []
+  pub no_payload : payload_arguments options ≡ []
+  pub no_time : option_of options (codes "time") ≡ None
+  pub no_hashes : ChangesHashes options false
+  pub no_form : KeepsForm options false
+
+-- One of them is.
+pub data AsksForEdits (options : ArgMatches) : Type 0 where
+  AsksToRemove : removal_arguments options ≢ [] → AsksForEdits options
+  AsksToSet : set_arguments options ≢ [] → AsksForEdits options
+  AsksForPayloads : payload_arguments options ≢ [] → AsksForEdits options
+  AsksForTime : option_of options (codes "time") ≢ None → AsksForEdits options
+  AsksForHashes : ChangesHashes options true → AsksForEdits options
+  AsksToKeepForm : KeepsForm options true → AsksForEdits options
+
+-- The form is that of the image with `--keep-form`, and then the options give no other form. Else
+-- they give it.
+abbrev pub IsFormChoiceWith : (keeps : Bool) → ArgMatches → FormChoice → Type 0
+IsFormChoiceWith false options (choice.Given form) = IsForm options form
+IsFormChoiceWith true options choice.Keep = IsForm options Embedded
+IsFormChoiceWith keeps options chosen = ⊥
+
+pub record IsFormChoice (options : ArgMatches) (chosen : FormChoice) : Type 0 where
+  pub keeps : Bool
+  pub keeps_form : KeepsForm options keeps
+  pub is_choice : IsFormChoiceWith keeps options chosen
+
+-- The options give no such form: the value of `--align` is not good, or `--keep-form` is given with
+-- another form.
+pub data HasNoFormChoice (options : ArgMatches) : Type 0 where
+  NoForm : HasNoForm options → HasNoFormChoice options
+  TwoForms : KeepsForm options true → (form : Form) → IsForm options form → form ≢ Embedded
+      → HasNoFormChoice options
+
+-- The options of `update` edit an image by this plan.
+pub record IsEditPlan (options : ArgMatches) (plan : EditPlan) : Type 0 where
+  pub changes : Changes
+  pub are_changes : AreChanges options changes
+  pub edits : AreGivenEdits (removal_arguments options) (set_arguments options) changes
+      plan.edits.items
+  pub removal_words : texts_of plan.removal_words.items ≡ removal_arguments options
+  pub payloads : ArePayloadWords (payload_arguments options) plan.payloads.items
+  pub is_choice : IsFormChoice options plan.choice
+  pub offset : IsNumber (given_offset options) plan.offset
+  pub source : IsImageSource (option_of options (codes "file")) plan.source
+
+-- One of the options of `update` has a bad value.
+abbrev pub HasBadEdits : ArgMatches → Type 0
+HasBadEdits options = NoneIs (IsEditPlan options) ⊎ HasNoFormChoice options
+
+-- The failure of options of `update` that are no such plan: that nothing is requested, or else that
+-- of a bad value.
+abbrev pub IsEditPlanFailure : ArgMatches → Failure → Type 0
+IsEditPlanFailure options NoChange = AsksForNoEdit options
+IsEditPlanFailure options BadValue = AsksForEdits options × HasBadEdits options
+IsEditPlanFailure options failure = ⊥
 
 -- ---- get
 
@@ -694,7 +768,6 @@ name_of_task (task.Describe format) = codes "describe"
 name_of_task (task.Verify format) = codes "verify"
 name_of_task (task.Check policy format) = codes "check"
 name_of_task (task.Scan format) = codes "scan"
-name_of_task (task.Update changes form) = codes "update"
 name_of_task (task.Get plan) = codes "get"
 name_of_task (task.Extract selection) = codes "extract"
 name_of_task task.Convert = codes "convert"
@@ -709,7 +782,6 @@ AreTaskOptions options (task.Verify format) = IsFormat options format
 AreTaskOptions options (task.Check policy format) =
     IsPolicy options policy × IsFormat options format
 AreTaskOptions options (task.Scan format) = IsFormat options format
-AreTaskOptions options (task.Update changes form) = IsChanges options changes × IsForm options form
 AreTaskOptions options (task.Get plan) = IsGetPlan options plan
 AreTaskOptions options (task.Extract selection) =
     SelectsAll options false × IsSelected options selection
@@ -736,6 +808,8 @@ IsBuildPlan name options (Fit plan) = (name ≡ codes "build-fit") × IsFitPlan 
 abbrev pub IsJob : List ℕ → ArgMatches → Job → Type 0
 IsJob name options (Run plan) = IsImagePlan name options plan
 IsJob name options (Compare plan) = (name ≡ codes "compare") × IsComparePlan options plan
+IsJob name options (Edit plan) =
+    (name ≡ codes "update") × AsksForEdits options × IsEditPlan options plan
 IsJob name options (Explain topic) =
     (name ≡ codes "explain") × IsExplained (option_of options (codes "cause")) topic
 IsJob name options (Build plan) = IsBuildPlan name options plan
@@ -748,10 +822,8 @@ pub data IsTaskFailure (name : List ℕ) (options : ArgMatches) (failure : Failu
       → IsTaskFailure name options failure
   NotAllowed : name ≡ codes "check" → IsBadValue (IsAllowedBy (allow_option options)) failure
       → IsTaskFailure name options failure
-  NotChanged : name ≡ codes "update" → IsChangesFailure options failure
+  NotEdited : name ≡ codes "update" → IsEditPlanFailure options failure
       → IsTaskFailure name options failure
-  NotFormedChanged : name ≡ codes "update" → (changes : Changes) → IsChanges options changes
-      → IsFormFailure options failure → IsTaskFailure name options failure
   NotNamed : name ≡ codes "get" → IsBadValue (IsGetPlan options) failure
       → IsTaskFailure name options failure
   NotSelected : name ≡ codes "extract" → SelectsAll options false

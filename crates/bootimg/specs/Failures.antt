@@ -21,6 +21,7 @@ use Rattle.bootimg.specs.declared.failure.Failure.TheVariants.{Call, WrongKind, 
 use Rattle.bootimg.specs.declared.failure.Failure.TheVariants.{NoConfig, NoKey, BadList, Missing}
 use Rattle.bootimg.specs.declared.failure.Failure.TheVariants.{NoIndex, NoPayload, NoSelection}
 use Rattle.bootimg.specs.declared.failure.Failure.TheVariants.{NoProperty, NoText, NoNumber}
+use Rattle.bootimg.specs.declared.failure.Failure.TheVariants.{NothingToRemove}
 use Rattle.bootimg.specs.declared.failure.Failure.TheVariants.{NoChange, BadValue, BadImage}
 use Rattle.bootimg.specs.declared.failure.Failure.TheVariants.{BadConfiguration}
 use Rattle.bootimg.specs.declared.failure.Failure.TheVariants.{CannotOpen, NotWritten}
@@ -90,6 +91,7 @@ failure_text NoPayload = codes "no payload"
 failure_text (NoProperty words) = codes "no such property " ++ value_words_text words
 failure_text (NoText words) = codes "no text " ++ value_words_text words
 failure_text (NoNumber words) = codes "no number " ++ value_words_text words
+failure_text (NothingToRemove word) = codes "nothing to remove " ++ word.now
 failure_text NoSelection = codes "usage: give one of --part, --image, --config"
 failure_text NoChange = codes "usage: give --time or --hashes"
 failure_text BadValue = codes "usage: bad value"

@@ -21,7 +21,7 @@ use Rattle.bi_values.specs.declared.value_name.HeaderField.TheVariants as field
 use Rattle.clap.specs.declared.parser.matches.ArgMatches.{ArgMatches}
 use Rattle.bootimg.specs.CommandLine.{AreEscaped, AsksForSignatures, ChangesHashes, Gives}
 use Rattle.bootimg.specs.CommandLine.{IsAllowedBy, IsBuildPlan}
-use Rattle.bootimg.specs.CommandLine.{IsChanges, IsChangesFailure, IsComparePlan, IsFields, IsForm}
+use Rattle.bootimg.specs.CommandLine.{AreChanges, IsComparePlan, IsFields, IsForm}
 use Rattle.bootimg.specs.CommandLine.{IsFormat, IsImageSource, IsImageText, IsJob, IsPartSource}
 use Rattle.bootimg.specs.CommandLine.{IsGetPlan, IsIgnored, IsQuiet, IsSelected}
 use Rattle.bootimg.specs.CommandLine.{IsSelectionFailure, NoneIs}
@@ -43,7 +43,7 @@ use Rattle.bootimg.specs.declared.command_line.show.ShowForm.TheVariants as show
 use Rattle.bootimg.specs.declared.command_line.source.ComparePlan.{ComparePlan}
 use Rattle.bootimg.specs.declared.command_line.source.ImageSource.{ImageSource}
 use Rattle.bootimg.specs.declared.command_line.source.ImageSource.TheVariants.{Standard, File}
-use Rattle.bootimg.specs.declared.failure.Failure.TheVariants.{NoChange, NoSelection, BadValue}
+use Rattle.bootimg.specs.declared.failure.Failure.TheVariants.{NoSelection, BadValue}
 use Rattle.std.specs.Borrow.{Bor}
 
 -- What small command lines request, by which a reader can judge the definitions.
@@ -190,18 +190,18 @@ pub record AllowedWordsAreKnown : Type 0 where
   pub other_word : NoneIs (IsAllowedBy (Some (codes "weak-hash,good")))
   pub empty_word : NoneIs (IsAllowedBy (Some []))
 
--- The changes of an update, and the failure without one.
+-- The time and the digests of an update.
 pub record ChangesAreKnown : Type 0 where
   pub time : HoldsFor (codes "update --time 5") (codes "update")
-      (λ options. IsOnlyOne (IsChanges options) (record { time = Some 5; hashes = false }))
+      (λ options. IsOnlyOne (AreChanges options) (record { time = Some 5; hashes = false }))
   pub hashes : HoldsFor (codes "update --hashes") (codes "update")
-      (λ options. IsOnlyOne (IsChanges options) (record { time = None; hashes = true }))
+      (λ options. IsOnlyOne (AreChanges options) (record { time = None; hashes = true }))
   pub both : HoldsFor (codes "update --hashes --time 0") (codes "update")
-      (λ options. IsOnlyOne (IsChanges options) (record { time = Some 0; hashes = true }))
+      (λ options. IsOnlyOne (AreChanges options) (record { time = Some 0; hashes = true }))
   pub no_change : HoldsFor (codes "update") (codes "update")
-      (λ options. NoneIs (IsChanges options) × IsOnlyOne (IsChangesFailure options) NoChange)
+      (λ options. IsOnlyOne (AreChanges options) (record { time = None; hashes = false }))
   pub bad_time : HoldsFor (codes "update --time x") (codes "update")
-      (λ options. NoneIs (IsChanges options) × IsOnlyOne (IsChangesFailure options) BadValue)
+      (λ options. NoneIs (AreChanges options))
 
 -- ---- compare
 

@@ -16,7 +16,8 @@ use Rattle.bi_fit.specs.declared.configurations.ConfigError.TheVariants as list
 use Rattle.clap.specs.declared.error.kind.ErrorKind.{ErrorKind}
 use Rattle.bootimg.specs.ComparedFiles.{failure_of_comparing, refused_source}
 use Rattle.bootimg.specs.Failures.{failure_of}
-use Rattle.bootimg.specs.Runs.{failure_line, note_line, alignment_line, positions_line, IsEnd}
+use Rattle.bootimg.specs.Runs.{failure_line, note_line, alignment_line, inside_line}
+use Rattle.bootimg.specs.Runs.{positions_line, IsEnd}
 use Rattle.bootimg.specs.Runs.{IsMistake, IsRejection, IsTextRun, Run}
 use Rattle.bootimg.specs.Tasks.{status_of}
 use Rattle.bootimg.specs.declared.command_line.values.ValueWords.TheVariants.{Property, Field}
@@ -29,7 +30,7 @@ use Rattle.bootimg.specs.declared.failure.Failure.TheVariants.{Call, NoSelection
 use Rattle.bootimg.specs.declared.failure.Failure.TheVariants.{BadValue, BadImage, CannotOpen}
 use Rattle.bootimg.specs.declared.failure.Failure.TheVariants.{BadConfiguration}
 use Rattle.bootimg.specs.declared.failure.Failure.TheVariants.{NoProperty, NoText, NoNumber}
-use Rattle.bootimg.specs.declared.failure.Failure.TheVariants.{NotWritten, OutputIsTerminal}
+use Rattle.bootimg.specs.declared.failure.Failure.TheVariants.{NothingToRemove, NotWritten, OutputIsTerminal}
 use Rattle.bootimg.specs.declared.tasks.Done.{Done}
 
 -- How runs end, by which a reader can judge the definitions.
@@ -80,6 +81,8 @@ pub record FailureLinesAreKnown : Type 0 where
   pub bad_image : line_of_failure (BadImage 10) ≡ codes "bootimg: usage: bad image 10\n"
   pub bad_configuration : line_of_failure (BadConfiguration 3)
       ≡ codes "bootimg: usage: bad configuration 3\n"
+  pub nothing_to_remove : line_of_failure (NothingToRemove (lent (codes "/images/a load")))
+      ≡ codes "bootimg: r1: nothing to remove /images/a load\n"
   pub cannot_open : line_of_failure CannotOpen ≡ codes "bootimg: r1: cannot be opened\n"
   pub output_is_terminal : line_of_failure OutputIsTerminal
       ≡ codes "bootimg: standard output is a terminal, see -o\n"
@@ -144,10 +147,12 @@ pub record CompareLinesAreKnown (ignored : Vec Ignored) : Type 0 where
   pub out_of_memory : line_of_comparing ignored compare.OutOfMemory
       ≡ codes "bootimg: out of memory\n"
 
--- The notes: on signature nodes, and on what is not kept.
+-- The notes: on signature nodes, on payloads that are inside the blob, and on what is not kept.
 pub record NotesAreKnown : Type 0 where
   pub one : note_line 1 ≡ codes "bootimg: note: 1 signature nodes carried, not checked\n"
   pub many : note_line 12 ≡ codes "bootimg: note: 12 signature nodes carried, not checked\n"
+  pub inside : inside_line 2
+      ≡ codes "bootimg: note: 2 payloads are inside the blob now, see --external\n"
   pub alignment : alignment_line 4096
       ≡ codes "bootimg: note: payloads are no longer aligned to 4096 bytes, see --align\n"
   pub positions : positions_line 1

@@ -9,13 +9,11 @@ use Rattle.bi_base.specs.Writing.{Writes}
 use Rattle.bi_blob.specs.KnownTexts.{smallest_text}
 use Rattle.bi_commands.specs.KnownChoices.{lent}
 use Rattle.bi_commands.specs.KnownParts.{given_parts, mixed_parts}
-use Rattle.bi_commands.specs.KnownUpdates.{no_changes, only_time}
 use Rattle.bi_commands.specs.declared.parts.Part.{Part}
 use Rattle.bi_commands.specs.declared.parts.Part.TheVariants.{Bytes}
 use Rattle.bi_common.specs.KnownWords.{lines}
 use Rattle.bi_common.specs.declared.format.Format.TheVariants.{Lines, Json}
 use Rattle.bi_files.specs.Files.{FileStep}
-use Rattle.bi_fit.specs.declared.form.Form.{Form}
 use Rattle.bi_fit.specs.declared.form.Form.TheVariants.{Embedded, External}
 use Rattle.bi_fit.specs.KnownBuilds.{known_text}
 use Rattle.bi_fit.specs.KnownFiles.{three_aligned, three_external}
@@ -23,7 +21,7 @@ use Rattle.bi_fit.specs.KnownJudgements.{good_crc, short_crc}
 use Rattle.bi_fit.specs.KnownKept.{kept}
 use Rattle.bi_hash.specs.declared.algo.Algo.TheVariants.{Sha256}
 use Rattle.bi_legacy.specs.KnownFiles.{kernel_file_with_rest}
-use Rattle.bi_legacy.specs.KnownImages.{kernel_file, multi_file, multi_image}
+use Rattle.bi_legacy.specs.KnownImages.{kernel_file, multi_file}
 use Rattle.bi_legacy.specs.Meaning.{image_of}
 use Rattle.bi_legacy.specs.Text.{legacy_text}
 use Rattle.bi_norm.specs.KnownBuildFaults.{head_like}
@@ -66,7 +64,7 @@ use Rattle.bootimg.specs.declared.tasks.Done.{Done}
 
 -- A job ended with this answer, and there is nothing to note.
 abbrev pub without_notes : (good : Bool) → Done
-without_notes good = record { good = good; kept = kept None 0 }
+without_notes good = record { good = good; kept = kept None 0; inside = 0 }
 
 -- These kinds are allowed, and signatures are not asked for.
 abbrev pub policy_of_kinds : Allowed → Policy
@@ -76,7 +74,8 @@ policy_of_kinds allowed = record { allowed = allowed; signed = false }
 -- text that is normalised or updated may lose the alignment of its payloads.
 pub record TaskEndsAreKnown : Type 0 where
   pub normalise : TaskDone (task.Normalise External) widest
-      (record { good = true; kept = kept (Some 4096) 0 }) (three_aligned 4096 4096) three_external
+      (record { good = true; kept = kept (Some 4096) 0; inside = 0 }) (three_aligned 4096 4096)
+      three_external
   pub layout : TaskDone (task.Show (show_form.Page (record { layout = true }))) widest
       (without_notes true) kernel_file_with_rest kernel_page
   pub no_layout : TaskDone (task.Show (show_form.Page (record { layout = false }))) widest
@@ -110,14 +109,6 @@ pub record TaskEndsAreKnown : Type 0 where
       two_objects
   pub nothing_found : TaskDone (task.Scan Lines) (scan_limits 162) (without_notes false)
       (codes "hello") []
-  pub update : (form : Form)
-      → Makes (task.Update (only_time 5) form) multi_file
-      (legacy_text (record multi_image { time = 5 }))
-  pub updated : (form : Form)
-      → TaskDone (task.Update (only_time 5) form) widest (without_notes true) multi_file
-      (legacy_text (record multi_image { time = 5 }))
-  pub lost_alignment : TaskDone (task.Update no_changes External) widest
-      (record { good = true; kept = kept (Some 4096) 0 }) (three_aligned 4096 4096) three_external
   pub get : (plan : GetPlan) → plan.form ≡ Shown
       → value_name_models plan.names.items ≡ FieldAt field.Load ∷ FieldAt field.Name ∷ []
       → Makes (task.Get plan) kernel_file (codes "0x00008000\nk\n")

@@ -4,10 +4,12 @@ pub mod ValueWords
 pub mod CommandLine
 pub mod ConfigurationWords
 pub mod OwnTexts
+pub mod EditOptions
 pub mod Words
 pub mod Program
 pub mod Table
 pub mod ComparedFiles
+pub mod EditedImages
 pub mod Failures
 pub mod Numbers
 pub mod Offsets
@@ -27,6 +29,7 @@ pub mod KnownWords
 pub mod KnownArguments
 pub mod KnownRequests
 pub mod KnownBuildRequests
+pub mod KnownEditOptions
 pub mod KnownRuns
 pub mod KnownImages
 pub mod KnownInputs

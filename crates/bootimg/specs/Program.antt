@@ -153,7 +153,9 @@ scan = command (codes "scan") (json ∷ offset ∷ limit ∷ output ∷ files �
 -- `update`.
 abbrev pub update : Shape
 update = command (codes "update")
-    (value_option (codes "time") ∷ flag_option (codes "hashes") ∷ external ∷ align ∷ offset
+    (repeated_option (codes "remove") ∷ repeated_option (codes "set")
+    ∷ repeated_option (codes "payload") ∷ value_option (codes "time")
+    ∷ flag_option (codes "hashes") ∷ flag_option (codes "keep-form") ∷ external ∷ align ∷ offset
     ∷ limit ∷ output ∷ file ∷ [])
 
 -- `get`.

@@ -89,6 +89,8 @@ taking_options =
     ∷ taking (codes "hash") takes.Algorithms ∷ taking (codes "allow") takes.Kinds
     ∷ taking (codes "as") takes.ValueForm ∷ taking (codes "part") takes.Number
     ∷ taking (codes "key") takes.Key ∷ taking (codes "index") takes.Number
+    ∷ taking (codes "remove") takes.Removal ∷ taking (codes "set") takes.NewValue
+    ∷ taking (codes "payload") takes.NewPayload
     ∷ record { id = codes "cause"; place = AtArgument (codes "NAME"); takes = takes.Topic }
     ∷ taking (codes "align") takes.Alignment ∷ taking (codes "offset") takes.Number
     ∷ taking (codes "limit") takes.Limit ∷ []

@@ -12,7 +12,11 @@ use Rattle.bi_base.specs.Reading.{IsInputRead, IsInputNotRead}
 use Rattle.bi_base.specs.Traces.{ReadTrace, WriteTrace, WritesWell}
 use Rattle.bi_base.specs.Writing.{WroteAll, WriteStopped, WroteAndFlushed, WriteOrFlushStopped}
 use Rattle.bi_base.specs.Commands.{CommandPromise}
-use Rattle.bi_fit.specs.declared.kept.Kept.{Kept}
+use Rattle.bi_edit.specs.declared.edit.Edit.{Edit}
+use Rattle.bi_edit.specs.declared.edit_error.EditError.{EditError}
+use Rattle.bi_edit.specs.declared.edit_notes.EditNotes.{EditNotes}
+use Rattle.bi_edit.specs.declared.words.PayloadWord.{PayloadWord}
+use Rattle.bi_edit.specs.EditedFiles.{IsEdited, IsEditFileError, IsEditOutput}
 use Rattle.bi_common.specs.Offsets.{input_from}
 use Rattle.bi_describe.specs.declared.compare.CompareError.{CompareError}
 use Rattle.bi_describe.specs.MadeWords.{ignored_words}
@@ -27,11 +31,12 @@ use Rattle.clap.specs.declared.error.kind.ErrorKind.TheVariants.{DisplayHelp, Di
 use Rattle.bootimg.specs.declared.command_line.ImagePlan.{ImagePlan}
 use Rattle.bootimg.specs.declared.command_line.Job.{Job}
 use Rattle.bootimg.specs.declared.command_line.Job.TheVariants.{Run as RunTask, Compare, Build}
-use Rattle.bootimg.specs.declared.command_line.Job.TheVariants.{Explain}
+use Rattle.bootimg.specs.declared.command_line.Job.TheVariants.{Explain, Edit as EditJob}
 use Rattle.bootimg.specs.declared.command_line.Request.{Request}
 use Rattle.bootimg.specs.declared.command_line.build.BuildPlan.{BuildPlan}
 use Rattle.bootimg.specs.declared.command_line.build.BuildPlan.TheVariants.{Legacy, Fit}
 use Rattle.bootimg.specs.declared.command_line.build.FitPlan.{FitPlan}
+use Rattle.bootimg.specs.declared.command_line.edits.EditPlan.{EditPlan}
 use Rattle.bootimg.specs.declared.command_line.extract.AllRequest.{AllRequest}
 use Rattle.bootimg.specs.declared.command_line.part.PartSource.{PartSource}
 use Rattle.bootimg.specs.declared.command_line.part.PartSource.TheVariants as part
@@ -47,6 +52,7 @@ use Rattle.bootimg.specs.declared.terminal.Terminal.{Terminal}
 use Rattle.bootimg.specs.CommandLine.{reads_input, sources_of}
 use Rattle.bootimg.specs.ComparedFiles.{IsCompareOutput, IsCompareFailure}
 use Rattle.bootimg.specs.ComparedFiles.{failure_of_comparing, refused_source}
+use Rattle.bootimg.specs.EditedImages.{AreEditsOf, IsFailureOfEditing}
 use Rattle.bi_files.specs.declared.saving.SaveError.{SaveError}
 use Rattle.bi_files.specs.Directories.{IsDirectorySaved, IsDirectoryNotSaved, IsWithoutSlashes}
 use Rattle.bootimg.specs.Explanations.{explain_text}
@@ -55,7 +61,7 @@ use Rattle.bootimg.specs.Failures.{failure_text, failure_to_save, name_text}
 use Rattle.bootimg.specs.Hints.{hint_given, hint_line}
 use Rattle.bi_files.specs.Files.{FileStep, KnownFiles, WasOpened, WasNotOpened, IsSaved, IsNotSaved}
 use Rattle.bi_files.specs.Files.{WereReadInTurn}
-use Rattle.bootimg.specs.Tasks.{EndedWith, plan_promise, status_of}
+use Rattle.bootimg.specs.Tasks.{EndedWith, EndedWithNotes, plan_promise, status_of}
 
 -- What a run of the program does: which bytes it writes to which stream, and its exit status
 -- (profile of this project).
@@ -81,6 +87,12 @@ note_line signatures =
     codes "bootimg: note: "
     ++ (decimal signatures ++ (codes " signature nodes carried, not checked" ++ 10 ∷ []))
 
+-- The line on payloads that are inside the blob, and were not in the input.
+abbrev pub inside_line : (inside : ℕ) → List ℕ
+inside_line inside =
+    codes "bootimg: note: "
+    ++ (decimal inside ++ (codes " payloads are inside the blob now, see --external" ++ 10 ∷ []))
+
 -- The line on an alignment in bytes that payloads lose.
 abbrev pub alignment_line : (bytes : ℕ) → List ℕ
 alignment_line bytes =
@@ -103,14 +115,17 @@ abbrev pub NotesAlignment : (alignment : Option ℕ) → (old new : WriteTrace) 
 NotesAlignment None old new = new ≡ old
 NotesAlignment (Some bytes) old new = Logs old (alignment_line bytes) new
 
--- The notes were written: the lines on signature nodes, on an alignment and on fixed positions, in
--- this order, each if there is something to say.
-pub record Notes (kept : Kept) (old new : WriteTrace) : Type 0 where
+-- The notes were written: the lines on signature nodes, on payloads inside the blob, on an alignment
+-- and on fixed positions, in this order, each if there is something to say.
+pub record Notes (done : Done) (old new : WriteTrace) : Type 0 where
   pub first : WriteTrace
   pub second : WriteTrace
-  pub signatures : NotesCount kept.signatures (note_line kept.signatures) old first
-  pub alignment : NotesAlignment kept.lost_alignment first second
-  pub positions : NotesCount kept.lost_positions (positions_line kept.lost_positions) second new
+  pub third : WriteTrace
+  pub signatures : NotesCount done.kept.signatures (note_line done.kept.signatures) old first
+  pub inside : NotesCount done.inside (inside_line done.inside) first second
+  pub alignment : NotesAlignment done.kept.lost_alignment second third
+  pub positions :
+      NotesCount done.kept.lost_positions (positions_line done.kept.lost_positions) third new
 
 -- The failure is about an image from this source, or about the output file of this name.
 abbrev pub source_failure : ImageSource → Failure → SourceFailure
@@ -277,6 +292,91 @@ pub data IsCompareWork (files : KnownFiles) (plan : ComparePlan) (limits : Limit
         failure plan.other
         → IsFailedWork plan.other failure work → IsCompareWork files plan limits work old new
 
+-- ---- editing
+
+-- The files of these words for payloads were read, in this order, and have these contents.
+abbrev pub ArePayloadsRead : KnownFiles → Limits → List PayloadWord → (contents : List (List ℕ))
+    → (old new : Option (List FileStep)) → Type 0
+ArePayloadsRead files limits =
+    WereReadInTurn (λ word bytes. IsFileRead files limits word.file.now bytes)
+
+-- The file of a payload was not read, for this reason, and those of the payloads before it were.
+pub record IsPayloadNotRead (files : KnownFiles) (limits : Limits) (words : List PayloadWord)
+    (failed : SourceFailure) (old new : Option (List FileStep)) : Type 0
+  where
+    pub before : List PayloadWord
+    pub word : PayloadWord
+    pub later : List PayloadWord
+    pub contents : List (List ℕ)
+    pub middle : Option (List FileStep)
+    pub is : words ≡ before ++ word ∷ later
+    pub are_read : ArePayloadsRead files limits before contents old middle
+    pub not_read : IsFileNotRead files limits word.file.now failed.failure middle new
+    pub named : failed.source ≡ File word.file
+
+-- The files of the first of these payloads were read, and of no others.
+pub record AreFirstPayloads (files : KnownFiles) (limits : Limits) (words : List PayloadWord)
+    (old new : Option (List FileStep)) : Type 0
+  where
+    pub first : List PayloadWord
+    pub later : List PayloadWord
+    pub contents : List (List ℕ)
+    pub is : words ≡ first ++ later
+    pub are_read : ArePayloadsRead files limits first contents old new
+
+-- The file of the first of these payloads that could not be read was not read, or memory ran out.
+abbrev pub IsPayloadsFailure : KnownFiles → Limits → List PayloadWord → SourceFailure
+    → (old new : Option (List FileStep)) → Type 0
+IsPayloadsFailure files limits words failed old new =
+    IsPayloadNotRead files limits words failed old new
+    ⊎ (AreFirstPayloads files limits words old new
+    × (failed ≡ source_failure Standard (Call OutOfMemory)))
+
+-- An image was edited with payloads of these contents: the text was written, or that failed, or the
+-- edits could not be made.
+pub data IsEditedWork (plan : EditPlan) (limits : Limits) (image : List ℕ)
+    (contents : List (List ℕ)) (work : Work) : Type 0
+  where
+    WroteEdited : (edits : List Edit) → AreEditsOf plan contents edits
+        → (notes : EditNotes) (text : List ℕ)
+        → IsEditOutput edits plan.choice limits notes (input_from plan.offset image) text
+        → WroteAndFlushed work.output text work.new_output
+        → (done : Done) → EndedWithNotes notes done → work.outcome ≡ Ok done
+        → IsEditedWork plan limits image contents work
+    NotWholeWritten : (edits : List Edit) → AreEditsOf plan contents edits → (text : List ℕ)
+        → IsEdited edits plan.choice limits (input_from plan.offset image) text
+        → (error : Error) → WriteOrFlushStopped work.output text work.new_output error
+        → work.outcome ≡ Err (source_failure plan.source (Call error))
+        → IsEditedWork plan limits image contents work
+    CouldNotEdit : (edits : List Edit) → AreEditsOf plan contents edits → (error : EditError)
+        → IsEditFileError edits plan.choice limits (input_from plan.offset image) error
+        → (failure : Failure)
+        → IsFailureOfEditing plan.removal_words.items (input_from plan.offset image) error failure
+        → IsFailedWork plan.source failure work → IsEditedWork plan limits image contents work
+    NoRoomForEdits : IsFailedWork Standard (Call OutOfMemory) work
+        → IsEditedWork plan limits image contents work
+
+-- The image was read, then the files of the payloads, in their order, and then the image was
+-- edited. If something was not read, nothing after it was.
+pub data IsEditWork (files : KnownFiles) (plan : EditPlan) (limits : Limits) (work : Work)
+    (old new : Option (List FileStep)) : Type 0
+  where
+    AllRead : (image : List ℕ) (contents : List (List ℕ)) (middle : Option (List FileStep))
+        → IsImageRead files limits (record { input = work.input; steps = old })
+        (record { input = work.new_input; steps = middle }) image plan.source
+        → ArePayloadsRead files limits plan.payloads.items contents middle new
+        → IsEditedWork plan limits image contents work → IsEditWork files plan limits work old new
+    ImageNotRead : (failure : Failure)
+        → IsImageNotRead files limits (record { input = work.input; steps = old })
+        (record { input = work.new_input; steps = new }) failure plan.source
+        → IsFailedWork plan.source failure work → IsEditWork files plan limits work old new
+    PayloadsNotRead : (image : List ℕ) (middle : Option (List FileStep)) (failed : SourceFailure)
+        → IsImageRead files limits (record { input = work.input; steps = old })
+        (record { input = work.new_input; steps = middle }) image plan.source
+        → IsPayloadsFailure files limits plan.payloads.items failed middle new
+        → IsFailedWork failed.source failed.failure work
+        → IsEditWork files plan limits work old new
+
 -- ---- explaining
 
 -- What this cause means, or what each one means, was written, or that failed. Nothing was read.
@@ -403,6 +503,7 @@ abbrev pub IsJobWork : KnownFiles → Job → Limits → Work → (old new : Opt
     → Type 0
 IsJobWork files (RunTask plan) limits work old new = IsPlanWork files plan limits work old new
 IsJobWork files (Compare plan) limits work old new = IsCompareWork files plan limits work old new
+IsJobWork files (EditJob plan) limits work old new = IsEditWork files plan limits work old new
 IsJobWork files (Explain topic) limits work old new = IsExplainWork topic work × (new ≡ old)
 IsJobWork files (Build plan) limits work old new = IsBuildWork files plan limits work old new
 
@@ -557,7 +658,7 @@ pub data IsOutputRun (files : KnownFiles) (job : Job) (limits : Limits) (run : R
 pub data IsEnd (hints : Bool) (errors new_errors : WriteTrace) (status : ℕ)
     (outcome : Result Done SourceFailure) : Type 0
   where
-    EndsWell : (done : Done) → outcome ≡ Ok done → Notes done.kept errors new_errors
+    EndsWell : (done : Done) → outcome ≡ Ok done → Notes done errors new_errors
         → status ≡ status_of done.good → IsEnd hints errors new_errors status outcome
     EndsWithFailure : (failed : SourceFailure) → outcome ≡ Err failed
         → Reports failed.source failed.failure (hint_given hints failed.failure) errors new_errors

@@ -1,6 +1,8 @@
 use Rattle.std.specs.Prelude.{◌≡◌, ⊤, ℕ, List, [], ◌∷◌, Option, Some, codes, map}
 use Rattle.bi_base.specs.Limits.{Limits}
 use Rattle.bi_base.specs.declared.align.Align.{Align}
+use Rattle.bi_edit.specs.declared.edit.Edit.{Edit}
+use Rattle.bi_edit.specs.EditWords.{IsPayloadWord, IsRemovalWord}
 use Rattle.bi_fit.specs.Names.{all_keys, key_name}
 use Rattle.bi_fit.specs.declared.key.Key.{Key}
 use Rattle.bi_hash.specs.Algos.{algorithm_name, all_algorithms}
@@ -11,6 +13,7 @@ use Rattle.bi_values.specs.declared.value_form.ValueForm.{ValueForm}
 use Rattle.bootimg.specs.CodeWords.{IsCode, names_given_for}
 use Rattle.bootimg.specs.CommandLine.{IsAddress, IsAlignOf, IsAllowed, IsLimits, IsPartSource}
 use Rattle.bootimg.specs.ConfigurationWords.{AreHashesOf}
+use Rattle.bootimg.specs.EditOptions.{IsSetWord}
 use Rattle.bootimg.specs.Explanations.{IsAbout, all_kinds}
 use Rattle.bootimg.specs.Numbers.{IsNumber}
 use Rattle.bootimg.specs.ValueWords.{form_argument}
@@ -36,6 +39,9 @@ IsTaken takes.ValueForm word = (form : ValueForm) × (Some word ≡ form_argumen
 IsTaken takes.Kinds word = (allowed : Allowed) × IsAllowed (listed_words word) allowed
 IsTaken takes.Algorithms word = (algorithms : List Algo) × AreHashesOf word algorithms
 IsTaken takes.Topic word = (topic : Topic) × IsAbout word topic
+IsTaken takes.Removal word = (edit : Edit) × IsRemovalWord word edit
+IsTaken takes.NewValue word = (edit : Edit) × IsSetWord word edit
+IsTaken takes.NewPayload word = (image : List ℕ) × (file : List ℕ) × IsPayloadWord word image file
 
 -- The names of the forms of values.
 abbrev form_names : List (List ℕ)
@@ -64,6 +70,9 @@ words_before_names takes.ValueForm = codes "one of "
 words_before_names takes.Kinds = codes "a comma-separated list of "
 words_before_names takes.Algorithms = codes "none, or a comma-separated list without repetition of "
 words_before_names takes.Topic = codes "a name that bootimg explain prints, or a line of bootimg"
+words_before_names takes.Removal = codes "the PATH of a node, or 'PATH NAME' of a property"
+words_before_names takes.NewValue = codes "'PATH NAME', 'PATH NAME VALUE' or 'FIELD VALUE'"
+words_before_names takes.NewPayload = codes "IMAGE=@FILE"
 
 abbrev pub words_after_names : Takes → List ℕ
 words_after_names (takes.Code field) = codes ", or a number of at most 255"

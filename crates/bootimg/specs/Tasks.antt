@@ -5,6 +5,7 @@ use Rattle.bi_base.specs.declared.fault.Error.TheVariants.{Refused, OutOfMemory,
 use Rattle.bi_base.specs.declared.fault.Error.TheVariants.{WriteFailed}
 use Rattle.bi_base.specs.Commands.{CommandPromise, PromiseLaws}
 use Rattle.bi_base.specs.Limits.{Limits}
+use Rattle.bi_edit.specs.declared.edit_notes.EditNotes.{EditNotes}
 use Rattle.bi_fit.specs.Kept.{SaysNothing}
 use Rattle.bi_norm.specs.Converting.{IsConvertedFile, IsConvertError}
 use Rattle.bi_norm.specs.NormalForm.{IsNormalForm, IsNormaliseError, IsNormaliseKept}
@@ -25,13 +26,12 @@ use Rattle.bi_values.specs.declared.value_form.ValueForm.{ValueForm}
 use Rattle.bi_commands.specs.declared.extract.ExtractError.{ExtractError}
 use Rattle.bi_commands.specs.declared.extract.ExtractError.TheVariants as extract
 use Rattle.bi_commands.specs.Extracting.{IsChosen, IsExtractError}
-use Rattle.bi_commands.specs.UpdatedFiles.{IsUpdated, IsUpdateError, IsUpdateKept}
 use Rattle.bi_fit.specs.declared.configurations.ConfigError.TheVariants as list
 use Rattle.bootimg.specs.declared.command_line.ImagePlan.{ImagePlan}
 use Rattle.bootimg.specs.declared.command_line.Task.{Task}
 use Rattle.bootimg.specs.declared.command_line.Task.TheVariants.{Normalise, List as ListImage}
 use Rattle.bootimg.specs.declared.command_line.Task.TheVariants.{Verify, Check, Describe, Extract}
-use Rattle.bootimg.specs.declared.command_line.Task.TheVariants.{Update, Convert, Scan, Show, Get}
+use Rattle.bootimg.specs.declared.command_line.Task.TheVariants.{Convert, Scan, Show, Get}
 use Rattle.bootimg.specs.declared.command_line.show.ShowForm.{ShowForm}
 use Rattle.bootimg.specs.declared.command_line.show.ShowForm.TheVariants as show_form
 use Rattle.bootimg.specs.declared.command_line.values.ValueWords.{ValueWords}
@@ -54,6 +54,13 @@ pub record EndedWith (good : Bool) (done : Done) : Type 0 where
   pub is_answer : done.good ≡ good
   pub no_signatures : done.kept.signatures ≡ 0
   pub says_nothing : SaysNothing done.kept
+  pub none_inside : done.inside ≡ 0
+
+-- A job ended well, with what a user should know after an edit.
+pub record EndedWithNotes (notes : EditNotes) (done : Done) : Type 0 where
+  pub is_good : done.good ≡ true
+  pub same_kept : done.kept ≡ notes.kept
+  pub same_inside : done.inside ≡ notes.inside
 
 -- An image is shown in this way: as a page, or as JSON.
 abbrev pub IsShownAs : ShowForm → Limits → (input output : List ℕ) → Type 0
@@ -66,7 +73,7 @@ IsShownAs show_form.Json limits input output = IsShownObject limits input output
 -- found an image. The answer of any other task is good.
 abbrev pub TaskDone : Task → Limits → Done → (input output : List ℕ) → Type 0
 TaskDone (Normalise form) limits done input output =
-    IsNormaliseKept limits form done.kept input output × (done.good ≡ true)
+    IsNormaliseKept limits form done.kept input output × (done.good ≡ true) × (done.inside ≡ 0)
 TaskDone (Show how) limits done input output =
     IsShownAs how limits input output × EndedWith true done
 TaskDone (ListImage format) limits done input output =
@@ -80,8 +87,6 @@ TaskDone (Check policy format) limits done input output =
     × EndedWith clean done
 TaskDone (Scan format) limits done input output =
     (found : Bool) × IsScanOutput format limits found input output × EndedWith found done
-TaskDone (Update changes form) limits done input output =
-    IsUpdateKept changes limits form done.kept input output × (done.good ≡ true)
 TaskDone (Get plan) limits done input output =
     IsTextOfValues plan.form (value_name_models plan.names.items) limits input output
     × EndedWith true done
@@ -100,7 +105,6 @@ TaskText (Verify format) limits input output = IsReport format limits input outp
 TaskText (Check policy format) limits input output =
     IsChecked format (allowed_under policy) limits input output
 TaskText (Scan format) limits input output = IsScanText format limits input output
-TaskText (Update changes form) limits input output = IsUpdated changes limits form input output
 TaskText (Get plan) limits input output =
     IsTextOfValues plan.form (value_name_models plan.names.items) limits input output
 TaskText (Extract selection) limits input output =
@@ -143,8 +147,6 @@ TaskFails (Check policy format) limits input failure =
     IsCallFailure (IsCheckError limits input) failure
 TaskFails (Scan format) limits input failure =
     IsCallFailure (IsScanError limits input) failure
-TaskFails (Update changes form) limits input failure =
-    IsCallFailure (IsUpdateError changes limits form input) failure
 TaskFails (Get plan) limits input failure =
     IsGetFailure (IsGetError plan.form (value_name_models plan.names.items) limits input)
     plan.words.items failure
@@ -171,7 +173,6 @@ task_text (Describe format) limits done input output is = is.0
 task_text (Verify format) limits done input output is = is.1.report
 task_text (Check policy format) limits done input output is = is.1.checked
 task_text (Scan format) limits done input output is = is.1.is_scan
-task_text (Update changes form) limits done input output updated = updated.0.output.is
 task_text (Get plan) limits done input output is = is.0
 task_text (Extract selection) limits done input output is = is.0
 task_text Convert limits done input output is = is.0
@@ -253,8 +254,6 @@ task_in_memory (Check policy format) limits input failure is =
     call_in_memory (IsCheckError limits input) (λ no. no) (λ no. no) failure is
 task_in_memory (Scan format) limits input failure is =
     call_in_memory (IsScanError limits input) (λ no. no) (λ no. no) failure is
-task_in_memory (Update changes form) limits input failure is =
-    call_in_memory (IsUpdateError changes limits form input) (λ no. no) (λ no. no) failure is
 task_in_memory (Get plan) limits input failure is =
     get_in_memory plan.form (value_name_models plan.names.items) limits input plan.words.items
     failure is

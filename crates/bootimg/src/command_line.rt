@@ -3,6 +3,7 @@
 mod allowed;
 mod build;
 mod configurations;
+mod edits;
 mod explain;
 mod extract;
 mod get;
@@ -18,12 +19,12 @@ mod source;
 mod table;
 mod takes;
 mod texts;
-mod update;
 mod values;
 
 ghost use Rattle.std.specs.Prelude.{◌≡◌, ◌≢◌, false, true, IfOk, IfErr, IsFalse, IsTrue, codes};
 ghost use Rattle.bi_base.specs.declared.fault.Error.TheVariants.{OutOfMemory};
-ghost use Rattle.bootimg.specs.CommandLine.{HasJobLengths, HasOrderDepth, HasOrderLengths};
+ghost use Rattle.bootimg.specs.CommandLine.{HasJobLengths, HasOrderDepth};
+ghost use Rattle.bootimg.specs.CommandLine.{HasOrderLengths};
 ghost use Rattle.bootimg.specs.CommandLine.{IsFailureOutcome, IsImagesFailure, IsImagesRequest};
 ghost use Rattle.bootimg.specs.CommandLine.{IsJob, IsNoRequest, IsOrder, IsOutcomeOf, IsTask};
 ghost use Rattle.bootimg.specs.CommandLine.{IsTaskFailure, NamesImages, NamesNoMore, SelectsAll};
@@ -38,13 +39,14 @@ use allowed::policy;
 use bi_base::{Error, Limits};
 use bi_commands::check::Policy;
 use bi_commands::format::Format;
-use bi_commands::update::Changes;
 use bi_norm::Form;
 pub use build::{BuildPlan, FitPlan, LegacyPlan};
 use build::{fit_plan, legacy_plan};
 use clap::ArgMatches;
 use clap::error::ErrorKind;
 pub use configurations::ConfigurationWord;
+pub use edits::EditPlan;
+use edits::edit_plan;
 use explain::explained_topic;
 pub use extract::{AllRequest, Selected};
 use extract::{all_request, selection};
@@ -62,7 +64,6 @@ use std::alloc::{AllocError, AllocFailed, Global};
 use table::{program, writes_image};
 pub use takes::{Place, Takes};
 pub use texts::{NamedText, OwnTexts, text_named, texts_named};
-use update::changes;
 pub use values::{GetPlan, ValueWords};
 
 /// A command on one image, with the options that change what it does.
@@ -82,8 +83,6 @@ pub enum Task<'a> {
     Check(Policy, Format),
     /// Write the images inside the input, in this form.
     Scan(Format),
-    /// Write the normal form with these changes. That of a flattened image tree has this form.
-    Update(Changes, Form),
     /// Write the values of the plan.
     Get(GetPlan<'a>),
     /// Write what the selection chooses.
@@ -110,6 +109,8 @@ pub enum Job<'a> {
     Run(ImagePlan<'a>),
     /// Compare two images.
     Compare(ComparePlan<'a>),
+    /// Edit an image.
+    Edit(EditPlan<'a>),
     /// Write what this means, or what each cause of a refusal and each kind of concerns means.
     Explain(Option<Topic>),
     /// Build an image.
@@ -157,6 +158,14 @@ impl From<clap::Error> for NoRequest {
             ErrorKind::OutOfMemory => NoRequest::Failure(Failure::Call(Error::OutOfMemory)),
             _ => NoRequest::Text(error),
         }
+    }
+}
+
+impl From<Error> for NoRequest {
+    ghost from_gives = { λ error result. result ≡ outcome.Failure (Call error) };
+
+    fn from(error: Error) -> NoRequest {
+        NoRequest::Failure(Failure::Call(error))
     }
 }
 
@@ -268,6 +277,9 @@ fn parse_job<'a>(alloc: Global, name: &str, options: &ArgMatches<'a>) -> Result<
     if name == "compare" {
         return Ok(Job::Compare(compare_plan(alloc, options)?));
     }
+    if name == "update" {
+        return Ok(Job::Edit(edit_plan(alloc, options)?));
+    }
     if name == "explain" {
         return Ok(Job::Explain(explained_topic(options)?));
     }
@@ -292,8 +304,8 @@ fn parse_job<'a>(alloc: Global, name: &str, options: &ArgMatches<'a>) -> Result<
 }
 
 /// Returns the task of the command of this name with the options. Fails as `parse_arguments` does.
-/// Requires: the name is that of a command other than `compare`, `explain`, `build-legacy` and
-/// `build-fit`, and `extract` does not have `--all`.
+/// Requires: the name is that of a command other than `compare`, `update`, `explain`,
+/// `build-legacy` and `build-fit`, and `extract` does not have `--all`.
 fn parse_task<'a>(
     alloc: Global,
     name: &str,
@@ -302,6 +314,7 @@ fn parse_task<'a>(
     requires command { IsCommandName name.now }
     requires not_all { name.now ≡ codes "extract" → SelectsAll options.now false }
     requires no_comparison { name.now ≢ codes "compare" }
+    requires no_update { name.now ≢ codes "update" }
     requires no_explanation { name.now ≢ codes "explain" }
     requires no_build_legacy { name.now ≢ codes "build-legacy" }
     requires no_build_fit { name.now ≢ codes "build-fit" }
@@ -316,7 +329,6 @@ fn parse_task<'a>(
         "verify" => Task::Verify(format(options)),
         "check" => Task::Check(policy(options)?, format(options)),
         "scan" => Task::Scan(format(options)),
-        "update" => Task::Update(changes(options)?, form(options)?),
         "get" => Task::Get(get_plan(alloc, options)?),
         "extract" => Task::Extract(selection(alloc, options)?),
         "convert" => Task::Convert,

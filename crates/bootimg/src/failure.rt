@@ -51,6 +51,8 @@ pub enum Failure<'a> {
     NoText(ValueWords<'a>),
     /// The value that these words name is not a number.
     NoNumber(ValueWords<'a>),
+    /// There is nothing to remove of what this word names.
+    NothingToRemove(&'a str),
     /// `extract` needs exactly one selection.
     NoSelection,
     /// `update` needs a change.
@@ -141,6 +143,7 @@ impl<'a> Failure<'a> {
             Failure::NoProperty(words) => put_value(b"no such property ", words, line),
             Failure::NoText(words) => put_value(b"no text ", words, line),
             Failure::NoNumber(words) => put_value(b"no number ", words, line),
+            Failure::NothingToRemove(word) => put_word(b"nothing to remove ", word, line),
             Failure::NoSelection => line.put(b"usage: give one of --part, --image, --config"),
             Failure::NoChange => line.put(b"usage: give --time or --hashes"),
             Failure::BadValue => line.put(b"usage: bad value"),
@@ -183,6 +186,15 @@ fn put_numbered<T: TracedWrite>(bytes: &[u8], number: usize, line: &mut ErrorLin
 {
     line.put(bytes);
     line.put_number(number);
+}
+
+/// Appends these bytes, and a word.
+fn put_word<T: TracedWrite>(bytes: &[u8], word: &str, line: &mut ErrorLine<'_, T>)
+    ensures { Extends (line_of T.trace line.old) (bytes.now ++ word.now)
+        (line_of T.trace line.new) }
+{
+    line.put(bytes);
+    line.put(word.as_bytes());
 }
 
 /// Appends these bytes, and the words for a value, with a space between two.

@@ -17,6 +17,7 @@ ghost use Rattle.bi_base.specs.Traces.{ReadTrace};
 
 use crate::builds::build_image;
 use crate::command_line::{ComparePlan, ImagePlan, ImageSource, Job};
+use crate::edits::edit_image;
 use crate::explanations::{Topic, explanation};
 use crate::failure::Failure;
 use crate::tasks::{Done, PlacedTask};
@@ -66,14 +67,14 @@ impl<'a, T: Drop> From<AllocFailed<T>> for SourceFailure<'a> {
 /// it has as many lengths or files as images.
 pub fn do_job<'a, S: TracedRead, T: TracedWrite, F: FileSystem>(
     alloc: Global,
-    job: &Job<'a>,
+    job: Job<'a>,
     limits: Limits,
     files: &mut F,
     input: &mut S,
     output: &mut T,
 ) -> Result<Done, SourceFailure<'a>>
-    requires lengths { HasJobLengths job.now }
-    ensures work { IsJobWork (F.known files.old) job.now limits
+    requires lengths { HasJobLengths job }
+    ensures work { IsJobWork (F.known files.old) job.entry limits
         (record {
           input = S.trace input.old;
           new_input = S.trace input.new;
@@ -85,10 +86,11 @@ pub fn do_job<'a, S: TracedRead, T: TracedWrite, F: FileSystem>(
     ensures same_files { F.known files.new ≡ F.known files.old }
 {
     match job {
-        Job::Run(plan) => run_on_image(alloc, plan, limits, files, input, output),
-        Job::Compare(plan) => compare_images(alloc, plan, limits, files, input, output),
-        Job::Build(plan) => build_image(alloc, plan, limits, files, input, output),
-        Job::Explain(topic) => explain(alloc, *topic, output),
+        Job::Run(plan) => run_on_image(alloc, &plan, limits, files, input, output),
+        Job::Compare(plan) => compare_images(alloc, &plan, limits, files, input, output),
+        Job::Edit(plan) => edit_image(alloc, plan, limits, files, input, output),
+        Job::Build(plan) => build_image(alloc, &plan, limits, files, input, output),
+        Job::Explain(topic) => explain(alloc, topic, output),
     }
 }
 

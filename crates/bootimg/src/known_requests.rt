@@ -13,6 +13,8 @@ ghost use Rattle.bootimg.specs.KnownInputs.{ComparedInputsAreKnown, ImagesAtAreK
 ghost use Rattle.bootimg.specs.KnownInputs.{ComparedOutputsAreKnown, ExplanationsAreKnown};
 ghost use Rattle.bootimg.specs.KnownInputs.{MessagesAreKnown};
 ghost use Rattle.bootimg.specs.KnownRequests.{IgnoredOptionsAreKnown};
+ghost use Rattle.bootimg.specs.KnownEditOptions.{EditFailuresAreKnown, EditOptionsAreKnown};
+ghost use Rattle.bootimg.specs.KnownEditOptions.{FieldWordsAreKnown};
 
 /// Small values of `--hash`, and its absence, give known algorithms, or none.
 pub fn hash_options_are_known()
@@ -83,4 +85,11 @@ pub fn explanations_are_known()
 /// It is known what messages are about.
 pub fn messages_are_known()
     ensures { MessagesAreKnown }
+{}
+
+/// Small words for new values of fields, small options of `update` and failures of edits are known.
+pub fn edit_options_are_known()
+    ensures words { FieldWordsAreKnown }
+    ensures options { EditOptionsAreKnown }
+    ensures failures { EditFailuresAreKnown }
 {}

@@ -4,6 +4,7 @@
 mod builds;
 mod codes;
 mod command_line;
+mod edits;
 mod error_line;
 mod explanations;
 mod extractions;

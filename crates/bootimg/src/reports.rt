@@ -5,14 +5,15 @@ ghost use Rattle.bootimg.specs.ErrorLines.{Extends, line_of};
 ghost use Rattle.bootimg.specs.Failures.{name_text};
 ghost use Rattle.bootimg.specs.Hints.{hint_line, hint_text};
 ghost use Rattle.bootimg.specs.Runs.{Notes, NotesAlignment, NotesCount, Reports};
-ghost use Rattle.bootimg.specs.Runs.{alignment_line, failure_line, note_line, positions_line};
+ghost use Rattle.bootimg.specs.Runs.{alignment_line, failure_line, inside_line, note_line};
+ghost use Rattle.bootimg.specs.Runs.{positions_line};
 
 use crate::command_line::ImageSource;
 use crate::error_line::ErrorLine;
 use crate::failure::Failure;
 use crate::hints::Hint;
+use crate::tasks::Done;
 use bi_base::TracedWrite;
-use bi_norm::Kept;
 
 /// The exit status after any failure.
 pub const FAILED: u8 = 2;
@@ -82,14 +83,16 @@ fn put_source<E: TracedWrite>(
     }
 }
 
-/// Writes the notes, each if there is something to say: on the signature nodes of a text, and on an
-/// alignment and fixed positions that it does not keep of its input. A failed write is ignored.
-pub fn put_notes<E: TracedWrite>(kept: Kept, errors: &mut E)
-    ensures { Notes kept (E.trace errors.old) (E.trace errors.new) }
+/// Writes the notes, each if there is something to say: on the signature nodes of a text, on
+/// payloads that are inside it now, and on an alignment and fixed positions that it does not keep of
+/// its input. A failed write is ignored.
+pub fn put_notes<E: TracedWrite>(done: Done, errors: &mut E)
+    ensures { Notes done (E.trace errors.old) (E.trace errors.new) }
 {
-    note_signatures(kept.signatures, errors);
-    note_alignment(kept.lost_alignment, errors);
-    note_positions(kept.lost_positions, errors);
+    note_signatures(done.kept.signatures, errors);
+    note_inside(done.inside, errors);
+    note_alignment(done.kept.lost_alignment, errors);
+    note_positions(done.kept.lost_positions, errors);
 }
 
 /// Writes the line on the signature nodes of a text, if there are any.
@@ -100,6 +103,17 @@ fn note_signatures<E: TracedWrite>(signatures: usize, errors: &mut E)
     if signatures > 0 {
         let mut line = ErrorLine::new(errors);
         put_signatures(signatures, &mut line);
+        line.write_held();
+    }
+}
+
+/// Writes the line on payloads that are inside the blob now, if there are any.
+fn note_inside<E: TracedWrite>(inside: usize, errors: &mut E)
+    ensures { NotesCount inside (inside_line inside) (E.trace errors.old) (E.trace errors.new) }
+{
+    if inside > 0 {
+        let mut line = ErrorLine::new(errors);
+        put_inside(inside, &mut line);
         line.write_held();
     }
 }
@@ -134,6 +148,15 @@ fn put_signatures<E: TracedWrite>(signatures: usize, line: &mut ErrorLine<'_, E>
     line.put(b"bootimg: note: ");
     line.put_number(signatures);
     line.put(b" signature nodes carried, not checked\n");
+}
+
+/// Appends the line on payloads that are inside the blob now.
+fn put_inside<E: TracedWrite>(inside: usize, line: &mut ErrorLine<'_, E>)
+    ensures { Extends (line_of E.trace line.old) (inside_line inside) (line_of E.trace line.new) }
+{
+    line.put(b"bootimg: note: ");
+    line.put_number(inside);
+    line.put(b" payloads are inside the blob now, see --external\n");
 }
 
 /// Appends the line on an alignment in bytes that payloads lose.

@@ -27,7 +27,7 @@ pub fn conclude<E: TracedWrite>(
 {
     match outcome {
         Ok(done) => {
-            put_notes(done.kept, errors);
+            put_notes(done, errors);
             done.status()
         }
         Err(failed) => {
@@ -49,14 +49,14 @@ pub fn hint_if(hints: bool, failure: Failure<'_>) -> Option<Hint<'static>>
 /// as many lengths or files as images.
 pub fn do_job_to_file<'a, S: TracedRead, F: FileSystem>(
     alloc: Global,
-    job: &Job<'a>,
+    job: Job<'a>,
     limits: Limits,
     name: &'a str,
     files: &mut F,
     input: &mut S,
 ) -> Result<Done, SourceFailure<'a>>
-    requires lengths { HasJobLengths job.now }
-    ensures { IsSavedWork (F.known files.old) job.now limits name.entry
+    requires lengths { HasJobLengths job }
+    ensures { IsSavedWork (F.known files.old) job.entry limits name.entry
         (record { input = S.trace input.old; steps = F.steps files.old })
         (record { input = S.trace input.new; steps = F.steps files.new }) result }
 {
@@ -74,17 +74,17 @@ pub fn do_job_to_file<'a, S: TracedRead, F: FileSystem>(
 /// flattened image tree, it has as many lengths or files as images.
 fn do_job_in_memory<'a, S: TracedRead, F: FileSystem>(
     alloc: Global,
-    job: &Job<'a>,
+    job: Job<'a>,
     limits: Limits,
     files: &mut F,
     input: &mut S,
 ) -> Result<(Done, Vec<u8>), SourceFailure<'a>>
-    requires lengths { HasJobLengths job.now }
-    ensures done { IfOk result (λ made. IsHeldWork (F.known files.old) job.now limits
+    requires lengths { HasJobLengths job }
+    ensures done { IfOk result (λ made. IsHeldWork (F.known files.old) job.entry limits
         (record { input = S.trace input.old; steps = F.steps files.old })
         (record { input = S.trace input.new; steps = F.steps files.new })
         (Ok made.0) (Some made.1.items)) }
-    ensures failed { IfErr result (IsHeldFailure (F.known files.old) job.now limits
+    ensures failed { IfErr result (IsHeldFailure (F.known files.old) job.entry limits
         (record { input = S.trace input.old; steps = F.steps files.old })
         (record { input = S.trace input.new; steps = F.steps files.new })) }
     ensures same_files { F.known files.new ≡ F.known files.old }

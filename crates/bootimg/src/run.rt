@@ -168,7 +168,7 @@ pub fn run_traced<'a, S: TracedRead, T: TracedWrite, E: TracedWrite, F: FileSyst
     let hints = terminal.errors;
     match parse_arguments(alloc, arguments) {
         Ok(Order::Do(request)) => {
-            run_request(alloc, &request, terminal, files, input, output, errors)
+            run_request(alloc, request, terminal, files, input, output, errors)
         }
         Ok(Order::DoEach(request)) => {
             do_images(alloc, hints, &request, files, input, output, errors)
@@ -217,15 +217,15 @@ fn report_usage<'a, E: TracedWrite>(
 /// is to build a flattened image tree, it has as many lengths or files as images.
 fn run_request<'a, S: TracedRead, T: TracedWrite, E: TracedWrite, F: FileSystem>(
     alloc: Global,
-    request: &Request<'a>,
+    request: Request<'a>,
     terminal: Terminal,
     files: &mut F,
     input: &mut S,
     output: &mut T,
     errors: &mut E,
 ) -> u8
-    requires lengths { HasJobLengths request.now.job }
-    ensures { IsRequestRun terminal (F.known files.old) request.now (record {
+    requires lengths { HasJobLengths request.job }
+    ensures { IsRequestRun terminal (F.known files.old) request.entry (record {
       input = S.trace input.old;
       new_input = S.trace input.new;
       output = T.trace output.old;
@@ -238,7 +238,7 @@ fn run_request<'a, S: TracedRead, T: TracedWrite, E: TracedWrite, F: FileSystem>
     }) }
 {
     let hints = terminal.errors;
-    if is_for_terminal(request, terminal) {
+    if is_for_terminal(&request, terminal) {
         let failure = Failure::OutputIsTerminal;
         return report_failure(
             ImageSource::Standard,
@@ -247,14 +247,14 @@ fn run_request<'a, S: TracedRead, T: TracedWrite, E: TracedWrite, F: FileSystem>
             errors,
         );
     }
-    let (job, limits) = (&request.job, request.limits);
-    match &request.output {
+    let limits = request.limits;
+    match request.output {
         None => {
-            let outcome = do_job(alloc, job, limits, files, input, output);
+            let outcome = do_job(alloc, request.job, limits, files, input, output);
             conclude(hints, outcome, errors)
         }
         Some(name) => {
-            let outcome = do_job_to_file(alloc, job, limits, *name, files, input);
+            let outcome = do_job_to_file(alloc, request.job, limits, name, files, input);
             conclude(hints, outcome, errors)
         }
     }

@@ -1,9 +1,10 @@
 //! What the program does for each command on one image.
 
-ghost use Rattle.std.specs.Prelude.{◌≡◌, ◌≤◌, ⊤, IfErr, IfOk, OnOk, length};
+ghost use Rattle.std.specs.Prelude.{◌≡◌, ◌≤◌, ⊤, IfErr, IfOk, OnOk, length, true};
 ghost use Rattle.bi_base.specs.Commands.{AppendFailed, Appended, CommandFailed};
 ghost use Rattle.bi_report.specs.CheckedFiles.{IsCheckError};
-ghost use Rattle.bootimg.specs.Tasks.{EndedWith, IsShownAs, TaskDone, TaskFails, TaskText};
+ghost use Rattle.bootimg.specs.Tasks.{EndedWith, EndedWithNotes, IsShownAs};
+ghost use Rattle.bootimg.specs.Tasks.{TaskDone, TaskFails, TaskText};
 ghost use Rattle.bootimg.specs.SeveralImages.{format_of_task};
 ghost use Rattle.bootimg.specs.Tasks.{placed_laws, placed_promise, status_of};
 ghost use Rattle.bootimg.specs.declared.failure.Failure.TheVariants.{Call};
@@ -19,8 +20,8 @@ use bi_commands::format::Format;
 use bi_commands::list::Lister;
 use bi_commands::scan::Scanner;
 use bi_commands::show::JsonPresenter;
-use bi_commands::update::update_with_kept;
 use bi_commands::verify::Verifier;
+use bi_edit::EditNotes;
 use bi_norm::{Kept, convert_into, normalise_with_kept};
 use std::alloc::Global;
 
@@ -40,6 +41,8 @@ pub struct Done {
     /// The signature nodes of a normal form or an updated one, and what it does not keep of the
     /// input.
     pub kept: Kept,
+    /// How many payloads an update put inside the blob that were not inside it in the input.
+    pub inside: usize,
 }
 
 impl Done {
@@ -50,6 +53,31 @@ impl Done {
         Done {
             good,
             kept: Kept::default(),
+            inside: 0,
+        }
+    }
+
+    /// Returns the end of a job that ended well, with these notes.
+    pub fn with_notes(notes: EditNotes) -> Done
+        ensures { EndedWithNotes notes result }
+    {
+        Done {
+            good: true,
+            kept: notes.kept,
+            inside: notes.inside,
+        }
+    }
+
+    /// Returns the end of a job that ended well, with nothing to note but this.
+    fn with_kept(kept: Kept) -> Done
+        ensures good { result.good ≡ true }
+        ensures kept { result.kept ≡ kept }
+        ensures inside { result.inside ≡ 0 }
+    {
+        Done {
+            good: true,
+            kept,
+            inside: 0,
         }
     }
 
@@ -95,7 +123,7 @@ impl<'a> Task<'a> {
         match self {
             Task::Normalise(form) => {
                 let kept = normalise_with_kept(alloc, image, *form, limits, sink)?;
-                return Ok(Done { good: true, kept });
+                return Ok(Done::with_kept(kept));
             }
             Task::Show(how) => {
                 append_shown(alloc, image, limits, *how, sink)?;
@@ -124,10 +152,6 @@ impl<'a> Task<'a> {
             Task::Scan(format) => {
                 let found = Scanner { format: *format }.run(alloc, image, limits, sink)?;
                 return Ok(Done::with_answer(found));
-            }
-            Task::Update(changes, form) => {
-                let kept = update_with_kept(alloc, image, *changes, *form, limits, sink)?;
-                return Ok(Done { good: true, kept });
             }
             Task::Get(plan) => match plan.getter().run(alloc, image, limits, sink) {
                 Ok(()) => return Ok(Done::with_answer(true)),

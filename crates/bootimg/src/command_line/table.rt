@@ -20,8 +20,8 @@ use options::{
     ALIGN, ALL, ALLOW, ARCH, AS, CAUSE, COMPATIBLE, COMPRESSION, CONFIG, CONFIGURATIONS, DEFAULT,
     DEFAULT_NAME, DESCRIBE_CONFIGURATION, DESCRIBE_IMAGE, DESCRIPTION, ENTRY, ESCAPED,
     EXTERNAL_BUILT, EXTERNAL_NORMAL, FILE, FILES, HASH, HASHES, IGNORE, IMAGE, IMAGES, INDEX, JSON,
-    KEY, LAYOUT, LENGTHS, LIMIT, LOAD, NAME, NEW_TIME, OFFSET, ONE, OS, OTHER, OUTPUT, PART, QUIET,
-    REQUIRED_FILE, SIGNED, TIME, TYPE, WHERE,
+    KEEP_FORM, KEY, LAYOUT, LENGTHS, LIMIT, LOAD, NAME, NEW_TIME, OFFSET, ONE, OS, OTHER, OUTPUT,
+    PART, PAYLOAD, QUIET, REMOVE, REQUIRED_FILE, SET, SIGNED, TIME, TYPE, WHERE,
 };
 use std::alloc::{AllocError, Global};
 
@@ -464,21 +464,30 @@ static CHANGING_COMMANDS: [CommandText; 4] = [
     CommandText {
         name: "update",
         aliases: &[],
-        about: "Set the time of an image, or compute its digests again",
+        about: "Edit an image: its properties and payloads, its time, its digests",
         usage: "bootimg update [OPTIONS] [IMAGE]",
         after_help: "\
                  Reads an image, and writes to standard output its normal form with the changes\n\
-                 that the options request. At least one of --time and --hashes must be given.\n\
+                 that the options request. At least one of --remove, --set, --payload, --time,\n\
+                 --hashes and --keep-form must be given. They are made in this order, whatever\n\
+                 their order on the command line. Nothing is written if there is nothing to\n\
+                 remove, or no image or part for a payload.\n\n\
                  Hash nodes with an unknown algorithm, and those of images without a payload, are\n\
                  kept as they are. A legacy image has no hash nodes, and its checksums are always\n\
                  computed. With --hashes, --limit also bounds the payloads of a FIT together.\n\
                  Signature nodes are kept, and not checked: a note on standard error has their\n\
                  number, if there are any.\n\n\
-                 Example: bootimg update --hashes --time 1700000000 kernel.itb > new.itb",
+                 Example: bootimg update --hashes --time 1700000000 kernel.itb > new.itb\n\
+                 Example: bootimg update --set '/images/kernel-1 load 0x80200000' kernel.itb\n\
+                 Example: bootimg update --keep-form --payload kernel-1=@Image --hashes kernel.itb",
         writes_image: true,
         options: &[
+            REMOVE,
+            SET,
+            PAYLOAD,
             NEW_TIME,
             HASHES,
+            KEEP_FORM,
             EXTERNAL_NORMAL,
             ALIGN,
             OFFSET,

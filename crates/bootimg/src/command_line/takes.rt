@@ -3,11 +3,13 @@
 ghost use Rattle.std.specs.Prelude.{◌≡◌, ◌↔◌, IfOk, IsTrue, map};
 ghost use Rattle.bootimg.specs.TakenWords.{IsTaken, names_taken};
 ghost use Rattle.bootimg.specs.TakenWords.{words_after_names, words_before_names};
-ghost use Rattle.bootimg.specs.declared.command_line.takes.Takes.TheVariants.{Algorithms};
+ghost use Rattle.bootimg.specs.declared.command_line.takes.Takes.TheVariants.{Algorithms, Removal};
+ghost use Rattle.bootimg.specs.declared.command_line.takes.Takes.TheVariants.{NewPayload, NewValue};
 
 use crate::codes::{CodeField, names_of_field, parse_code};
 use crate::command_line::NoRequest;
 use crate::command_line::allowed::parse_allowed;
+use crate::command_line::edits::parse_set_word;
 use crate::command_line::explain::parse_topic;
 use crate::command_line::extract::parse_key;
 use crate::command_line::get::parse_form;
@@ -17,6 +19,7 @@ use crate::command_line::options::{parse_align, parse_limits};
 use crate::command_line::part::parse_part;
 use crate::failure::Failure;
 use crate::numbers::parse_number;
+use bi_edit::words::{parse_payload, parse_removal};
 use std::alloc::{AllocError, Global};
 
 /// Which words an option or an argument takes.
@@ -46,6 +49,12 @@ pub enum Takes {
     Algorithms,
     /// What `explain` can explain.
     Topic,
+    /// What is to be removed.
+    Removal,
+    /// A new value of a property or a field.
+    NewValue,
+    /// A new payload.
+    NewPayload,
 }
 
 /// Where a word stands.
@@ -112,6 +121,9 @@ impl Takes {
             Takes::Kinds => Ok(parse_allowed(word).is_some()),
             Takes::Algorithms => are_algorithms(alloc, word),
             Takes::Topic => Ok(parse_topic(word).is_some()),
+            Takes::Removal => is_removal(alloc, word),
+            Takes::NewValue => is_new_value(alloc, word),
+            Takes::NewPayload => is_new_payload(alloc, word),
         }
     }
 
@@ -144,6 +156,9 @@ impl Takes {
             Takes::Kinds => "a comma-separated list of ",
             Takes::Algorithms => "none, or a comma-separated list without repetition of ",
             Takes::Topic => "a name that bootimg explain prints, or a line of bootimg",
+            Takes::Removal => "the PATH of a node, or 'PATH NAME' of a property",
+            Takes::NewValue => "'PATH NAME', 'PATH NAME VALUE' or 'FIELD VALUE'",
+            Takes::NewPayload => "IMAGE=@FILE",
         }
     }
 
@@ -165,6 +180,36 @@ fn are_algorithms(alloc: Global, word: &str) -> Result<bool, AllocError>
     match parse_hashes(alloc, word) {
         Ok(_) => Ok(true),
         Err(NoRequest::Failure(Failure::BadValue)) => Ok(false),
+        Err(_) => Err(AllocError),
+    }
+}
+
+/// Returns whether a word is for a removal.
+fn is_removal(alloc: Global, word: &str) -> Result<bool, AllocError>
+    ensures { IfOk result (λ is_taken. IsTrue is_taken ↔ IsTaken Removal word.now) }
+{
+    match parse_removal(alloc, word.as_bytes()) {
+        Ok(found) => Ok(found.is_some()),
+        Err(_) => Err(AllocError),
+    }
+}
+
+/// Returns whether a word is for a new value of a property or a field.
+fn is_new_value(alloc: Global, word: &str) -> Result<bool, AllocError>
+    ensures { IfOk result (λ is_taken. IsTrue is_taken ↔ IsTaken NewValue word.now) }
+{
+    match parse_set_word(alloc, word) {
+        Ok(found) => Ok(found.is_some()),
+        Err(_) => Err(AllocError),
+    }
+}
+
+/// Returns whether a word is for a new payload.
+fn is_new_payload(alloc: Global, word: &str) -> Result<bool, AllocError>
+    ensures { IfOk result (λ is_taken. IsTrue is_taken ↔ IsTaken NewPayload word.now) }
+{
+    match parse_payload(alloc, word) {
+        Ok(found) => Ok(found.is_some()),
         Err(_) => Err(AllocError),
     }
 }

@@ -14,6 +14,9 @@ pub parse_task-requires-clause-not_all : goal.parse_task-requires-clause-not_all
 parse_task-requires-clause-not_all c named =
     absurd (other_command c.args.name.now (codes "extract") refl refl refl refl c.requires.names.takes named)
 
+pub parse_task-requires-clause-no_update : goal.parse_task-requires-clause-no_update
+parse_task-requires-clause-no_update c = other_command c.args.name.now (codes "update") refl refl refl refl c.requires.names.takes
+
 pub parse_task-requires-clause-no_comparison : goal.parse_task-requires-clause-no_comparison
 parse_task-requires-clause-no_comparison c = other_command c.args.name.now (codes "compare") refl refl refl refl c.requires.names.takes
 

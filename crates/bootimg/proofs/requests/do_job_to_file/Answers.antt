@@ -12,11 +12,11 @@ returns-in_err-done g c =
 
 pub returns-in-Ok : goal.returns-in-Ok
 returns-in-Ok g c =
-    output_saved _ _ c.args.job.now c.args.limits c.args.name _ _ _ c.in_ok-done.done c.in_ok-done.bytes.items c.deref.result.now _
+    output_saved _ _ c.args.job c.args.limits c.args.name _ _ _ c.in_ok-done.done c.in_ok-done.bytes.items c.deref.result.now _
     c.in_ok-done.ensures.done c.in_ok-done.ensures.same_files c.deref.ensures.value c.in-Ok.ensures.saved refl
 
 pub returns : goal.returns
 returns g c =
-    output_not_saved _ _ c.args.job.now c.args.limits c.args.name _ _ _ c.in_ok-done.done c.in_ok-done.bytes.items c.deref.result.now _
+    output_not_saved _ _ c.args.job c.args.limits c.args.name _ _ _ c.in_ok-done.done c.in_ok-done.bytes.items c.deref.result.now _
     c.in-Err.error c.in_ok-done.ensures.done c.in_ok-done.ensures.same_files c.deref.ensures.value c.in-Err.ensures.failed
     (ap (λ f. Err (source_failure (File c.args.name) f)) c.from.ensures)

@@ -124,6 +124,44 @@ pub const SIGNED: OptionText = OptionText {
     takes: Takes::Anything,
 };
 
+pub const REMOVE: OptionText = OptionText {
+    name: "remove",
+    value_name: "WORD",
+    help: "Remove the node at a PATH with all below it, or a property: 'PATH NAME', as describe \
+         prints them; may be given any number of times",
+    form: OptionForm::Repeated,
+    takes: Takes::Removal,
+};
+
+pub const SET: OptionText = OptionText {
+    name: "set",
+    value_name: "WORD",
+    help: "Set a property: 'PATH NAME VALUE' as describe prints it, or 0x and digits as VALUE, or \
+         'PATH NAME' for an empty value. Nodes that are not there are added. Or a field of a \
+         legacy image: 'FIELD VALUE', FIELD one of name, time, load, entry, os, arch, compression; \
+         may be given any number of times",
+    form: OptionForm::Repeated,
+    takes: Takes::NewValue,
+};
+
+pub const PAYLOAD: OptionText = OptionText {
+    name: "payload",
+    value_name: "IMAGE=@FILE",
+    help: "Take the payload of an image of a FIT, or of part IMAGE of a legacy image, from the \
+         file FILE; may be given any number of times",
+    form: OptionForm::Repeated,
+    takes: Takes::NewPayload,
+};
+
+pub const KEEP_FORM: OptionText = OptionText {
+    name: "keep-form",
+    value_name: "",
+    help: "Leave the payloads of a FIT where they are: inside the blob, or after it with the \
+         alignment that they have",
+    form: OptionForm::Flag,
+    takes: Takes::Anything,
+};
+
 pub const NEW_TIME: OptionText = OptionText {
     name: "time",
     value_name: "N",
@@ -384,7 +422,7 @@ pub const IMAGES: OptionText = OptionText {
 
 /// The options and arguments whose words can be judged one by one. Those of the same name take the
 /// same words in each command.
-pub static TAKING_OPTIONS: [OptionText; 18] = [
+pub static TAKING_OPTIONS: [OptionText; 21] = [
     OS,
     ARCH,
     TYPE,
@@ -399,6 +437,9 @@ pub static TAKING_OPTIONS: [OptionText; 18] = [
     PART,
     KEY,
     INDEX,
+    REMOVE,
+    SET,
+    PAYLOAD,
     CAUSE,
     ALIGN,
     OFFSET,

@@ -11,7 +11,6 @@ use Rattle.bi_report.specs.Scanning.{IsScanText, IsScanError}
 use Rattle.bi_report.specs.VerifiedFiles.{IsReport}
 use Rattle.bi_describe.specs.Describing.{IsDescription, IsDescribeError}
 use Rattle.bi_commands.specs.Extracting.{IsChosen, IsExtractError}
-use Rattle.bi_commands.specs.UpdatedFiles.{IsUpdated, IsUpdateError}
 use Rattle.bootimg.specs.Selections.{select_of}
 use Rattle.bootimg.specs.Tasks.{IsShownAs}
 use Rattle.bootimg.proofs.SelectionNames.{same_chosen, same_failure}
@@ -93,18 +92,6 @@ returns-in_err-found-in-Scan-clause-failed g c =
     (call_failed g.S.Sink.fails (IsScanText c.in-Scan.format limits image) (IsScanError limits image)
     c.args.sink.now c.run-in-Scan.new.sink c.in_err-found-in-Scan.field-0.0 p.0 p.2
     c.in_err-found-in-Scan.ensures.failed)
-
-pub returns-in_err-kept-in-Update-clause-failed : goal.returns-in_err-kept-in-Update-clause-failed
-returns-in_err-kept-in-Update-clause-failed g c =
-    let limits = c.args.limits in
-    let image = c.args.image.now in
-    let changes = c.in-Update.changes in
-    let form = c.in-Update.form in
-    let p = err_from_is_err_and c.from_residual-in_err-kept-in-Update.result c.from_residual-in_err-kept-in-Update.ensures.1 in
-    rw (c.in-Update.is, p.1)
-    (call_failed g.S.Sink.fails (IsUpdated changes limits form image) (IsUpdateError changes limits form image)
-    c.args.sink.now c.update_with_kept.new.sink
-    c.in_err-kept-in-Update.field-0.0 p.0 p.2 c.in_err-kept-in-Update.ensures.failed)
 
 pub failure-requires : goal.failure-requires
 failure-requires g c =
