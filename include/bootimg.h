@@ -32,9 +32,10 @@
  *                           BOOTIMG_OK.
  *   BOOTIMG_WRONG_ARGUMENT  A number is out of the range of its argument.
  *   BOOTIMG_NOT_FOUND       What the call looks for is not there. `reason` is one of
- *                           BOOTIMG_WRONG_KIND to BOOTIMG_BAD_WORD. `value` is the index of the
- *                           first name that no image has for BOOTIMG_MISSING, that of the first
- *                           word that names nothing for BOOTIMG_BAD_WORD, and otherwise 0.
+ *                           BOOTIMG_WRONG_KIND to BOOTIMG_FINDS_NOTHING. `value` is an index: of
+ *                           the first name that no image has for BOOTIMG_MISSING, of the first word
+ *                           that names nothing for BOOTIMG_BAD_WORD, and of an edit for
+ *                           BOOTIMG_BAD_EDIT and BOOTIMG_FINDS_NOTHING. Otherwise it is 0.
  *
  * Numbers without meaning for the status or the call are 0. If the status is BOOTIMG_OK, the
  * output is at the beginning of the buffer, and the bytes after it are unchanged. After any other
@@ -108,6 +109,41 @@ enum bootimg_cause {
 #define BOOTIMG_EMBEDDED 0u
 #define BOOTIMG_EXTERNAL 1u
 
+/* `form` of bootimg_edit and bootimg_edit_notes can also be this: the payloads are where the file
+ * has them, as with `--keep-form` of the program. */
+#define BOOTIMG_KEEP_FORM 2u
+
+/* `kind` of an edit: what it does.
+ *
+ *   BOOTIMG_EDIT_REMOVE    Removes a node of a FIT and all nodes below it, or a property. `word` is
+ *                          the path of the node; of a property it is the path of its node, a space
+ *                          and its name. Path and name are as bootimg_describe prints them. Neither
+ *                          the root nor the node `images` can be removed, and no image has one of
+ *                          the four properties that hold or place its payload.
+ *   BOOTIMG_EDIT_SET       Sets a property of a FIT, or adds it. `word` is the path of its node, a
+ *                          space, its name, and, unless the value is empty, a space and the value,
+ *                          as bootimg_describe prints it, or `0x` and two hexadecimal digits for
+ *                          every byte. Nodes of the path that are not there are added.
+ *   BOOTIMG_EDIT_PAYLOAD   Gives an image of a FIT, or a part of a legacy image, the bytes of
+ *                          `payload`. `word` is the name of the image or the number of the part, as
+ *                          bootimg_list prints it.
+ *   BOOTIMG_EDIT_TIME      Sets the time of creation to `number`, in seconds since 1970.
+ *   BOOTIMG_EDIT_HASHES    Recomputes the digests in the hash nodes of a FIT.
+ *
+ * The others are of a legacy image. They set a field of its header: the name to the bytes of
+ * `word`, an address, or a code of U-Boot, 0 to 255, to `number`. */
+#define BOOTIMG_EDIT_REMOVE 0u
+#define BOOTIMG_EDIT_SET 1u
+#define BOOTIMG_EDIT_PAYLOAD 2u
+#define BOOTIMG_EDIT_TIME 3u
+#define BOOTIMG_EDIT_HASHES 4u
+#define BOOTIMG_EDIT_NAME 5u
+#define BOOTIMG_EDIT_LOAD 6u
+#define BOOTIMG_EDIT_ENTRY 7u
+#define BOOTIMG_EDIT_OS 8u
+#define BOOTIMG_EDIT_ARCH 9u
+#define BOOTIMG_EDIT_COMPRESSION 10u
+
 /* `changes` of bootimg_update and bootimg_notes. */
 #define BOOTIMG_CHANGE_TIME 1u
 #define BOOTIMG_CHANGE_HASHES 2u
@@ -137,6 +173,8 @@ enum bootimg_cause {
 #define BOOTIMG_NO_NAME 14u
 #define BOOTIMG_NO_CODE 15u
 #define BOOTIMG_BAD_WORD 16u
+#define BOOTIMG_BAD_EDIT 17u
+#define BOOTIMG_FINDS_NOTHING 18u
 
 /* `field`: a field of the header of a legacy image that contains a code. */
 #define BOOTIMG_CODE_OS 0u
@@ -282,6 +320,31 @@ typedef struct bootimg_note_numbers {
     size_t lost_positions;
     uint32_t lost_alignment;
 } bootimg_note_numbers;
+
+/* An edit of a boot image. `word` and `payload` are regions of the input. `kind` is one of
+ * BOOTIMG_EDIT_REMOVE to BOOTIMG_EDIT_COMPRESSION. What the kind does not use has no effect. */
+typedef struct bootimg_edit_element {
+    bootimg_region word;
+    bootimg_region payload;
+    uint32_t kind;
+    uint32_t number;
+} bootimg_edit_element;
+
+/* What a user should know about a file after edits beyond what it means: the numbers in the notes
+ * that the program prints. `signatures` is the number of signature nodes, which are kept and not
+ * checked. With BOOTIMG_EXTERNAL or BOOTIMG_KEEP_FORM, `lost_positions` is the number of payloads
+ * that `data-position` gives in the file, which `data-offset` gives instead. With BOOTIMG_EMBEDDED,
+ * `inside` is the number of payloads after the blob of the file that are inside it now. With
+ * BOOTIMG_EXTERNAL, `lost_alignment` is the alignment in bytes that the payloads after the blob
+ * have in the file, if one of them loses it. Payloads that were empty, or whose image has none
+ * after the edits, do not count, and for `inside` neither do those that are empty then. The last
+ * three are otherwise 0, and for a legacy image all numbers are. */
+typedef struct bootimg_edit_note_numbers {
+    size_t signatures;
+    size_t lost_positions;
+    size_t inside;
+    uint32_t lost_alignment;
+} bootimg_edit_note_numbers;
 
 /* The fields of the blob of a FIT: the number of the boot processor, and its size in bytes. */
 typedef struct bootimg_fit_fields {
@@ -458,6 +521,45 @@ uint32_t bootimg_update(const uint8_t *file, size_t file_size, uint32_t changes,
 uint32_t bootimg_notes(const uint8_t *file, size_t file_size, uint32_t changes, uint32_t time,
                        uint32_t form, uint32_t limit, uint32_t depth, bootimg_note_numbers *notes,
                        bootimg_result *answer);
+
+/* Writes the normal form of a file after edits, as `bootimg update` does with its options. The
+ * words and payloads of the edits are regions of `input`, which may be anywhere in it. The edits
+ * are made in this order, whatever their order in the array: removals, new values and fields,
+ * payloads, the time, the digests. Edits of one of these kinds are made in their order in the
+ * array. Whatever no edit names is as it was. Without edits the output is the normal form. `form`
+ * is as for bootimg_normalise, or BOOTIMG_KEEP_FORM, and `value` is the number of signature nodes
+ * of the output.
+ *
+ * The status is BOOTIMG_WRONG_ARGUMENT if a region of an edit is not inside the input, even one
+ * that its kind does not use; if a kind is not one of these; or if a code is greater than 255.
+ * Otherwise it can be BOOTIMG_OUT_OF_MEMORY, or BOOTIMG_NOT_FOUND with the first of these reasons
+ * that applies:
+ *
+ *   BOOTIMG_BAD_EDIT        The word of an edit does not have the form above, or names a node or a
+ *                           property that cannot be removed or set. `value` is the index of the
+ *                           first such edit. The file is not examined before.
+ *   BOOTIMG_WRONG_KIND      An edit is for the other kind of image, or for a part by a word that is
+ *                           not a number. This reason and the next one come after the causes of
+ *                           reading.
+ *   BOOTIMG_FINDS_NOTHING   There is nothing to remove, no such image or no such part. `value` is
+ *                           the index of the first such edit, in the order in which they are made.
+ *
+ * The call fails with TooDeep at 0, before BOOTIMG_FINDS_NOTHING, if a property is set of a node
+ * with `depth` names or more in its path; after it with TooLarge if the output is longer than
+ * `limit`, or, with BOOTIMG_EDIT_HASHES, if the payloads after the edits together are longer; and
+ * for a legacy image with the causes of bootimg_build_legacy. */
+uint32_t bootimg_edit(const uint8_t *file, size_t file_size, const uint8_t *input,
+                      size_t input_size, const bootimg_edit_element *edits, size_t edits_count,
+                      uint32_t form, uint32_t limit, uint32_t depth, uint8_t *buffer,
+                      size_t buffer_size, bootimg_result *answer);
+
+/* Sets the numbers in the notes on what bootimg_edit writes with these arguments. They are
+ * unchanged unless the status is BOOTIMG_OK. The call fails as bootimg_edit does. The output is
+ * made in memory that the call allocates. */
+uint32_t bootimg_edit_notes(const uint8_t *file, size_t file_size, const uint8_t *input,
+                            size_t input_size, const bootimg_edit_element *edits,
+                            size_t edits_count, uint32_t form, uint32_t limit, uint32_t depth,
+                            bootimg_edit_note_numbers *notes, bootimg_result *answer);
 
 /* The calls that extract copy nothing. `value` is the offset in the file of the first selected
  * byte, and `size` is the number of selected bytes. All of them are inside the file. No hash node

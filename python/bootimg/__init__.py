@@ -18,9 +18,9 @@ out of its range or a name is unknown, NotFound if there is nothing to extract, 
 OutOfMemory if an allocation fails.
 
 `python3 -m bootimg COMMAND ..` writes what `bootimg COMMAND ..` writes, and ends with the same
-status. It lacks `-o`, `--escaped`, `--offset` and `--all`, and its message about wrong arguments
-is different. It also takes names that are not UTF-8. `python3 -m bootimg --help` lists
-its commands.
+status. It lacks `-o`, `--escaped`, `--offset`, `--all` and the options of `update` that edit, and
+its message about wrong arguments is different. It also takes names that are not UTF-8. `python3 -m
+bootimg --help` lists its commands.
 
 The module loads the library that the environment variable BOOTIMG_LIBRARY names, if it is set, or
 else libbootimg.so next to this file, if it is there, or else libbootimg.so.0 of the system.
@@ -54,6 +54,7 @@ __all__ = [
     "Concern",
     "Configuration",
     "DEPTH",
+    "EditNotes",
     "FitHeader",
     "FitImage",
     "Hash",
@@ -87,6 +88,8 @@ __all__ = [
     "convert",
     "describe",
     "describe_json",
+    "edit",
+    "edit_notes",
     "explain",
     "extract_config",
     "extract_image",
@@ -152,12 +155,17 @@ REASONS = (
     "no number",
     "no name",
     "no code",
+    "bad word",
+    "bad edit",
+    "nothing to remove",
 )
 VALUE_FORMS = ("shown", "text", "number", "raw")
 
 _OK, _REFUSED, _OUT_OF_MEMORY, _NO_ROOM, _WRONG_ARGUMENT, _NOT_FOUND = range(6)
 _MISSING = 7
 _BAD_WORD = 16
+_BAD_EDIT = 17
+_FINDS_NOTHING = 18
 _SIGNED = 32768
 
 
@@ -175,6 +183,16 @@ class _BadWord(BootimgError):
     def __init__(self, index: int) -> None:
         super().__init__(f"bad word {index}")
         self.index = index
+
+
+class _BadEdit(BootimgError):
+    """The word of an edit is for none, or the edit finds nothing. `index` is its index, counted
+    from 0."""
+
+    def __init__(self, index: int, is_word: bool) -> None:
+        super().__init__(f"bad edit {index}")
+        self.index = index
+        self.is_word = is_word
 
 
 class Refused(BootimgError):
@@ -199,8 +217,9 @@ class WrongArgument(BootimgError, ValueError):
 
 
 class NotFound(BootimgError, LookupError):
-    """What a call looks for is not there. `reason` is one of REASONS. `index` is None, or for
-    "missing image" the index of the first name that no image has, counted from 0."""
+    """What a call looks for is not there. `reason` is one of REASONS. `index` is None, or counted
+    from 0: for "missing image" the index of the first name that no image has, and of `edit` the
+    index of the first edit that finds nothing, in its parameter."""
 
     def __init__(self, reason: str, index: int | None) -> None:
         super().__init__(reason if index is None else f"{reason} {index}")
@@ -370,6 +389,8 @@ _CALLS = {
     "normalise": _FILE + _NUMBER * 3 + _BUFFER,
     "update": _FILE + _NUMBER * 5 + _BUFFER,
     "notes": _FILE + _NUMBER * 5 + [ctypes.c_void_p],
+    "edit": _FILE * 3 + _NUMBER * 3 + _BUFFER,
+    "edit_notes": _FILE * 3 + _NUMBER * 3 + [ctypes.c_void_p],
     "extract_part": _FILE + _NUMBER * 3,
     "extract_image": _FILE * 2 + _NUMBER * 2,
     "extract_config": _FILE * 2 + _NUMBER * 4,
@@ -443,6 +464,8 @@ def _raise(status: int, answer: _Answer) -> None:
         raise WrongArgument("wrong argument")
     if status == _NOT_FOUND and answer.reason == _BAD_WORD:
         raise _BadWord(answer.value)
+    if status == _NOT_FOUND and answer.reason in (_BAD_EDIT, _FINDS_NOTHING):
+        raise _BadEdit(answer.value, answer.reason == _BAD_EDIT)
     if status == _NOT_FOUND:
         index = answer.value if answer.reason == _MISSING else None
         raise NotFound(REASONS[answer.reason - 1], index)
@@ -1204,6 +1227,7 @@ def _compared(
 
 # These use what is above.
 from bootimg.codes import CODES, Code, code_name, code_number  # noqa: E402
+from bootimg.edits import EditNotes, edit, edit_notes  # noqa: E402
 from bootimg.image import (  # noqa: E402
     Concern,
     Configuration,

@@ -16,7 +16,7 @@ import os
 import urllib.parse
 import weakref
 from dataclasses import dataclass, field, fields
-from typing import Any, Container, Iterable
+from typing import Any, Container, Iterable, Mapping
 
 import bootimg
 
@@ -560,6 +560,36 @@ class Image:
         """Returns what a user should know about what `normalise` or `update` returns, as
         `bootimg.notes` does."""
         return bootimg.notes(self.file, time, hashes, external, *self._bounds, align=align)
+
+    def edit(
+        self,
+        *,
+        remove: Iterable[bytes | str] = (),
+        set: Iterable[bytes | str] = (),
+        payloads: Mapping[str, bootimg.Buffer] | Mapping[bytes, bootimg.Buffer] | None = None,
+        fields: Mapping[str, bytes | str | int] = {},
+        time: int | None = None,
+        hashes: bool = False,
+        external: bool = False,
+        align: int | None = None,
+        keep_form: bool = False,
+    ) -> bytes:
+        """Returns the normal form of the file after edits, as `bootimg.edit` does."""
+        limit, depth = self._bounds
+        return bootimg.edit(
+            self.file,
+            remove=remove,
+            set=set,
+            payloads=payloads,
+            fields=fields,
+            time=time,
+            hashes=hashes,
+            external=external,
+            align=align,
+            keep_form=keep_form,
+            limit=limit,
+            depth=depth,
+        )
 
     def convert(self) -> bytes:
         """Returns the FIT that a legacy image is converted to, as `bootimg.convert` does."""

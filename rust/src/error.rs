@@ -138,7 +138,8 @@ pub enum Error {
     NoNode,
     /// The node has no property with the name.
     NoProperty,
-    /// A field is named of a FIT, or a property of a legacy image.
+    /// A field is named of a FIT, or a property of a legacy image; or an edit is of the other kind of
+    /// image.
     WrongKind,
     /// The value is not one or more texts.
     NoText,
@@ -147,6 +148,11 @@ pub enum Error {
     /// The word at this index, counted from 0, names nothing that can be left out. It is the first
     /// such word.
     BadWord(usize),
+    /// The word of the edit at this index, counted from 0, is for no edit. It is the first such one.
+    BadEdit(usize),
+    /// The edit at this index, counted from 0, finds nothing to remove, no image or no part. It is
+    /// the first such one in the order in which edits are made.
+    FindsNothing(usize),
     /// A status of a later version of the library.
     Unknown,
 }
@@ -167,6 +173,8 @@ impl fmt::Display for Error {
             Error::NoText => formatter.write_str("no text"),
             Error::NoNumber => formatter.write_str("no number"),
             Error::BadWord(index) => write!(formatter, "bad word {index}"),
+            Error::BadEdit(index) => write!(formatter, "bad edit {index}"),
+            Error::FindsNothing(index) => write!(formatter, "edit {index} finds nothing"),
             Error::Unknown => formatter.write_str("unknown status"),
         }
     }
@@ -200,6 +208,8 @@ pub(crate) fn failure(status: u32, answer: &sys::Answer) -> Error {
         (_, 12) => Error::NoText,
         (_, 13) => Error::NoNumber,
         (_, 16) => Error::BadWord(answer.value),
+        (_, 17) => Error::BadEdit(answer.value),
+        (_, 18) => Error::FindsNothing(answer.value),
         _ => Error::Unknown,
     }
 }

@@ -21,6 +21,7 @@ mod building;
 mod calls;
 mod codes;
 mod concerns;
+mod edits;
 mod error;
 mod fit;
 mod hashes;
@@ -38,6 +39,7 @@ pub use building::{
 };
 pub use codes::CodeField;
 pub use concerns::{concerns, Concern};
+pub use edits::{edit, edit_notes, Edit, EditNotes, FormChoice};
 pub use error::{Cause, Error, Refusal};
 pub use fit::{Configuration, Fit, FitImage, Place, Reservation};
 pub use hashes::{Hash, Verdict};

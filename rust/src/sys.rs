@@ -43,6 +43,26 @@ pub struct NoteNumbers {
     pub lost_alignment: u32,
 }
 
+/// An edit of a file.
+#[repr(C)]
+#[derive(Clone, Copy, Debug, Default)]
+pub struct Edit {
+    pub word: Region,
+    pub payload: Region,
+    pub kind: u32,
+    pub number: u32,
+}
+
+/// The numbers in the notes on an edited file.
+#[repr(C)]
+#[derive(Clone, Copy, Debug, Default)]
+pub struct EditNoteNumbers {
+    pub signatures: usize,
+    pub lost_positions: usize,
+    pub inside: usize,
+    pub lost_alignment: u32,
+}
+
 /// The fields of the blob of a FIT.
 #[repr(C)]
 #[derive(Clone, Copy, Debug, Default)]
@@ -247,6 +267,12 @@ declare! {
     bootimg_normalise(Bytes, usize, u32, u32, u32, *mut u8, usize);
     bootimg_update(Bytes, usize, u32, u32, u32, u32, u32, *mut u8, usize);
     bootimg_notes(Bytes, usize, u32, u32, u32, u32, u32, *mut NoteNumbers);
+    bootimg_edit(
+        Bytes, usize, Bytes, usize, *const Edit, usize, u32, u32, u32, *mut u8, usize
+    );
+    bootimg_edit_notes(
+        Bytes, usize, Bytes, usize, *const Edit, usize, u32, u32, u32, *mut EditNoteNumbers
+    );
     bootimg_legacy(Bytes, usize, u32, u32, *mut LegacyFields);
     bootimg_parts(Bytes, usize, u32, u32, *mut Region, usize);
     bootimg_fit(Bytes, usize, u32, u32, *mut FitFields);

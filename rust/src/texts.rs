@@ -18,13 +18,13 @@ pub enum Form {
 }
 
 impl Form {
-    /// Returns the number of the form. An alignment that is the number of another form is not passed
-    /// on: 2 is the number of no form.
+    /// Returns the number of the form. An alignment that is the number of another form, or of a
+    /// choice of the form, is not passed on: 3 is the number of neither.
     pub(crate) fn number(self) -> u32 {
         match self {
             Form::Embedded => 0,
             Form::External => 1,
-            Form::Aligned(bytes) => bytes.max(2),
+            Form::Aligned(bytes) => bytes.max(3),
         }
     }
 }

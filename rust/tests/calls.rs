@@ -2,11 +2,12 @@
 
 use bootimg::{
     build_fit, build_fit_as, build_legacy, check, check_json, compare, compare_ignoring,
-    compare_ignoring_json, compare_json, concerns, convert, describe, describe_json, get, kind,
-    listing, listing_json, normalise, notes, same_meaning, scan, scan_json, show, show_json,
-    update, verify, verify_json, version, Algorithm, BuildConfiguration, BuildImage, BuildTexts,
-    Cause, Changes, CodeField, Concern, Concerns, Error, Fit, Form, Header, Key, Kind, Legacy,
-    Limits, Notes, Place, Plan, Policy, Refusal, Value, ValueForm, Verdict,
+    compare_ignoring_json, compare_json, concerns, convert, describe, describe_json, edit,
+    edit_notes, get, kind, listing, listing_json, normalise, notes, same_meaning, scan, scan_json,
+    show, show_json, update, verify, verify_json, version, Algorithm, BuildConfiguration,
+    BuildImage, BuildTexts, Cause, Changes, CodeField, Concern, Concerns, Edit, EditNotes, Error,
+    Fit, Form, FormChoice, Header, Key, Kind, Legacy, Limits, Notes, Place, Plan, Policy, Refusal,
+    Value, ValueForm, Verdict,
 };
 
 const ALL: Limits = Limits {
@@ -576,6 +577,113 @@ fn alignments() {
             Err(Error::WrongArgument)
         );
     }
+}
+
+#[test]
+fn edited_trees() {
+    let board = example("board.itb");
+    let embedded = FormChoice::default();
+    let nothing = edit(&board, &[], embedded, ALL).unwrap();
+    assert_eq!(nothing, normalise(&board, Form::Embedded, ALL).unwrap());
+    let edits = [
+        Edit::Hashes,
+        Edit::Time(7),
+        Edit::Payload("kernel-1", b"new"),
+        Edit::Set("/images/kernel-1 load 0x80200000"),
+        Edit::Remove("/images/fdt-1 description"),
+    ];
+    let edited = edit(&board, &edits, embedded, ALL).unwrap().image;
+    let fit = Fit::read(&edited, ALL).unwrap();
+    assert_eq!(fit.image("kernel-1").unwrap().payload, Some(&b"new"[..]));
+    assert!(fit
+        .verdicts()
+        .unwrap()
+        .iter()
+        .all(|hash| hash.verdict == Verdict::Good));
+    let lines = compare(&board, &edited, ALL).unwrap().differences;
+    for line in [
+        "-property /images/fdt-1 description ",
+        "+property /images/kernel-1 load 0x80200000",
+        "+property / timestamp 0x00000007",
+    ] {
+        assert!(lines.contains(line), "{lines}");
+    }
+    let wrong = [Edit::Time(1), Edit::Remove("/images/none"), Edit::Set("/")];
+    assert_eq!(edit(&board, &wrong, embedded, ALL), Err(Error::BadEdit(2)));
+    assert_eq!(
+        edit(&board, &wrong[..2], embedded, ALL),
+        Err(Error::FindsNothing(1))
+    );
+    assert_eq!(
+        edit(&board, &[Edit::Os(5)], embedded, ALL),
+        Err(Error::WrongKind)
+    );
+    assert_eq!(
+        edit_notes(b"", &edits, embedded, ALL),
+        Err(refusal(Cause::Truncated, 0, 1))
+    );
+}
+
+#[test]
+fn kept_forms() {
+    let board = example("board.itb");
+    let form = Form::Aligned(4096);
+    let aligned = normalise(&board, form, ALL).unwrap().image;
+    let edits = [Edit::Set("/ x 0x01")];
+    let given = |form: Form| edit(&aligned, &edits, form.into(), ALL).unwrap();
+    let kept = edit(&aligned, &edits, FormChoice::Keep, ALL);
+    assert_eq!(kept, Ok(given(form)));
+    assert_ne!(kept, Ok(given(Form::External)));
+    let inside = EditNotes {
+        inside: 3,
+        ..EditNotes::default()
+    };
+    let lost = EditNotes {
+        lost_alignment: Some(4096),
+        ..EditNotes::default()
+    };
+    let noted = |choice| edit_notes(&aligned, &edits, choice, ALL).unwrap();
+    assert_eq!(noted(FormChoice::Keep), EditNotes::default());
+    assert_eq!(noted(FormChoice::Given(Form::Embedded)), inside);
+    assert_eq!(noted(FormChoice::Given(Form::External)), lost);
+    for bytes in [0, 1, 2, 3, 12] {
+        let wrong = Form::Aligned(bytes).into();
+        assert_eq!(edit(&board, &edits, wrong, ALL), Err(Error::WrongArgument));
+    }
+}
+
+#[test]
+fn edited_legacy_images() {
+    let file = example("two-parts.uimage");
+    let edits = [
+        Edit::Name(b"new"),
+        Edit::Load(1),
+        Edit::Entry(2),
+        Edit::Os(17),
+        Edit::Arch(22),
+        Edit::Compression(1),
+        Edit::Time(3),
+        Edit::Payload("1", b"other"),
+    ];
+    let edited = edit(&file, &edits, FormChoice::Keep, ALL).unwrap().image;
+    let image = Legacy::read(&edited, ALL).unwrap();
+    let header = Header {
+        name: b"new",
+        time: 3,
+        load: 1,
+        entry: 2,
+        os: 17,
+        arch: 22,
+        image_type: 4,
+        compression: 1,
+    };
+    assert_eq!(image.header, header);
+    assert_eq!(image.parts[0], Legacy::read(&file, ALL).unwrap().parts[0]);
+    assert_eq!(image.parts[1], b"other");
+    let part = |word| edit(&file, &[Edit::Payload(word, b"")], FormChoice::Keep, ALL);
+    assert_eq!(part("2"), Err(Error::FindsNothing(0)));
+    assert_eq!(part("x"), Err(Error::WrongKind));
+    assert_eq!(part("1"), Err(refusal(Cause::EmptyPart, 68, 1)));
 }
 
 #[test]

@@ -40,7 +40,7 @@ program_files="bin/bootimg share/man/man1/bootimg.1 share/bash-completion/comple
     share/fish/vendor_completions.d/bootimg.fish"
 # python_files DIRECTORY: the files of the module in this directory.
 python_files() {
-    printf "$1/bootimg/%s\n" __init__.py __main__.py codes.py image.py libbootimg.so py.typed
+    printf "$1/bootimg/%s\n" __init__.py __main__.py codes.py edits.py image.py libbootimg.so py.typed
 }
 directories="$program_directories include lib lib/pkgconfig share/bootimg share/bootimg/python share/bootimg/python/bootimg"
 files="$program_files include/bootimg.h lib/libbootimg.a lib/libbootimg.so lib/libbootimg.so.0 lib/pkgconfig/bootimg.pc

@@ -5,6 +5,9 @@ pub mod CodeNames
 pub mod CheckedFiles
 pub mod ComparedFiles
 pub mod ConcernFiles
+pub mod EditCallFacts
+pub mod EditElements
+pub mod EditedCalls
 pub mod ElementFacts
 pub mod CallFacts
 pub mod ExtractedFiles

@@ -3,6 +3,7 @@ pub mod Arguments
 pub mod Calls
 pub mod CodeCalls
 pub mod ConcernElements
+pub mod EditCalls
 pub mod Extracting
 pub mod FitElements
 pub mod IgnoringCalls
@@ -10,6 +11,7 @@ pub mod ImageElements
 pub mod KnownElements
 pub mod KnownCalls
 pub mod KnownCodeCalls
+pub mod KnownEditCalls
 pub mod KnownIgnoringCalls
 pub mod KnownLegacyCalls
 pub mod KnownNotes

@@ -7,6 +7,9 @@ ghost use Rattle.bi_c.specs.FitElements.{failure_of_list_error};
 use bi_base::{Error, Fault};
 use bi_fit::ConfigError;
 
+/// The number of the reason that an image is of the other kind.
+pub(crate) const WRONG_KIND: u32 = 1;
+
 /// The number of the reason that no node has the path.
 pub(crate) const NO_NODE: u32 = 10;
 

@@ -11,13 +11,10 @@ ghost use Rattle.bi_c.specs.ValueCalls.{value_form_of as value_form_of_number};
 
 use crate::answer::{Answer, fail, fill};
 use crate::arguments::limits_of;
-use crate::failure::{Failure, NO_PROPERTY, failure_of};
+use crate::failure::{Failure, NO_PROPERTY, WRONG_KIND, failure_of};
 use bi_base::Error;
 use bi_values::{GetError, ValueForm, ValueName, get};
 use std::alloc::Global;
-
-/// The number of the reason that an image is of the other kind.
-const WRONG_KIND: u32 = 1;
 
 /// The number of the reason that a value is not one or more texts.
 const NO_TEXT: u32 = 12;

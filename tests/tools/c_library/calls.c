@@ -37,6 +37,10 @@ struct call {
     struct memory words;
     bootimg_region regions[8];
     size_t regions_count;
+    /* What is edited. The words and the payloads are in the input. */
+    struct memory input;
+    bootimg_edit_element edits[16];
+    size_t edits_count;
 };
 
 enum { PART = 1, IMAGE, CONFIG, DEFAULT };
@@ -50,6 +54,9 @@ static uint32_t make(const struct call *call, uint8_t *buffer, size_t size, boot
         return bootimg_normalise(one, one_size, call->form, limit, depth, buffer, size, answer);
     if (strcmp(call->command, "update") == 0)
         return bootimg_update(one, one_size, call->changes, call->time, call->form, limit, depth, buffer, size, answer);
+    if (strcmp(call->command, "edit") == 0)
+        return bootimg_edit(one, one_size, call->input.bytes, call->input.size, call->edits, call->edits_count, call->form, limit, depth,
+                            buffer, size, answer);
     if (strcmp(call->command, "list") == 0)
         return (call->is_json ? bootimg_list_json : bootimg_list)(one, one_size, limit, depth, buffer, size, answer);
     if (strcmp(call->command, "describe") == 0)
@@ -137,6 +144,43 @@ static void note(const struct call *call, const bootimg_result *made)
         fprintf(stderr, "bootimg: note: %zu fixed positions of payloads were not kept\n", room.notes.lost_positions);
 }
 
+/* Writes the notes on what is edited. A struct of the notes is overwritten, and nothing after it. */
+static void note_edits(const struct call *call, const bootimg_result *made)
+{
+    struct {
+        bootimg_edit_note_numbers notes;
+        uint64_t after;
+    } room;
+    bootimg_result answer;
+    memset(&room, 0xc3, sizeof room);
+    CHECK(bootimg_edit_notes(call->files[0].bytes, call->files[0].size, call->input.bytes, call->input.size, call->edits,
+                             call->edits_count, call->form, call->limit, BOOTIMG_DEPTH, &room.notes, &answer) == BOOTIMG_OK);
+    CHECK(room.after == 0xc3c3c3c3c3c3c3c3u && room.notes.signatures == made->value);
+    CHECK(answer.size == 0 && answer.value == 0 && answer.cause == 0 && answer.offset == 0 && answer.file == 0 && answer.reason == 0);
+    if (call->is_quiet)
+        return;
+    if (room.notes.signatures != 0)
+        fprintf(stderr, "bootimg: note: %zu signature nodes carried, not checked\n", room.notes.signatures);
+    if (room.notes.inside != 0)
+        fprintf(stderr, "bootimg: note: %zu payloads are inside the blob now, see --external\n", room.notes.inside);
+    if (room.notes.lost_alignment != 0)
+        fprintf(stderr, "bootimg: note: payloads are no longer aligned to %u bytes, see --align\n", (unsigned)room.notes.lost_alignment);
+    if (room.notes.lost_positions != 0)
+        fprintf(stderr, "bootimg: note: %zu fixed positions of payloads were not kept\n", room.notes.lost_positions);
+}
+
+/* The same on what cannot be edited: the struct is as it was, and the status and the answer are the same. */
+static void note_no_edits(const struct call *call, uint32_t status, const bootimg_result *failed)
+{
+    bootimg_edit_note_numbers notes, before;
+    bootimg_result answer;
+    memset(&notes, 0xc3, sizeof notes);
+    before = notes;
+    CHECK(bootimg_edit_notes(call->files[0].bytes, call->files[0].size, call->input.bytes, call->input.size, call->edits,
+                             call->edits_count, call->form, call->limit, BOOTIMG_DEPTH, &notes, &answer) == status);
+    CHECK(memcmp(&answer, failed, sizeof answer) == 0 && memcmp(&notes, &before, sizeof notes) == 0);
+}
+
 /* The notes on what cannot be made: the struct is as it was, and the status and the answer are the same. */
 static void note_nothing(const struct call *call, uint32_t status, const bootimg_result *failed)
 {
@@ -157,32 +201,55 @@ static const char *const reasons[] = {
     "no name", "no code",
 };
 
+/* Writes why an edit finds nothing. */
+static void tell_edit(const struct call *call, size_t index)
+{
+    const bootimg_edit_element *edit = &call->edits[index];
+    CHECK(index < call->edits_count && edit->kind <= BOOTIMG_EDIT_PAYLOAD && edit->kind != BOOTIMG_EDIT_SET);
+    if (edit->kind == BOOTIMG_EDIT_REMOVE) {
+        fprintf(stderr, "bootimg: %s: nothing to remove %.*s\n", call->paths[0], (int)edit->word.size,
+                call->input.bytes + edit->word.offset);
+        return;
+    }
+    bootimg_result answer;
+    uint32_t status = bootimg_kind(call->files[0].bytes, call->files[0].size, &answer);
+    CHECK(status == BOOTIMG_OK);
+    fprintf(stderr, "bootimg: %s: %s\n", call->paths[0], answer.value == BOOTIMG_FIT ? "no such image" : "no such part");
+}
+
 /* Calls with buffers of several sizes, and writes the output. Returns the exit status of the program. */
 static int run(const struct call *call, FILE *output)
 {
     struct memory buffer, exact;
     bootimg_result answer, again;
     int has_notes = strcmp(call->command, "normalise") == 0 || strcmp(call->command, "update") == 0;
+    int is_edit = strcmp(call->command, "edit") == 0;
     uint32_t status = make_with(call, &buffer, 0, &answer);
     give_back(buffer);
     CHECK((answer.reason != 0) == (status == BOOTIMG_NOT_FOUND));
     CHECK(make(call, NULL, 0, &again) == status && memcmp(&answer, &again, sizeof answer) == 0);
     if (status != BOOTIMG_OK && status != BOOTIMG_NO_ROOM) {
-        CHECK(answer.size == 0 && (answer.reason == BOOTIMG_BAD_WORD ? answer.value < call->regions_count : answer.value == 0));
+        CHECK(answer.size == 0);
+        CHECK(answer.value == 0 || answer.value < (answer.reason == BOOTIMG_BAD_WORD ? call->regions_count : call->edits_count));
         CHECK(make_with(call, &buffer, 100, &again) == status);
         CHECK(memcmp(&answer, &again, sizeof answer) == 0);
         CHECK(is_unchanged(buffer.bytes, 100));
         give_back(buffer);
         if (has_notes)
             note_nothing(call, status, &answer);
+        if (is_edit)
+            note_no_edits(call, status, &answer);
         if (status == BOOTIMG_REFUSED)
             tell(call, &answer);
         else
             CHECK(answer.cause == 0 && answer.offset == 0 && answer.file == 0);
-        if (answer.reason == BOOTIMG_BAD_WORD) {
+        if (answer.reason == BOOTIMG_BAD_WORD || answer.reason == BOOTIMG_BAD_EDIT) {
             fputs("bootimg: usage: bad value\n", stderr);
+        } else if (answer.reason == BOOTIMG_FINDS_NOTHING) {
+            tell_edit(call, answer.value);
         } else if (status == BOOTIMG_NOT_FOUND && !call->is_quiet) {
-            CHECK(strcmp(call->command, "get") == 0 ? answer.reason <= BOOTIMG_NO_NUMBER : answer.reason == BOOTIMG_NO_NAME);
+            CHECK(is_edit ? answer.reason == BOOTIMG_WRONG_KIND
+                          : strcmp(call->command, "get") == 0 ? answer.reason <= BOOTIMG_NO_NUMBER : answer.reason == BOOTIMG_NO_NAME);
             fprintf(stderr, "bootimg: %s: %s\n", call->paths[0], reasons[answer.reason]);
         }
         return status == BOOTIMG_REFUSED || status == BOOTIMG_NOT_FOUND ? 2 : 10 + (int)status;
@@ -205,6 +272,8 @@ static int run(const struct call *call, FILE *output)
     give_back(exact);
     if (has_notes)
         note(call, &answer);
+    if (is_edit)
+        note_edits(call, &answer);
     if (strcmp(call->command, "scan") == 0)
         return answer.size == (call->is_json ? strlen("{\"images\":[]}\n") : 0);
     if (strcmp(call->command, "compare") == 0 && call->regions_count == 0) {
@@ -278,10 +347,51 @@ static const struct {
     int is_json;
 } of_one[] = {
     {"normalise", 0}, {"update", 0}, {"convert", 0}, {"list", 0}, {"list", 1}, {"describe", 0}, {"describe", 1}, {"verify", 0},
-    {"verify", 1}, {"check", 0}, {"check", 1}, {"show", 0}, {"show", 1}, {"get", 0}, {"scan", 0}, {"scan", 1},
+    {"verify", 1}, {"check", 0}, {"check", 1}, {"show", 0}, {"show", 1}, {"get", 0}, {"scan", 0}, {"scan", 1}, {"edit", 0},
 };
 
 enum { CALLS_OF_ONE = sizeof of_one / sizeof of_one[0] };
+
+/* A call of bootimg_edit on a file, with one byte of room, that fails with this status and this reason. */
+static void try_edit(const struct memory file, const char *input, const bootimg_edit_element *edits, size_t count, uint32_t form,
+                     uint32_t limit, uint32_t depth, uint32_t status, uint32_t reason, size_t value)
+{
+    bootimg_edit_note_numbers notes = {1, 2, 3, 4};
+    bootimg_result answer;
+    uint8_t byte = 0xa5;
+    size_t size = strlen(input);
+    CHECK(bootimg_edit(file.bytes, file.size, (const uint8_t *)input, size, edits, count, form, limit, depth, &byte, 1, &answer) == status);
+    CHECK(byte == 0xa5 && answer.size == 0 && answer.value == value && answer.reason == reason);
+    CHECK(bootimg_edit_notes(file.bytes, file.size, (const uint8_t *)input, size, edits, count, form, limit, depth, &notes, &answer) == status);
+    CHECK(notes.signatures == 1 && notes.lost_positions == 2 && notes.inside == 3 && notes.lost_alignment == 4);
+    CHECK(answer.size == 0 && answer.value == value && answer.reason == reason);
+}
+
+/* What is no edit is a wrong argument, even after an edit whose word is for none. That one is found before the file is read. */
+static void try_edits(const struct call *call)
+{
+    static const uint32_t limits[] = {0, 63, 0x80000000u}, depths[] = {0, 65, 257}, forms[] = {3, 5, 4097, 0x200000};
+    const struct memory file = call->files[0], none = {.bytes = NULL, .size = 0};
+    const bootimg_edit_element time = {{0, 0}, {0, 0}, BOOTIMG_EDIT_TIME, 5}, bad = {{0, 1}, {0, 0}, BOOTIMG_EDIT_REMOVE, 0};
+    const bootimg_edit_element wrong[] = {
+        {{0, 0}, {0, 0}, BOOTIMG_EDIT_COMPRESSION + 1, 0}, {{0, 0}, {0, 0}, 0xffffffffu, 0},  {{0, 0}, {0, 0}, BOOTIMG_EDIT_OS, 256},
+        {{0, 0}, {0, 0}, BOOTIMG_EDIT_ARCH, 256},          {{0, 0}, {0, 0}, BOOTIMG_EDIT_COMPRESSION, 256},
+        {{0, 3}, {0, 0}, BOOTIMG_EDIT_TIME, 5},            {{0, 0}, {3, 0}, BOOTIMG_EDIT_HASHES, 0},
+        {{0, 1}, {2, (size_t)-1}, BOOTIMG_EDIT_PAYLOAD, 0}, {{(size_t)-1, 2}, {0, 0}, BOOTIMG_EDIT_REMOVE, 0},
+    };
+    for (size_t i = 0; i < 3; i++) {
+        try_edit(file, "", &time, 1, 0, limits[i], 64, BOOTIMG_WRONG_ARGUMENT, 0, 0);
+        try_edit(file, "", &time, 1, 0, call->limit, depths[i], BOOTIMG_WRONG_ARGUMENT, 0, 0);
+    }
+    for (size_t i = 0; i < sizeof forms / sizeof forms[0]; i++)
+        try_edit(file, "", &time, 1, forms[i], call->limit, 64, BOOTIMG_WRONG_ARGUMENT, 0, 0);
+    for (size_t i = 0; i < sizeof wrong / sizeof wrong[0]; i++) {
+        const bootimg_edit_element edits[] = {time, bad, wrong[i], bad};
+        try_edit(file, "xy", edits, 4, 0, call->limit, 64, BOOTIMG_WRONG_ARGUMENT, 0, 0);
+        try_edit(none, "xy", edits, 2, BOOTIMG_KEEP_FORM, 64, 1, BOOTIMG_NOT_FOUND, BOOTIMG_BAD_EDIT, 1);
+    }
+    try_edit(none, "", &time, 1, 0, call->limit, 64, BOOTIMG_REFUSED, 0, 0);
+}
 
 /* Calls whose numbers are out of their ranges leave the buffer as it is. */
 static int try_arguments(struct call *call)
@@ -334,6 +444,7 @@ static int try_arguments(struct call *call)
               BOOTIMG_WRONG_ARGUMENT);
         CHECK(answer.value == 0 && answer.reason == 0);
     }
+    try_edits(call);
     for (int selection = PART; selection <= DEFAULT; selection++) {
         struct call wrong = *call;
         wrong.selection = selection;
@@ -501,6 +612,36 @@ static void add_word(struct call *call, const char *word)
     call->words = more;
 }
 
+/* Adds bytes to the input of edits, and returns where they are. */
+static bootimg_region add_input(struct call *call, const uint8_t *bytes, size_t size)
+{
+    struct memory more = take(call->input.size + size);
+    const bootimg_region region = {call->input.size, size};
+    if (call->input.size != 0)
+        memcpy(more.bytes, call->input.bytes, call->input.size);
+    if (size != 0)
+        memcpy(more.bytes + call->input.size, bytes, size);
+    if (call->input.map != NULL)
+        give_back(call->input);
+    call->input = more;
+    return region;
+}
+
+/* Adds an edit with a word, and the file of its payload, if there is one. */
+static void add_edit(struct call *call, uint32_t kind, const char *word, uint32_t number, const char *path)
+{
+    bootimg_edit_element *edit = &call->edits[call->edits_count++];
+    CHECK(call->edits_count <= sizeof call->edits / sizeof call->edits[0]);
+    edit->kind = kind;
+    edit->number = number;
+    edit->word = add_input(call, (const uint8_t *)word, strlen(word));
+    if (path != NULL) {
+        struct memory payload = read_file(path);
+        edit->payload = add_input(call, payload.bytes, payload.size);
+        give_back(payload);
+    }
+}
+
 /* The number of a form of values. */
 static uint32_t form_of(const char *word)
 {
@@ -573,6 +714,14 @@ int main(int count, char **words)
             call.property = bytes_of(words[++i]);
         } else if (strcmp(words[i], "--ignore") == 0) {
             add_word(&call, words[++i]);
+        } else if (strcmp(words[i], "--edit") == 0) {
+            add_edit(&call, (uint32_t)strtoul(words[i + 1], NULL, 10), words[i + 2], (uint32_t)strtoul(words[i + 3], NULL, 0), NULL);
+            i += 3;
+        } else if (strcmp(words[i], "--payload") == 0) {
+            add_edit(&call, BOOTIMG_EDIT_PAYLOAD, words[i + 1], 0, words[i + 2]);
+            i += 2;
+        } else if (strcmp(words[i], "--keep-form") == 0) {
+            call.form = BOOTIMG_KEEP_FORM;
         } else if (strcmp(words[i], "--index") == 0) {
             call.index = (uint32_t)strtoul(words[++i], NULL, 0);
         } else {
@@ -612,6 +761,8 @@ int main(int count, char **words)
         give_back(call.property);
     if (call.words.map != NULL)
         give_back(call.words);
+    if (call.input.map != NULL)
+        give_back(call.input);
     give_back(call.place);
     while (files > 0)
         give_back(call.files[--files]);

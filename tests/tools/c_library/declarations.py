@@ -30,6 +30,8 @@ STRUCTS = {
     "BuildTexts": "bootimg_build_texts",
     "BuildConfiguration": "bootimg_build_configuration",
     "BuildOptions": "bootimg_build_options",
+    "EditElement": "bootimg_edit_element",
+    "EditNoteNumbers": "bootimg_edit_note_numbers",
 }
 # What a parameter of the source is in C.
 TYPES = {"Global": [], "&[u8]": ["const uint8_t *", "size_t"]}
@@ -102,6 +104,8 @@ FOUND = [
     ("", "codes.rt", r"const (?P<name>[A-Z_]+): u32 = (?P<number>\d+);"),
     ("", "values.rt", r"const (?P<name>[A-Z_]+): u32 = (?P<number>\d+);"),
     ("", "ignoring.rt", r"const (?P<name>[A-Z_]+): u32 = (?P<number>\d+);"),
+    ("", "edits.rt", r"const (?P<name>BAD_EDIT|FINDS_NOTHING|KEEP_FORM): u32 = (?P<number>\d+);"),
+    ("EDIT_", "edits.rt", r"const (?P<name>(?!BAD_EDIT|FINDS_NOTHING|KEEP_FORM)[A-Z]+): u32 = (?P<number>\d+);"),
     ("ELEMENT_", "all_nodes.rt", r"const (?P<name>[A-Z_]+): u32 = (?P<number>\d+);"),
     ("VALUE_", "values.rt", r"(?P<number>\d+) => Some\(ValueForm::(?P<name>\w+)\)"),
     ("PLACE_", "images.rt", r"Place::(?P<name>\w+)(?:\(offset\))? => \((?:0|offset as usize), (?P<number>\d+)\)"),

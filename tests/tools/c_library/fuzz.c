@@ -67,7 +67,7 @@ static void repair(uint8_t *file, size_t size)
 
 /* The calls with a buffer, after those with an array. */
 enum {
-    NORMALISE = ARRAYS, UPDATE, CONVERT, LIST, LIST_JSON, SCAN, SCAN_JSON, DESCRIBE, DESCRIBE_JSON, SHOW, SHOW_JSON, VERIFY, VERIFY_JSON,
+    NORMALISE = ARRAYS, UPDATE, EDIT, CONVERT, LIST, LIST_JSON, SCAN, SCAN_JSON, DESCRIBE, DESCRIBE_JSON, SHOW, SHOW_JSON, VERIFY, VERIFY_JSON,
     CHECK_LINES, CHECK_JSON, COMPARE, COMPARE_JSON, IGNORING, IGNORING_JSON, GET, CODE_NAME, CAUSE_NAME, EXPLAIN, VERSION, CALLS
 };
 
@@ -79,6 +79,26 @@ static size_t element_size(int call)
     return call < ARRAYS ? element_sizes[call] : 1;
 }
 
+/* Three edits whose words are of the name, or the name itself. A few are those of none. */
+static const bootimg_edit_element *edits_of(const struct choice *c)
+{
+    static bootimg_edit_element edits[3];
+    for (uint32_t i = 0; i < 3; i++) {
+        const uint32_t bits = c->time >> (8 * i);
+        edits[i].word = (bootimg_region){bits & 16 ? c->name_size / 2 : 0, bits & 16 ? c->name_size - c->name_size / 2 : c->name_size};
+        edits[i].payload = (bootimg_region){0, bits >> 5 & 3};
+        edits[i].kind = bits % 12;
+        edits[i].number = c->number + (bits & 128);
+    }
+    return edits;
+}
+
+/* The form of edits. */
+static uint32_t edit_form(const struct choice *c)
+{
+    return forms[c->number / 8 % 8];
+}
+
 static uint32_t make_text(const struct choice *c, int call, uint8_t *to, size_t room, bootimg_result *answer)
 {
     const bootimg_region words[] = {{0, c->name_size}, {c->time >> 24, c->time >> 16 & 15}};
@@ -87,6 +107,9 @@ static uint32_t make_text(const struct choice *c, int call, uint8_t *to, size_t 
         return bootimg_normalise(c->file, c->size, forms[c->number % 8], c->limit, c->depth, to, room, answer);
     case UPDATE:
         return bootimg_update(c->file, c->size, c->number % 5, c->time, forms[c->number / 8 % 8], c->limit, c->depth, to, room, answer);
+    case EDIT:
+        return bootimg_edit(c->file, c->size, c->name, c->name_size, edits_of(c), c->number % 4, edit_form(c), c->limit, c->depth, to, room,
+                            answer);
     case CONVERT:
         return bootimg_convert(c->file, c->size, c->limit, c->depth, to, room, answer);
     case LIST:
@@ -151,7 +174,7 @@ static void check_answer(uint32_t status, const bootimg_result *answer)
     CHECK((answer->cause != 0) == (status == BOOTIMG_REFUSED) && answer->cause <= BOOTIMG_CAUSE_UNSUPPORTED);
     CHECK((answer->file != 0) == (status == BOOTIMG_REFUSED) && answer->file <= 2);
     CHECK(answer->offset == 0 || status == BOOTIMG_REFUSED);
-    CHECK((answer->reason != 0) == (status == BOOTIMG_NOT_FOUND) && answer->reason <= BOOTIMG_BAD_WORD);
+    CHECK((answer->reason != 0) == (status == BOOTIMG_NOT_FOUND) && answer->reason <= BOOTIMG_FINDS_NOTHING);
     CHECK(answer->size == 0 || status == BOOTIMG_OK || status == BOOTIMG_NO_ROOM);
 }
 
@@ -324,6 +347,23 @@ static void try_notes(const struct choice *c)
     CHECK(form == BOOTIMG_EXTERNAL || (notes.lost_alignment == 0 && notes.lost_positions == 0));
 }
 
+/* The notes are on what is edited. */
+static void try_edit_notes(const struct choice *c)
+{
+    bootimg_edit_note_numbers notes = {0, 0, 0, 0};
+    bootimg_result edited, answer;
+    const uint32_t form = edit_form(c), status = try_call(c, EDIT, &edited);
+    const uint32_t noted = bootimg_edit_notes(c->file, c->size, c->name, c->name_size, edits_of(c), c->number % 4, form, c->limit, c->depth,
+                                              &notes, &answer);
+    check_answer(noted, &answer);
+    CHECK(noted == (status == BOOTIMG_NO_ROOM ? BOOTIMG_OK : status));
+    CHECK(noted == BOOTIMG_OK ? notes.signatures == edited.value : notes.signatures == 0);
+    CHECK((notes.lost_alignment & (notes.lost_alignment - 1)) == 0);
+    CHECK(form == BOOTIMG_EXTERNAL || notes.lost_alignment == 0);
+    CHECK(form == BOOTIMG_EXTERNAL || form == BOOTIMG_KEEP_FORM || notes.lost_positions == 0);
+    CHECK(form == BOOTIMG_EMBEDDED || notes.inside == 0);
+}
+
 /* Makes the calls without a buffer. */
 static void try_others(const struct choice *c)
 {
@@ -409,6 +449,7 @@ int LLVMFuzzerTestOneInput(const uint8_t *data, size_t size)
     try_verdicts(&c);
     try_concerns(&c);
     try_notes(&c);
+    try_edit_notes(&c);
     try_build(&c);
     try_others(&c);
     return 0;

@@ -96,6 +96,29 @@ static uint32_t make(int call, uint8_t *buffer, bootimg_result *answer)
                                     &(bootimg_build_configuration){.name = {0, 1}, .compatible = {0, 1}, .kernel = {1, 1}}, 1,
                                     (const bootimg_region[]){{0, 2}, {0, 1}}, 2,
                                     (const uint32_t[]){BOOTIMG_ALGORITHM_MD5, BOOTIMG_ALGORITHM_SHA384}, 2, buffer, sizeof text, answer);
+    case 41:
+        return bootimg_edit(file, size, (const uint8_t *)"/images/x y 0x001name", 21,
+                            (const bootimg_edit_element[]){
+                                {{0, 16}, {0, 0}, BOOTIMG_EDIT_SET, 0},
+                                {{0, 0}, {0, 0}, BOOTIMG_EDIT_TIME, 7},
+                                {{0, 0}, {0, 0}, BOOTIMG_EDIT_HASHES, 0},
+                            },
+                            3, BOOTIMG_KEEP_FORM, BOOTIMG_LIMIT, 64, buffer, sizeof text, answer);
+    case 42:
+        return bootimg_edit_notes(file, size, (const uint8_t *)"/images/x y 0x001name", 21,
+                                  (const bootimg_edit_element[]){
+                                      {{17, 4}, {0, 0}, BOOTIMG_EDIT_NAME, 0},
+                                      {{16, 1}, {0, 21}, BOOTIMG_EDIT_PAYLOAD, 0},
+                                      {{0, 0}, {0, 0}, BOOTIMG_EDIT_OS, 17},
+                                  },
+                                  3, BOOTIMG_EXTERNAL, BOOTIMG_LIMIT, 64, (void *)buffer, answer);
+    case 43:
+        return bootimg_edit(file, size, (const uint8_t *)"/configurations/conf-1kernel-1", 30,
+                            (const bootimg_edit_element[]){
+                                {{0, 22}, {0, 0}, BOOTIMG_EDIT_REMOVE, 0},
+                                {{22, 8}, {0, 3}, BOOTIMG_EDIT_PAYLOAD, 0},
+                            },
+                            2, BOOTIMG_EMBEDDED, BOOTIMG_LIMIT, 64, buffer, sizeof text, answer);
     default: return bootimg_listed(file, size, name, 6, BOOTIMG_KERNEL, BOOTIMG_LIMIT, 64, (void *)buffer, 100, answer);
     }
 }
@@ -131,7 +154,7 @@ int main(int count, char **words)
     size = input == NULL ? 0 : fread(file, 1, sizeof file, input);
     if (size == 0)
         return 2;
-    for (int call = 0; call <= 41; call++) {
+    for (int call = 0; call <= 44; call++) {
         bootimg_result expected;
         uint32_t status;
         memset(wanted, 0xa5, sizeof wanted);

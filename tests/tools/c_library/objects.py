@@ -349,6 +349,33 @@ with bootimg.open(aligned) as one:
     check("the form of the same alignment", one.normalise(external=True, align=4096) == aligned)
     check("four is the alignment of the external form", one.normalise(True, align=4) == one.normalise(True))
     check("an update has it too", one.update(0, False, True, align=4096) == aligned)
+    edited = one.edit(set=["/ x 0x01"], keep_form=True)
+    check("the form of the file is kept", edited == one.edit(set=["/ x 0x01"], external=True, align=4096) != one.edit(set=["/ x 0x01"]))
+    check("what was set is there", bootimg.get(edited, "/", "x") == b"0x01\n")
+    noted = [bootimg.edit_notes(aligned, time=5, **form) for form in ({}, {"external": True}, {"keep_form": True})]
+    check("the notes on edits", noted == [(0, None, 0, 2), (0, 4096, 0, 0), (0, None, 0, 0)])
+for place, wrong in ("set", ["/"]), ("remove", ["/images"]), ("fields", {"size": 1}), ("fields", {"os": "none"}), ("fields", {"load": "1"}):
+    try:
+        bootimg.edit(aligned, **{place: wrong})
+        check(f"no such edit: {place} {wrong}", False)
+    except bootimg.WrongArgument:
+        check(f"no such edit: {place} {wrong}", True)
+for place, wrong, reason, index in (
+    ("remove", ["/configurations", "/none"], "nothing to remove", 1),
+    ("payloads", {"a": b"", "none": b""}, "no such image", 1),
+    ("fields", {"os": "linux"}, "the selection does not fit this kind of image", None),
+):
+    try:
+        bootimg.edit(aligned, **{place: wrong})
+        check(f"an edit finds nothing: {place}", False)
+    except bootimg.NotFound as missing:
+        check(f"an edit finds nothing: {place}", (missing.reason, missing.index) == (reason, index))
+for form in {"keep_form": True, "external": True}, {"keep_form": True, "align": 8}, {"align": 2}, {"external": True, "align": 2}:
+    try:
+        bootimg.edit(aligned, **form)
+        check(f"no such form: {form}", False)
+    except bootimg.WrongArgument:
+        check(f"no such form: {form}", True)
 for external, align in (True, 0), (True, 1), (True, 2), (True, 12), (True, 1 << 21), (True, -4), (True, 1 << 32), (False, 4):
     for call in bootimg.normalise, bootimg.notes:
         found = raises(bootimg.WrongArgument, call, aligned, external=external, align=align)

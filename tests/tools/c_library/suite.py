@@ -12,6 +12,7 @@ import os
 import re
 import subprocess
 import sys
+import urllib.parse
 from concurrent.futures import ThreadPoolExecutor
 from pathlib import Path
 
@@ -155,6 +156,146 @@ def gotten(entry):
     return wrong
 
 
+# The options of an update that edits, and those that have a value.
+EDITS = {"--remove", "--set", "--payload", "--keep-form"}
+EDITS_WITH_VALUE = {"--remove", "--set", "--payload", "--time", "--limit", "--align"}
+
+
+class NoCall(Exception):
+    """A run that is none of one call of the library."""
+
+
+def options_of_edits(words):
+    """The options of a run that edits, each with its values."""
+    options = {}
+    while words:
+        option = words.pop(0)
+        if option not in EDITS_WITH_VALUE | {"--keep-form", "--external", "--hashes"} or option in EDITS_WITH_VALUE and not words:
+            raise NoCall
+        options.setdefault(option, []).append(words.pop(0) if option in EDITS_WITH_VALUE else True)
+    many = {"--remove", "--set", "--payload"}
+    if not EDITS & {*options} or any(len(values) > 1 for option, values in options.items() if option not in many):
+        raise NoCall
+    return options
+
+
+def single_number(options, option, least=0, most=0xFFFFFFFF):
+    """The number of an option, if it is there."""
+    if option not in options:
+        return None
+    number = number_of(options[option][0], least, most)
+    if number is None:
+        raise NoCall
+    return int(number)
+
+
+def field_of(word):
+    """The name and the value of a field of a legacy image, by the word that sets it."""
+    field, _, value = word.partition(" ")
+    if field == "name":
+        name = b"" if value == "-" else urllib.parse.unquote_to_bytes(value)
+        if bootimg._shown(os.fsdecode(name)) == value:
+            return field, name
+    if field in ("time", "load", "entry") and number_of(value):
+        return field, int(number_of(value))
+    if field in bootimg.CODES and field != "type":
+        code = number_of(value, 0, 255)
+        return field, bootimg.code_number(field, value if code is None else int(code))
+    raise NoCall
+
+
+def parameters_of_edits(path, words):
+    """The parameters of a call of `edit` of the module that does what a run does. A place that is edited twice is a fault of the command
+    line alone."""
+    options = options_of_edits([*words])
+    settings, payloads = options.get("--set", []), [word.partition("=@")[::2] for word in options.get("--payload", [])]
+    fields = [field_of(word) for word in settings if not word.startswith("/")]
+    places = [tuple(word.split(" ")[:2]) for word in settings if word.startswith("/")] + [name for name, _ in fields + payloads]
+    if len({*places}) != len(places) or not all(file and (runs / file).is_file() for _, file in payloads):
+        raise NoCall
+    fields, limit = dict(fields), single_number(options, "--limit", 64, bootimg.LIMIT) or bootimg.LIMIT
+    time, given = fields.pop("time", None), single_number(options, "--time")
+    is_fit = path.read_bytes()[:4] == b"\xd0\x0d\xfe\xed"
+    if any((runs / file).stat().st_size > limit for _, file in payloads) or time is not None and is_fit:
+        raise NoCall
+    return {
+        "remove": options.get("--remove", []),
+        "set": [word for word in settings if word.startswith("/")],
+        "payloads": {name: (runs / file).read_bytes() for name, file in payloads},
+        "fields": fields,
+        "time": time if given is None else given,
+        "hashes": "--hashes" in options,
+        "external": "--external" in options,
+        "align": single_number(options, "--align"),
+        "keep_form": "--keep-form" in options,
+        "limit": limit,
+    }, {name: str(runs / file) for name, file in payloads}
+
+
+def arguments_of_edits(parameters, paths):
+    """The arguments of calls.c for the same."""
+    edits = [(0, word, 0) for word in parameters["remove"]] + [(1, word, 0) for word in parameters["set"]]
+    kinds = {"load": 6, "entry": 7, "os": 8, "arch": 9, "compression": 10}
+    edits += [(5, value, 0) if field == "name" else (kinds[field], "", value) for field, value in parameters["fields"].items()]
+    edits += [(3, "", parameters["time"])] if parameters["time"] is not None else []
+    edits += [(4, "", 0)] if parameters["hashes"] else []
+    forms = parameters["external"] + parameters["keep_form"], parameters["align"] is not None and not parameters["external"]
+    if max(forms) > 1 or forms[1] or parameters["align"] in (0, 1) or b"\0" in parameters["fields"].get("name", b""):
+        raise NoCall
+    words = [word for kind, name, number in edits for word in ("--edit", str(kind), name, str(number))]
+    words += [word for name, path in paths.items() for word in ("--payload", name, path)]
+    words += ["--external"] if parameters["external"] else ["--keep-form"] if parameters["keep_form"] else []
+    return words + (["--align", str(parameters["align"])] if parameters["align"] else []) + ["--limit", str(parameters["limit"])]
+
+
+def notes_of_edits(notes):
+    """The notes of the program on what is edited."""
+    lines = [f"{notes.signatures} signature nodes carried, not checked"] * (notes.signatures > 0)
+    lines += [f"{notes.inside} payloads are inside the blob now, see --external"] * (notes.inside > 0)
+    lines += [f"payloads are no longer aligned to {notes.lost_alignment} bytes, see --align"] * (notes.lost_alignment is not None)
+    lines += [f"{notes.lost_positions} fixed positions of payloads were not kept"] * (notes.lost_positions > 0)
+    return "".join(f"bootimg: note: {line}\n" for line in lines)
+
+
+def edits_by_module(path, parameters):
+    """What the module does with an update that edits, as the program: the status, the output and the errors."""
+    file, line = path.read_bytes(), f"bootimg: {path}: "
+    try:
+        return 0, bootimg.edit(file, **parameters), notes_of_edits(bootimg.edit_notes(file, **parameters))
+    except bootimg.WrongArgument:
+        return 2, b"", "bootimg: usage: bad value\n"
+    except bootimg.NotFound as missing:
+        word = f" {parameters['remove'][missing.index]}" if missing.reason == "nothing to remove" else ""
+        return 2, b"", f"{line}{missing.reason}{word}\n"
+    except bootimg.Refused as refused:
+        return 2, b"", f"{line}{refused}\n"
+
+
+def edited(entry):
+    """How the module and the call for C differ from the program on a run that edits, or None if it is none of one call."""
+    command, *words = entry["arguments"] or [""]
+    path = runs / entry["file"] if entry["file"] else None
+    if command != "update" or not path or not path.exists():
+        return None
+    try:
+        parameters, paths = parameters_of_edits(path, words)
+    except (NoCall, bootimg.WrongArgument):
+        return None
+    named = [word.replace("=@", f"=@{runs}/", 1) if last == "--payload" else word for last, word in zip(["", *words], words)]
+    status, output, errors = outcome([program.resolve(), "update", *named, path])
+    wanted = status, output, errors.decode()
+    wrong = [f"bootimg.edit: {' '.join(words)}"] if edits_by_module(path, parameters) != wanted else []
+    try:
+        by_calls = outcome([calls.resolve(), "edit", *arguments_of_edits(parameters, paths), path])
+    except NoCall:
+        return wrong
+    if (2 if by_calls[0] == 14 else by_calls[0], *by_calls[1:]) != (status, output, errors) and not (
+        by_calls[0] == 14 and b"bad value" in errors
+    ):
+        wrong.append(f"calls.c: {' '.join(words)}")
+    return wrong
+
+
 with open(runs / "runs.json", encoding="utf-8") as file:
     entries = json.load(file)
 passed = failed = 0
@@ -176,6 +317,15 @@ for found in values:
         print(f"FAILED: {name}")
 if len(values) < 30:
     print("FAILED: too few runs get one value")
+
+of_edits = [found for found in map(edited, entries) if found is not None]
+passed += sum(2 - len(found) for found in of_edits)
+failed += sum(map(len, of_edits)) + (len(of_edits) < 80)
+for found in of_edits:
+    for name in found:
+        print(f"FAILED: {name}")
+if len(of_edits) < 80:
+    print("FAILED: too few runs edit")
 
 # Each code has its first name.
 named = [
