@@ -1,5 +1,5 @@
 #!/bin/sh
-# Starts U-Boot of Debian's packages under qemu, with images that the program builds, converts, updates and normalises. U-Boot must find
+# Starts U-Boot of Debian's packages under qemu, with images that the program builds, converts, edits and normalises. U-Boot must find
 # their checksums and hashes right, run their scripts, and start their kernels, each with its ramdisk and its devicetree. It must print
 # the fields, places and hashes that the program prints. Both must refuse the same images with a flipped byte.
 #
@@ -131,7 +131,23 @@ check "a tree is normalised, with aligned payloads after it" \
     bootimg normalise --external --align 512 images/mkimage.itb -o images/aligned.itb
 check "mkimage makes a tree with aligned payloads after it" mkimage -E -B 200 -f mkimage.its images/mkaligned.itb
 check "the two aligned trees mean the same" bootimg compare images/aligned.itb images/mkaligned.itb
-trees="built.itb converted.itb updated.itb normal.itb external.itb aligned.itb mkaligned.itb"
+
+# Edits of a tree of mkimage with payloads after the blob: all payloads are others, and the entry point is set.
+make_payloads edited
+sed 's/entry = <0x41000004>/entry = <0>/' mkimage.its > page.its
+check "mkimage makes a tree with payloads at pages" mkimage -E -B 0x1000 -f page.its page.itb
+
+# edit IMAGE OPTION..: edits the tree of mkimage.
+edit() {
+    image=$1
+    shift
+    bootimg update "$@" --hashes --set '/images/kernel-1 entry 0x41000004' --payload kernel-1=@edited.kernel \
+        --payload ramdisk-1=@edited.ramdisk --payload fdt-1=@edited.dtb --payload script-1=@edited.script page.itb \
+        -o "images/$image"
+}
+check "a tree is edited" edit edited.itb
+check "a tree is edited, with the payloads where they were" edit kept.itb --keep-form
+trees="built.itb converted.itb updated.itb normal.itb external.itb aligned.itb mkaligned.itb edited.itb kept.itb"
 
 # Trees that U-Boot refuses: without a time, without a description, and with a unit address.
 check "a tree without a time" bootimg update --hashes updated.dtb -o images/untimed.itb
@@ -306,7 +322,8 @@ done
 # payloads_of TREE: prints what the payloads of this tree are named after.
 payloads_of() {
     case $1 in
-    built.itb | updated.itb) echo "${1%.itb}" ;;
+    built.itb | updated.itb | edited.itb) echo "${1%.itb}" ;;
+    kept.itb) echo edited ;;
     converted.itb) echo legacy ;;
     *) echo mkimage ;;
     esac
@@ -314,12 +331,12 @@ payloads_of() {
 
 # Scripts and a program. U-Boot 2023.01 cannot run a script whose payload is after the blob, whoever made the tree.
 check "a script runs" answers script.uimage "status 0" "script of legacy"
-for tree in built.itb updated.itb normal.itb; do
+for tree in built.itb updated.itb normal.itb edited.itb; do
     check "the script of $tree runs" answers "script-$tree" "status 0" "(.* )?script of $(payloads_of "$tree")"
 done
 tail -n +2 answers/script-mkimage.itb > wanted
 for tree in $trees; do
-    case $tree in external.itb | aligned.itb | mkaligned.itb)
+    case $tree in external.itb | aligned.itb | mkaligned.itb | kept.itb)
         check "U-Boot does with the script of $tree what it does with that of mkimage's" \
             sh -c 'tail -n +2 "$1" | diff wanted -' sh "answers/script-$tree"
         ;;

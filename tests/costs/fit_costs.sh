@@ -4,8 +4,8 @@
 # times what sha256sum takes, if ten times as many take more than forty times as long, if verify, check or describe of 1,100 images
 # that have one region as their payload takes more than ten times what sha256sum takes, if a command refuses payloads that are together
 # over the limit no sooner than in twenty times that time, as it would after it had hashed them, if describe or check of a large payload
-# takes more than twice as long as verify, which computes the same digest, or if a command with --json takes more than five times as
-# long as without it. Each bound of time is about twice what was measured, or more, since other work on the machine disturbs it. Each time
+# takes more than twice as long as verify, which computes the same digest, if a command with --json takes more than five times as
+# long as without it, or if a hundred edits of 10,000 images take more than twice as long as one. Each bound of time is about twice what was measured, or more, since other work on the machine disturbs it. Each time
 # is the least of five rounds. How many times as long a file or a command takes as another is the median of the rounds. The script needs
 # python3 and coreutils.
 # With ten times as many images, n log n comparisons are 12.5 times as many, and the larger maps are more often outside the caches of
@@ -111,6 +111,19 @@ def ratio(runs, others):
     return statistics.median(seconds / other for (seconds, _), (other, _) in zip(runs, others))
 
 
+def edits(images):
+    """Returns the options for an edit of each of these images: its hash node is removed, its address is set, or it has a new payload."""
+    words = []
+    for image, number in enumerate(images):
+        option, word = [
+            ("--remove", f"/images/image-{number}/hash-1"),
+            ("--set", f"/images/image-{number} load 0x00000001"),
+            ("--payload", f"image-{number}=@new"),
+        ][image % 3]
+        words += [option, word]
+    return words
+
+
 FILES = ["large", "many", "more", "configured"]
 COMMANDS = {
     "list": ["list"],
@@ -141,6 +154,8 @@ REFUSING = {
 }
 # How many times as long as without --json a command may take with it.
 JSON = 5
+# How many times as long as one edit a hundred edits may take.
+EDITS = 2
 
 failures = 0
 
@@ -158,6 +173,8 @@ if sys.argv[1] == "make":
     make("many.other", [b"%d" % (index + 1) for index in range(10_000)])
     make("more.other", [b"%d" % (index + 1) for index in range(100_000)])
     make("configured", [b"%d" % index for index in range(10_000)], 10_000)
+    with open("new", "wb") as file:
+        file.write(b"new")
     make_shared("shared", MIB, 1_100)
     make_overlapping("overlapping", 2 * MIB, 1_100)
     sys.exit()
@@ -200,6 +217,10 @@ for path, *words in [*with_json, ("more", "compare", "-", "FILE.other")]:
     runs, without = zip(*([run(path, [PROGRAM, *words, *json], wanted) for json in (["--json"], [])] for _ in range(ROUNDS)))
     times = ratio(runs, without)
     judge(f"{path}, {words[0]} --json", times <= JSON, f"{least(runs)[0]:.3f} s, {times:.2f} times as long as without --json")
+one, hundred = [[PROGRAM, "update", *edits(images)] for images in ([5_000], range(0, 10_000, 100))]
+runs, single = zip(*([run("many", hundred), run("many", one)] for _ in range(ROUNDS)))
+times = ratio(runs, single)
+judge("many, a hundred edits", times <= EDITS, f"{least(runs)[0]:.3f} s, {times:.2f} times as long as one")
 sys.exit(failures != 0)
 END
 # The trees are made by another process: what a process has used counts for the memory of those that it starts.
@@ -207,5 +228,5 @@ program=$root/crates/bootimg/out/bootimg
 python_with_blobs costs.py make
 python_with_blobs costs.py "$program" | tee costs
 add_counts "$(grep -c '^ok: ' costs)" "$(grep -c '^FAILED: ' costs)"
-[ "$(grep -c '^ok: \|^FAILED: ' costs)" = 48 ] || add_counts 0 1
+[ "$(grep -c '^ok: \|^FAILED: ' costs)" = 49 ] || add_counts 0 1
 finish
