@@ -1,11 +1,13 @@
-use Rattle.std.proofs.Common.{◌≡◌, ℕ, Bool, true, false, List, [], ◌∷◌, Option, Some, None, bytes_eq, is_some, option_map, refl, sym, ap, subst, ◌∙◌}
+use Rattle.std.proofs.Common.{◌≡◌, ℕ, Bool, true, false, List, [], ◌∷◌, Option, Some, None, bytes_eq, is_some, option_map, refl, sym, ap}
+use Rattle.std.proofs.Common.{subst, ◌∙◌}
 use Rattle.std.proofs.Common.{nat_cmp, true≢false}
 use Rattle.std.specs.Option.{option_and_then}
 use Rattle.std.specs.FinMap.{empty, get, get-empty}
 use Rattle.std.specs.Cmp.Lexicographic.{slice_cmp}
 use Rattle.bi_base.proofs.EqualBytes.{same_bytes}
 use Rattle.bi_blob.specs.Tree.{Nodes, none, node, Root, PropertyMap}
-use Rattle.bi_tree.specs.Changes.{child_named, node_by_path, with_change_at, with_new_node, with_node, with_node_at, without_node, without_node_at}
+use Rattle.bi_tree.specs.Changes.{child_named, node_by_path, with_change_at, with_new_node, with_node, with_node_at, without_node}
+use Rattle.bi_tree.specs.Changes.{without_node_at}
 use Rattle.bi_tree.specs.Trees.{value_by_path}
 use Rattle.bi_edit.specs.EditLaws.{BeginsPath}
 

@@ -41,7 +41,8 @@ use std::alloc::Global;
 /// first edit that finds nothing to remove, or no image to change; TooLarge at `limits.file()`, if
 /// one computes digests and the payloads after the edits are together longer than that, each
 /// counted for each image that has it; TooLarge at `limits.file()`, if the text is longer.
-/// OutOfMemory may come instead of any of these. Nothing is hashed before the payloads are measured.
+/// OutOfMemory may come instead of any of these. Nothing is hashed before the payloads are
+/// measured.
 pub fn edit_fit<'a>(
     alloc: Global,
     fit: &Fit<'a>,

@@ -166,7 +166,8 @@ fn set_part<'a>(
     digits: &[u8],
     bytes: &'a [u8],
 ) -> Result<bool, AllocError>
-    ensures there { IfOk result (λ found. found ≡ has_part 0 digits.now (bytes_of parts.old.items)) }
+    ensures there { IfOk result (λ found.
+        found ≡ has_part 0 digits.now (bytes_of parts.old.items)) }
     ensures set { IfOk result (λ found. bytes_of parts.new.items
         ≡ with_part 0 digits.now bytes.entry.now (bytes_of parts.old.items)) }
 {

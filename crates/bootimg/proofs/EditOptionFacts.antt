@@ -1,4 +1,5 @@
-use Rattle.std.proofs.Common.{◌≡◌, ◌∙◌, ◌++◌, ℕ, Bool, false, true, List, [], ◌∷◌, None, Some, ap, arith, codes, drop, length, refl, subst, subst₂, sym}
+use Rattle.std.proofs.Common.{◌≡◌, ◌∙◌, ◌++◌, ℕ, Bool, false, true, List, [], ◌∷◌, None, Some, ap, arith, codes, drop, length, refl, subst}
+use Rattle.std.proofs.Common.{subst₂, sym}
 use Rattle.std.proofs.Common.{take, true≢false}
 use Rattle.std.specs.Prelude.{slice_index}
 use Rattle.bi_base.proofs.ByteLists.{AreBytes-none, bytes_by_test}

@@ -1,4 +1,5 @@
-use Rattle.std.proofs.Common.{◌≡◌, ◌<◌, ◌+◌, ◌++◌, ℕ, zero, suc, Bor, List, [], ◌∷◌, Option, None, Some, Result, Ok, Err, IfErr, IfOk, codes, get_or, length, take}
+use Rattle.std.proofs.Common.{◌≡◌, ◌<◌, ◌+◌, ◌++◌, ℕ, zero, suc, Bor, List, [], ◌∷◌, Option, None, Some, Result, Ok, Err, IfErr, IfOk}
+use Rattle.std.proofs.Common.{codes, get_or, length, take}
 use Rattle.std.proofs.Common.{ap, inl, inr, subst, sym, arith}
 use Rattle.std.proofs.lemmas.List.{append_assoc}
 use Rattle.std.specs.List.{AllZip}
@@ -8,7 +9,8 @@ use Rattle.bi_base.specs.declared.fault.Error.TheVariants.{OutOfMemory}
 use Rattle.bi_edit.specs.declared.edit.Edit.{Edit}
 use Rattle.bi_edit.specs.EditWords.{IsRemovalWord}
 use Rattle.clap.specs.declared.parser.matches.ArgMatches.{ArgMatches}
-use Rattle.bootimg.specs.CommandLine.{AsksForEdits, HasBadEdits, IsBadValue, IsEditPlan, IsEditPlanFailure, IsFailureOutcome, IsNewTime, NoneIs}
+use Rattle.bootimg.specs.CommandLine.{AsksForEdits, HasBadEdits, IsBadValue, IsEditPlan, IsEditPlanFailure, IsFailureOutcome, IsNewTime}
+use Rattle.bootimg.specs.CommandLine.{NoneIs}
 use Rattle.bootimg.specs.CommandLine.{given_offset, option_of}
 use Rattle.bootimg.specs.CommandLine.{payload_arguments, removal_arguments, set_arguments, texts_of}
 use Rattle.bootimg.specs.EditOptions.{ArePayloadWords, AreSetWords}

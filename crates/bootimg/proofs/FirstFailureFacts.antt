@@ -17,7 +17,8 @@ use Rattle.bootimg.specs.CommandLine.{AreOwnTexts, HasFitValues, HasNoForm, IsBa
 use Rattle.bootimg.specs.CommandLine.{IsFirstBad, IsFitPlanFailure, IsForm, IsFormWith, IsImageText, IsLimits}
 use Rattle.bootimg.specs.CommandLine.{IsTaskFailure, NoneIs, NotAllowed, NotCompared, NotExplained, NotFit, NotFormed}
 use Rattle.bootimg.specs.CommandLine.{NotLegacy, NotLimited, NotNamed, NotPlaced, NotSelected, NotShown, align_option}
-use Rattle.bootimg.specs.CommandLine.{AsksForEdits, AsksForHashes, AsksForNoEdit, AsksForPayloads, AsksForTime, AsksToKeepForm, AsksToRemove, AsksToSet}
+use Rattle.bootimg.specs.CommandLine.{AsksForEdits, AsksForHashes, AsksForNoEdit, AsksForPayloads, AsksForTime, AsksToKeepForm}
+use Rattle.bootimg.specs.CommandLine.{AsksToRemove, AsksToSet}
 use Rattle.bootimg.specs.CommandLine.{Gives, IsFlag, NotEdited, external_flag, keep_form_flag}
 use Rattle.bootimg.specs.CommandLine.{hashes_flag, limit_of, option_of, value_of, values_of}
 use Rattle.bootimg.specs.ConfigurationWords.{AreHashes, IsDefault, IsFirstBadConfiguration, name_of_word}

@@ -62,7 +62,8 @@ use Rattle.bootimg.specs.Runs.{NothingRead, OutputNotSaved, OutputSaved, Payload
 use Rattle.bootimg.specs.ProgramRuns.{RanJob, Rejected}
 use Rattle.bootimg.specs.Runs.{ToFile, ToStandardOutput, Work, WroteExplanation, failure_in_memory, source_failure}
 use Rattle.bootimg.specs.ProgramRuns.{WroteText}
-use Rattle.bootimg.specs.Runs.{NotesAlignment, NotesCount, inputs_after, inputs_before, inside_line, note_line, positions_line, with_input, work_of}
+use Rattle.bootimg.specs.Runs.{NotesAlignment, NotesCount, inputs_after, inputs_before, inside_line, note_line, positions_line, with_input}
+use Rattle.bootimg.specs.Runs.{work_of}
 use Rattle.bootimg.specs.Tasks.{IsCallFailure, EndedWith, plan_promise, status_of}
 use Rattle.bootimg.specs.declared.command_line.Job.{Job}
 use Rattle.bootimg.specs.declared.command_line.Job.TheVariants.{Run as RunTask, Compare, Build, Edit, Explain}

@@ -1,7 +1,8 @@
 use Rattle.std.specs.Prelude.{◌≡◌, ◌++◌, ℕ, false, true, List, None, Some, codes}
 use Rattle.bi_base.specs.declared.fault.Cause.TheVariants.{NoImages}
 use Rattle.bi_base.specs.declared.fault.Error.TheVariants.{OutOfMemory, Refused}
-use Rattle.bootimg.specs.Hints.{failure_hint, hint_given, hint_line, names_with_commas, refused_text}
+use Rattle.bootimg.specs.Hints.{failure_hint, hint_given, hint_line, names_with_commas}
+use Rattle.bootimg.specs.Hints.{refused_text}
 use Rattle.bootimg.specs.Program.{writes_image}
 use Rattle.bootimg.specs.RefusedWords.{AtArgument, AtField, AtOption, GivenWordModel, near_name}
 use Rattle.bootimg.specs.RefusedWords.{with_near}

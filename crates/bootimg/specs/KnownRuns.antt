@@ -30,7 +30,8 @@ use Rattle.bootimg.specs.declared.failure.Failure.TheVariants.{Call, NoSelection
 use Rattle.bootimg.specs.declared.failure.Failure.TheVariants.{BadValue, BadImage, CannotOpen}
 use Rattle.bootimg.specs.declared.failure.Failure.TheVariants.{BadConfiguration}
 use Rattle.bootimg.specs.declared.failure.Failure.TheVariants.{NoProperty, NoText, NoNumber}
-use Rattle.bootimg.specs.declared.failure.Failure.TheVariants.{NothingToRemove, NotWritten, OutputIsTerminal}
+use Rattle.bootimg.specs.declared.failure.Failure.TheVariants.{NothingToRemove, NotWritten}
+use Rattle.bootimg.specs.declared.failure.Failure.TheVariants.{OutputIsTerminal}
 use Rattle.bootimg.specs.declared.tasks.Done.{Done}
 
 -- How runs end, by which a reader can judge the definitions.

@@ -1,6 +1,7 @@
 use Rattle.std.proofs.Common.{None, Some, get_or}
 use Rattle.bootimg.specs.RefusedWords.{given_word}
-use Rattle.bootimg.proofs.RefusedFacts.{false_is_refused, found_in_map, found_one, more_taken, no_given_word, none_refused, only, refused_at}
+use Rattle.bootimg.proofs.RefusedFacts.{false_is_refused, found_in_map, found_one, more_taken, no_given_word, none_refused, only}
+use Rattle.bootimg.proofs.RefusedFacts.{refused_at}
 use Rattle.bootimg.proofs.RefusedFacts.{true_is_taken}
 use Rattle.bootimg.proofs.command_line.refused.first_refused.Goals as goal
 
