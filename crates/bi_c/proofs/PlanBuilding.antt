@@ -54,14 +54,14 @@ one_more_inside P xs index none within all next =
     subst (AllByRecursion P) (sym (take_more xs index none within))
     (each-append P (take index xs) (get_or xs index none ∷ []) all (next, tt))
 
--- What the first elements stand for, and the next one.
+-- What the first elements give, and the next one.
 pub one_more_meant : {X Y : Type 0} (f : X → Y) (xs : List X) (index : ℕ) (none : X) (before after : List Y) (next : Y) →
     index < length xs → after ≡ before ++ next ∷ [] → next ≡ f (get_or xs index none) → before ≡ map f (take index xs) →
     after ≡ map f (take (index + 1) xs)
 one_more_meant f xs index none before after next within added is so_far =
     added ∙ (λ i. so_far i ++ is i ∷ []) ∙ sym (map_more f xs index none within)
 
--- The same of what models stand for.
+-- The same of what models give.
 pub one_more_model : {X Y Z : Type 0} (f : X → Z) (model : Y → Z) (xs : List X) (index : ℕ) (none : X) (before after : List Y)
     (next : Y) → index < length xs → after ≡ before ++ next ∷ [] → model next ≡ f (get_or xs index none) →
     map model before ≡ map f (take index xs) → map model after ≡ map f (take (index + 1) xs)
@@ -192,7 +192,7 @@ specs_inside input [] specs are = tt
 specs_inside input (image ∷ later) [] are = absurd are
 specs_inside input (image ∷ later) (spec ∷ others) are = (are.0.inside, specs_inside input later others are.1)
 
--- If an element stands for nothing, the call fails.
+-- If an element is not valid, the call fails.
 pub no_plan_elements : (pieces : PlanPieces) (AreValid : Type 0) → (ArePieces pieces → AreValid) → AreOptions pieces.input pieces.options →
     (failure : Failure) → IsElementFailure AreValid failure → IsPlanFailure pieces failure
 no_plan_elements pieces AreValid valid options WrongArgument none = λ are. none (valid are)

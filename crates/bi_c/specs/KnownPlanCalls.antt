@@ -99,7 +99,7 @@ known_pieces = record {
   algorithms = 5 ∷ 0 ∷ [];
 }
 
--- ---- what it stands for
+-- ---- its plan
 
 abbrev pub names_under_key : Key → List (List ℕ)
 names_under_key Kernel = codes "kernel-1" ∷ []
@@ -148,8 +148,8 @@ tree_plan = record {
 pub record PlanIsKnown : Type 0 where
   pub plan : plan_of_pieces known_pieces ≡ known_spec
   pub no_default :
-      (plan_of_pieces (record known_pieces { options = record known_options { given = 0 } })).default
-      ≡ None
+      (plan_of_pieces (record known_pieces { options = record known_options { given = 0 } }))
+      .default ≡ None
   pub built : (text : List ℕ) (value : ℕ) → IsPlannedTree known_pieces text value
       → (text ≡ fit_text Embedded (built_tree known_head tree_plan images_planned)) × (value ≡ 0)
 

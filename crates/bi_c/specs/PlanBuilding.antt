@@ -51,7 +51,7 @@ pub record PlanPieces : Type 0 where
 abbrev pub options_size : ℕ
 options_size = 64
 
--- ---- what the arguments stand for
+-- ---- what the arguments give
 
 -- The bytes of a region of an input, if something is given.
 abbrev pub piece_if_given : (is_given : Bool) → (input : List ℕ) → Region → Option (List ℕ)
@@ -155,8 +155,8 @@ pub record AreOptions (input : List ℕ) (options : BuildOptions) : Type 0 where
   pub default : IsPieceInside input options.default_name
   pub is_flag : options.given < 2
 
--- All arguments are valid. A region of what is not given must be inside the input, too, as one of no
--- bytes at 0 is.
+-- All arguments are valid. A region of what is not given must be inside the input, too, as one of
+-- no bytes at 0 is.
 pub record ArePieces (pieces : PlanPieces) : Type 0 where
   pub options : AreOptions pieces.input pieces.options
   pub images : AllByRecursion (IsSpecInside pieces.input) pieces.images
@@ -214,7 +214,7 @@ pieces_of_call input options arrays = record {
   algorithms = arrays.algorithms.now;
 }
 
--- What the options stand for.
+-- What the options request.
 pub record AreSettingsOf (input : List ℕ) (options : BuildOptions) (settings : Settings) : Type 0
   where
     pub valid : AreOptions input options
@@ -226,7 +226,7 @@ pub record AreSettingsOf (input : List ℕ) (options : BuildOptions) (settings :
     pub is_default : option_map (λ name. name.now) settings.default
         ≡ piece_if_given (has_bit 1 options.given) input options.default_name
 
--- What the elements of the arrays stand for, except the configurations.
+-- What the elements of the arrays give, except the configurations.
 pub record ArePlanParts (input : List ℕ) (arrays : Arrays) (parts : PlanParts) : Type 0 where
   pub texts_inside : AllByRecursion (AreTextsInside input) arrays.texts.now
   pub lists_inside : AllByRecursion (IsPieceInside input) arrays.lists.now
@@ -238,21 +238,22 @@ pub record ArePlanParts (input : List ℕ) (arrays : Arrays) (parts : PlanParts)
   pub lists : bytes_of parts.lists.items ≡ map (bytes_of_piece input) arrays.lists.now
   pub algorithms : parts.algorithms.items ≡ map algorithm_of arrays.algorithms.now
 
--- The configuration that an element stands for,
+-- The configuration of an element,
 pub record IsConfigurationOf (input : List ℕ) (lists : List Region)
     (configuration : BuildConfiguration) (spec : ConfigurationSpec) : Type 0
   where
     pub inside : IsConfigurationInside input lists configuration
     pub is : configuration_spec_model spec ≡ configuration_of_element input lists configuration
 
--- and those that all elements stand for.
+-- and those of all elements.
 pub record AreConfigurationsOf (input : List ℕ) (lists : List Region)
     (configurations : List BuildConfiguration) (specs : List ConfigurationSpec) : Type 0
   where
     pub inside : AllByRecursion (IsConfigurationInside input lists) configurations
-    pub are : configuration_spec_models specs ≡ map (configuration_of_element input lists) configurations
+    pub are : configuration_spec_models specs
+        ≡ map (configuration_of_element input lists) configurations
 
--- Why the elements of an array stand for nothing. Memory may run out before all are looked at.
+-- Why the elements of an array are refused. Memory may run out before all are looked at.
 abbrev pub IsElementFailure : (AreValid : Type 0) → Failure → Type 0
 IsElementFailure AreValid WrongArgument = ¬ AreValid
 IsElementFailure AreValid OutOfMemory = ⊤

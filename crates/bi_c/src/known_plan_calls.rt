@@ -4,7 +4,7 @@
 ghost use Rattle.bi_c.specs.KnownPlanCalls.{AlgorithmNumbersAreKnown, PlanIsKnown};
 ghost use Rattle.bi_c.specs.KnownPlanCalls.{WrongPlansAreKnown};
 
-/// What a small plan stands for is known, and the tree that is built by it.
+/// The plan of a small call is known, and the tree that is built by it.
 pub fn plan_is_known()
     ensures { PlanIsKnown }
 {}

@@ -126,7 +126,7 @@ struct Arrays<'a> {
     algorithms: &'a [u32],
 }
 
-/// What the options of a call stand for.
+/// What the options of a call request.
 #[derive(Clone, Copy)]
 struct Settings<'a> {
     /// The description and the time.
@@ -139,7 +139,7 @@ struct Settings<'a> {
     limits: Limits,
 }
 
-/// What the elements of the arrays of a call stand for, except the configurations.
+/// What the elements of the arrays of a call give, except the configurations.
 #[derive(Drop)]
 struct PlanParts<'a> {
     /// The images.
@@ -232,7 +232,7 @@ fn build_planned(
     }
 }
 
-/// Returns what these options stand for. Returns None if they are not valid.
+/// Returns what these options request. Returns None if they are not valid.
 fn settings_of<'a>(input: &'a [u8], options: &BuildOptions) -> Option<Settings<'a>>
     ensures settings { IfSome result (AreSettingsOf input.entry.now options.now) }
     ensures none { IfNone result (¬ (AreOptions input.entry.now options.now)) }
@@ -251,7 +251,7 @@ fn settings_of<'a>(input: &'a [u8], options: &BuildOptions) -> Option<Settings<'
     })
 }
 
-/// Returns what the elements of these arrays stand for, except the configurations.
+/// Returns what the elements of these arrays give, except the configurations.
 ///
 /// Errors: WrongArgument, if an element is not valid; OutOfMemory.
 fn parts_of<'a>(

@@ -66,14 +66,21 @@ no_other_code (field.Compression code) is = other_bytes (codes "os arm") (codes 
 
 -- Two words of one place.
 load_place : (word rest : List ℕ) → word ≡ codes "load " ++ rest → (edit : Edit) → IsSetWord word edit → set_place edit ≡ codes "load"
-load_place word rest same (SetProperty place value) is = absurd (omega (arith, ap (λ w. slice_index w 0) same, setting_slash word place value.items is))
-load_place word rest same (SetField (field.Name name)) is = absurd (other_bytes (codes "load") (codes "name") refl (sym (ap (take 4) same) ∙ ap (take 4) is.is))
-load_place word rest same (SetField (field.Time time)) is = absurd (other_bytes (codes "load") (codes "time") refl (sym (ap (take 4) same) ∙ ap (take 4) is.is))
+load_place word rest same (SetProperty place value) is =
+    absurd (omega (arith, ap (λ w. slice_index w 0) same, setting_slash word place value.items is))
+load_place word rest same (SetField (field.Name name)) is =
+    absurd (other_bytes (codes "load") (codes "name") refl (sym (ap (take 4) same) ∙ ap (take 4) is.is))
+load_place word rest same (SetField (field.Time time)) is =
+    absurd (other_bytes (codes "load") (codes "time") refl (sym (ap (take 4) same) ∙ ap (take 4) is.is))
 load_place word rest same (SetField (field.Load load)) is = refl
-load_place word rest same (SetField (field.Entry entry)) is = absurd (other_bytes (codes "load ") (codes "entry") refl (sym (ap (take 5) same) ∙ ap (take 5) is.is))
-load_place word rest same (SetField (field.Os code)) is = absurd (other_bytes (codes "lo") (codes "os") refl (sym (ap (take 2) same) ∙ ap (take 2) is.is))
-load_place word rest same (SetField (field.Arch code)) is = absurd (other_bytes (codes "load") (codes "arch") refl (sym (ap (take 4) same) ∙ ap (take 4) is.is))
-load_place word rest same (SetField (field.Compression code)) is = absurd (other_bytes (codes "load ") (codes "compr") refl (sym (ap (take 5) same) ∙ ap (take 5) is.is))
+load_place word rest same (SetField (field.Entry entry)) is =
+    absurd (other_bytes (codes "load ") (codes "entry") refl (sym (ap (take 5) same) ∙ ap (take 5) is.is))
+load_place word rest same (SetField (field.Os code)) is =
+    absurd (other_bytes (codes "lo") (codes "os") refl (sym (ap (take 2) same) ∙ ap (take 2) is.is))
+load_place word rest same (SetField (field.Arch code)) is =
+    absurd (other_bytes (codes "load") (codes "arch") refl (sym (ap (take 4) same) ∙ ap (take 4) is.is))
+load_place word rest same (SetField (field.Compression code)) is =
+    absurd (other_bytes (codes "load ") (codes "compr") refl (sym (ap (take 5) same) ∙ ap (take 5) is.is))
 load_place word rest same (RemoveNode names) is = absurd is
 load_place word rest same (RemoveProperty place) is = absurd is
 load_place word rest same (SetPayload image payload) is = absurd is

@@ -21,7 +21,8 @@ no_name_text word text named none (field.Load load) same is = other_bytes (codes
 no_name_text word text named none (field.Entry entry) same is = other_bytes (codes "name") (codes "entry") refl (sym named ∙ same)
 no_name_text word text named none (field.Os code) same is = other_bytes (codes "name") (codes "os") refl (sym named ∙ same)
 no_name_text word text named none (field.Arch code) same is = other_bytes (codes "name") (codes "arch") refl (sym named ∙ same)
-no_name_text word text named none (field.Compression code) same is = other_bytes (codes "name") (codes "compression") refl (sym named ∙ same)
+no_name_text word text named none (field.Compression code) same is =
+    other_bytes (codes "name") (codes "compression") refl (sym named ∙ same)
 
 pub no_time : (word text : List ℕ) → word ≡ codes "time" → NoneIs (IsNumber text) → (value : FieldValue) → word ≡ field_to_set value →
     IsFieldText text value → ⊥

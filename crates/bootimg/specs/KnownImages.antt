@@ -53,16 +53,18 @@ abbrev pub AreTwoDone : KnownFiles → (hints : Bool) → ImagesRequest → (one
     → (outcome : Result Done SourceFailure) → (later : List (Result Done SourceFailure))
     → (old new : Streams) → Type 0
 AreTwoDone files hints request one other outcome later old new =
-    AreDoneInTurn (IsImageDone files hints request false) is_last (one ∷ other ∷ []) (outcome ∷ later)
+    AreDoneInTurn (IsImageDone files hints request false) is_last (one ∷ other ∷ [])
+      (outcome ∷ later)
     old new
 
 -- The second image follows after a refusal of the first, and not after a failed write.
 pub record NextImagesAreKnown : Type 0 where
-  pub after_refusal : (files : KnownFiles) (hints : Bool) (request : ImagesRequest) (other : ImageSource)
-      (later : List (Result Done SourceFailure)) (old new : Streams)
-      → AreTwoDone files hints request file_r1 other (failed_r1 (Call (Refused bad_magic))) later old new
+  pub after_refusal : (files : KnownFiles) (hints : Bool) (request : ImagesRequest)
+      (other : ImageSource) (later : List (Result Done SourceFailure)) (old new : Streams)
+      → AreTwoDone files hints request file_r1 other (failed_r1 (Call (Refused bad_magic))) later
+        old new
       → (outcome : Result Done SourceFailure) × (later ≡ outcome ∷ [])
-  pub after_write : (files : KnownFiles) (hints : Bool) (request : ImagesRequest) (other : ImageSource)
-      (later : List (Result Done SourceFailure)) (old new : Streams)
+  pub after_write : (files : KnownFiles) (hints : Bool) (request : ImagesRequest)
+      (other : ImageSource) (later : List (Result Done SourceFailure)) (old new : Streams)
       → AreTwoDone files hints request file_r1 other (failed_r1 (Call WriteFailed)) later old new
       → later ≡ []

@@ -49,7 +49,8 @@ pub data IsImagesRun (files : KnownFiles) (hints : Bool) (request : ImagesReques
         → run.new_output ≡ run.output → IsImagesRun files hints request run (Some name)
 
 -- The line of a failure of these arguments was written, and its hint after it, if there is one.
-abbrev pub IsUsageReport : (hints : Bool) → List (List ℕ) → Failure → (old new : WriteTrace) → Type 0
+abbrev pub IsUsageReport : (hints : Bool) → List (List ℕ) → Failure
+    → (old new : WriteTrace) → Type 0
 IsUsageReport hints arguments failure old new =
     (hint : Option (List ℕ)) × IsHintAt hints arguments failure hint
     × Reports Standard failure hint old new

@@ -25,7 +25,8 @@ use Rattle.bootimg.specs.declared.failure.Failure.TheVariants.{BadValue, BadImag
 
 -- ---- words
 
--- Where a word stands: after an option, at an argument, or in a field of the image word at an index.
+-- Where a word stands: after an option, at an argument, or in a field of the image word at an
+-- index.
 pub data PlaceModel : Type 0 where
   AtOption : (name : List ℕ) → PlaceModel
   AtArgument : (name : List ℕ) → PlaceModel
@@ -141,7 +142,8 @@ pub record HasFields (options : ArgMatches) (index : ℕ) (fields : ImageFields)
 
 -- What is found for the image word at this index: its first field that is not taken, or none if all
 -- are taken, or if it does not have the fields of an image.
-pub data FindsField (options : ArgMatches) (index : ℕ) (found : Option GivenWordModel) : Type 0 where
+pub data FindsField (options : ArgMatches) (index : ℕ)
+    (found : Option GivenWordModel) : Type 0 where
   OfFields : (fields : ImageFields) → HasFields options index fields
       → FindsFirst (fields_given fields index) found → FindsField options index found
   NoFields : NoneIs (HasFields options index) → found ≡ None

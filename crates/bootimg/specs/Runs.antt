@@ -115,8 +115,8 @@ abbrev pub NotesAlignment : (alignment : Option ℕ) → (old new : WriteTrace) 
 NotesAlignment None old new = new ≡ old
 NotesAlignment (Some bytes) old new = Logs old (alignment_line bytes) new
 
--- The notes were written: the lines on signature nodes, on payloads inside the blob, on an alignment
--- and on fixed positions, in this order, each if there is something to say.
+-- The notes were written: the lines on signature nodes, on payloads inside the blob, on an
+-- alignment and on fixed positions, in this order, each if there is something to say.
 pub record Notes (done : Done) (old new : WriteTrace) : Type 0 where
   pub first : WriteTrace
   pub second : WriteTrace

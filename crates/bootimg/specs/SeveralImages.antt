@@ -91,7 +91,8 @@ status_of_outcome (Err failed) = 2
 -- written, if it has one, with a hint if hints are given. `in_memory` is whether the output is held
 -- in memory.
 pub record IsImageDone (files : KnownFiles) (hints : Bool) (request : ImagesRequest)
-    (in_memory : Bool) (source : ImageSource) (outcome : Result Done SourceFailure) (old new : Streams) : Type 0
+    (in_memory : Bool) (source : ImageSource) (outcome : Result Done SourceFailure)
+    (old new : Streams) : Type 0
   where
     pub work : IsImageWork files (image_promise request source) source request.limits
         (work_between old new outcome) old.steps new.steps

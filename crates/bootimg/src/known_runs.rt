@@ -147,8 +147,9 @@ pub fn notes_are_known()
     ensures { NotesAreKnown }
 {}
 
-/// The hints for words that are not taken are known, with names that are near them; so are those for
-/// failures, and there is none where no hints are given. It is known which commands write images.
+/// The hints for words that are not taken are known, with names that are near them; so are those
+/// for failures, and there is none where no hints are given. It is known which commands write
+/// images.
 pub fn hints_are_known()
     ensures words { RefusedWordsAreKnown }
     ensures failures { FailureHintsAreKnown }

@@ -84,8 +84,8 @@ fn put_source<E: TracedWrite>(
 }
 
 /// Writes the notes, each if there is something to say: on the signature nodes of a text, on
-/// payloads that are inside it now, and on an alignment and fixed positions that it does not keep of
-/// its input. A failed write is ignored.
+/// payloads that are inside it now, and on an alignment and fixed positions that it does not keep
+/// of its input. A failed write is ignored.
 pub fn put_notes<E: TracedWrite>(done: Done, errors: &mut E)
     ensures { Notes done (E.trace errors.old) (E.trace errors.new) }
 {

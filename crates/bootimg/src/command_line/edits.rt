@@ -47,9 +47,9 @@ pub struct EditPlan<'a> {
     pub source: ImageSource<'a>,
 }
 
-/// Returns what the options of `update` edit. Fails with NoChange if they request nothing, else with
-/// BadValue if one of their values is malformed, if two are of one place, or if `--keep-form` is
-/// given with another form, or with OutOfMemory.
+/// Returns what the options of `update` edit. Fails with NoChange if they request nothing, else
+/// with BadValue if one of their values is malformed, if two are of one place, or if `--keep-form`
+/// is given with another form, or with OutOfMemory.
 ///
 /// Takes n log n time for n words.
 pub fn edit_plan<'a>(alloc: Global, options: &ArgMatches<'a>) -> Result<EditPlan<'a>, NoRequest>
@@ -63,7 +63,8 @@ pub fn edit_plan<'a>(alloc: Global, options: &ArgMatches<'a>) -> Result<EditPlan
     }
 }
 
-/// Returns whether `--remove`, `--set`, `--payload`, `--time`, `--hashes` or `--keep-form` is given.
+/// Returns whether `--remove`, `--set`, `--payload`, `--time`, `--hashes` or `--keep-form` is
+/// given.
 fn asks_for_edits(options: &ArgMatches<'_>) -> bool
     ensures edits { IsTrue result → AsksForEdits options.now }
     ensures no_edit { IsFalse result → AsksForNoEdit options.now }

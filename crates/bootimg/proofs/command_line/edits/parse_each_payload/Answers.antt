@@ -34,7 +34,8 @@ returns-in_err-payload-clause-failure c =
     fails_with (IsBadValue (AllZip IsNewPayload (texts_of words))) c.from_residual-in_err-payload.result c.in_err-payload.field-0.0
     c.from_residual-in_err-payload.ensures.1 (
       failed.1,
-      none_of_words IsNewPayload words index no_word c.loop-word-test.true (λ (payload : PayloadWord) is. none payload.image payload.file.now is),
+      none_of_words IsNewPayload words index no_word c.loop-word-test.true
+        (λ (payload : PayloadWord) is. none payload.image payload.file.now is),
     )
 
 pub loop-word-preserved : goal.loop-word-preserved

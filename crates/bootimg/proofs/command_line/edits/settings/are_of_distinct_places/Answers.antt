@@ -28,7 +28,8 @@ returns-then-not-branch c = λ edits are.
     let has = not-false _ (sym c.in_ok-insert.ensures.added ∙ c.if-not-branch.true) in
     let held = HoldsNames-held c.loop-word.places c.place_of_word.result names so_far.0 has in (
       λ yes. absurd (true≢false (sym yes)),
-      λ distinct. absurd (held (subst (λ name. IsNew name names) (sym is) (new_distinct_place set_place edits index no_edit here.0 distinct))),
+      λ distinct. absurd (held (subst (λ name. IsNew name names) (sym is)
+        (new_distinct_place set_place edits index no_edit here.0 distinct))),
     )
 
 pub loop-word-preserved : goal.loop-word-preserved
