@@ -1,4 +1,4 @@
-use Rattle.std.proofs.Common.{◌∙◌, [], inl, inr, refl, subst, take_all}
+use Rattle.std.proofs.Common.{◌+◌, ◌∙◌, [], inl, inr, refl, subst, take_all}
 use Rattle.std.proofs.lemmas.List.{get_or_read}
 use Rattle.std.proofs.lemmas.Result.{err_from_is_err_and}
 use Rattle.bi_edit.specs.declared.words.PayloadWord.{PayloadWord}

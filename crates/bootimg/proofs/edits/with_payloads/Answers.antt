@@ -17,14 +17,16 @@ pub bounds-contents-index : goal.bounds-contents-index
 bounds-contents-index c =
     let gives = c.into_iter-word-iterator.ensures.into_iter_gives in
     let road = YieldsList-from_vec c.args.words.items gives.0 (gives.1 ∙ c.args.words.ok.0) in
-    let turn = YieldsList-turn road c.loop-word.yielded _ c.loop-word.yielded_by _ _ c.in-Some.word c.in-Some.is c.next.ensures.steps in
+    let turn = YieldsList-turn road c.loop-word.yielded _ c.loop-word.yielded_by _ c.next.new.self c.in-Some.word c.in-Some.is
+    c.next.ensures.steps in
     omega (arith, turn.0, c.loop-word.invariant.0, c.requires)
 
 pub loop-word-preserved : goal.loop-word-preserved
 loop-word-preserved c =
     let gives = c.into_iter-word-iterator.ensures.into_iter_gives in
     let road = YieldsList-from_vec c.args.words.items gives.0 (gives.1 ∙ c.args.words.ok.0) in
-    let turn = YieldsList-turn road c.loop-word.yielded _ c.loop-word.yielded_by _ _ c.in-Some.word c.in-Some.is c.next.ensures.steps in
+    let turn = YieldsList-turn road c.loop-word.yielded _ c.loop-word.yielded_by _ c.next.new.self c.in-Some.word c.in-Some.is
+    c.next.ensures.steps in
     let so_far = c.loop-word.invariant in
     let word = c.in-Some.word in
     let contents = c.args.contents.now in
