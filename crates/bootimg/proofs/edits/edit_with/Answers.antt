@@ -28,10 +28,13 @@ returns g c old new =
     let made = c.in_ok-edits.ensures in
     let choice = c.args.plan.choice in
     let limits = c.args.limits in
+    let target = g.T.TracedWrite.trace c.args.output.now in
+    let new_target = g.T.TracedWrite.trace c.run_editor.new.output in
     edit_failed c.args.plan limits c.args.image.now (contents_of c.args.contents.now) _ c.in_ok-edits.edits.items c.in-Err.error
     c.failure_of.result (record { given = made.0; are = made.1; are_given = made.2 })
     (subst₂ (λ edits file. CommandFailed WriteOrFlushStopped (λ cause. Failed cause) (IsEdited edits choice limits file)
-    (IsEditFileError edits choice limits file) _ _ c.in-Err.error) c.deref.ensures.value c.image_at-file.ensures c.in-Err.ensures.failed)
+    (IsEditFileError edits choice limits file) target new_target c.in-Err.error) c.deref.ensures.value c.image_at-file.ensures
+    c.in-Err.ensures.failed)
     (subst₂ (λ words file. IsFailureOfEditing words file c.in-Err.error c.failure_of.result) c.deref-in-Err.ensures.value
     c.image_at-file.ensures c.failure_of.ensures)
     c.job_failed.ensures
