@@ -62,6 +62,7 @@ failure_lines_are_known = record {
   bad_value = refl;
   bad_image = refl;
   bad_configuration = refl;
+  nothing_to_remove = refl;
   cannot_open = refl;
   output_is_terminal = refl;
   not_written = refl;
@@ -94,4 +95,4 @@ compare_lines_are_known ignored = record { one = refl; other = refl; out_of_memo
 
 pub notes_are_known : NotesAreKnown
 unfolding digits
-notes_are_known = record { one = refl; many = refl; alignment = refl; positions = refl }
+notes_are_known = record { one = refl; many = refl; inside = refl; alignment = refl; positions = refl }

@@ -94,7 +94,7 @@ task_ends_are_known one_legacy scans pages objects =
     let got = field_values_are_known one_legacy in
     let extracted = (extracts_are_known one_legacy).second_part in
     record {
-      normalise = ((kept_of_normal_forms_is_known one_legacy).external, (refl, refl));
+      normalise = ((kept_of_normal_forms_is_known one_legacy).external, refl, refl);
       layout = (pages.kernel, ends _);
       no_layout = (pages.no_layout, ends _);
       page_in_json = (objects.kernel, ends _);
