@@ -143,13 +143,15 @@ tree_plan = record {
   algorithms = Sha512 ∷ Crc32 ∷ [];
 }
 
+-- The arguments with another sum.
+abbrev pub pieces_without_default : PlanPieces
+pieces_without_default = record known_pieces { options = record known_options { given = 0 } }
+
 -- The plan is this one, and the tree that of these images. Without the sum 1, a default is not
 -- given.
 pub record PlanIsKnown : Type 0 where
   pub plan : plan_of_pieces known_pieces ≡ known_spec
-  pub no_default :
-      (plan_of_pieces (record known_pieces { options = record known_options { given = 0 } }))
-      .default ≡ None
+  pub no_default : (plan_of_pieces pieces_without_default).default ≡ None
   pub built : (text : List ℕ) (value : ℕ) → IsPlannedTree known_pieces text value
       → (text ≡ fit_text Embedded (built_tree known_head tree_plan images_planned)) × (value ≡ 0)
 
