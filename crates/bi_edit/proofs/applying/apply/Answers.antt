@@ -22,7 +22,7 @@ returns-in_err-apply_turn-clause-failed c =
     error_of_edit (IsApplyError (IsFirstRefused c.args.tree.now (in_edit_order edits)) edits)
     c.from_residual.result c.in_err-apply_turn.field-0.0 c.from_residual.ensures.1
     (refused_of FindsNothing edited_root c.loop-turn.tree c.args.tree.now
-      (edits_of_turn turn edits) (edits_from (turn + 1) edits) (in_edit_order edits)
+    (edits_of_turn turn edits) (edits_from (turn + 1) edits) (in_edit_order edits)
     edits c.in_err-apply_turn.field-0.0
     (continues_next (goal.at.returns-in_err-apply_turn-clause-failed c).After-apply_turn)
     c.in_err-apply_turn.ensures.failed)
