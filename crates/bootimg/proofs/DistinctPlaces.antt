@@ -22,7 +22,7 @@ module _ {T : Type 0} (place : T → List ℕ) where
   new_distinct_place values index d within distinct =
       let cut : drop index values ≡ get_or values index d ∷ drop (index + 1) values = rw add-one (drop-cons values index d within) in
       let around : map place values ≡ map place (take index values) ++
-        (place (get_or values index d) ∷ map place (drop (index + 1) values)) =
+      (place (get_or values index d) ∷ map place (drop (index + 1) values)) =
       ap (map place) (sym (take-append-drop index values))
       ∙ ap (λ later. map place (take index values ++ later)) cut
       ∙ map-append place (take index values) (get_or values index d ∷ drop (index + 1) values) in

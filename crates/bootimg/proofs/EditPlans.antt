@@ -68,9 +68,11 @@ module _ (options : ArgMatches) (failure : Failure) where
 
   pub bad_removals : (words : List (List ℕ)) → words ≡ removal_arguments options → IsBadValue (AllZip IsRemovalWord words) failure →
       (failure ≡ BadValue) × HasBadEdits options
-  bad_removals words same bad =
-      (bad.0, inl (λ plan is. bad.1 is.edits.removed
-        (subst (λ w. AllZip IsRemovalWord w is.edits.removed) (sym same) is.edits.are_removals)))
+  bad_removals words same bad = (
+    bad.0,
+    inl (λ plan is. bad.1 is.edits.removed
+        (subst (λ w. AllZip IsRemovalWord w is.edits.removed) (sym same) is.edits.are_removals)),
+  )
 
   pub bad_settings : (words : List (List ℕ)) → words ≡ set_arguments options → IsBadValue (AreSetWords words) failure →
       (failure ≡ BadValue) × HasBadEdits options

@@ -61,7 +61,7 @@ cut_of_none word all = record {
   is = sym (append-nil word);
   first = subst (LacksByte 32) (take_all (position_or_len byte_is_space word) word (omega (arith, all)))
       (lacks_space word (position_or_len byte_is_space word) (λ k less. fails_before_first byte_is_space word k 0 less)
-        (omega (arith, all)));
+      (omega (arith, all)));
 }
 
 -- ---- fields

@@ -201,7 +201,7 @@ pub record OptionsAreKnown : Type 0 where
       ∷ offset_and_others)
   pub update_edits : GivesValues
       (codes
-    "update --set a --remove b --payload c --keep-form --remove d --offset 7 --limit 64 -o out in")
+      "update --set a --remove b --payload c --keep-form --remove d --offset 7 --limit 64 -o out in")
       (codes "update")
       ((codes "remove", codes "b" ∷ codes "d" ∷ [])
       ∷ with_value (codes "set") (codes "a")

@@ -54,7 +54,7 @@ abbrev pub AreTwoDone : KnownFiles → (hints : Bool) → ImagesRequest → (one
     → (old new : Streams) → Type 0
 AreTwoDone files hints request one other outcome later old new =
     AreDoneInTurn (IsImageDone files hints request false) is_last (one ∷ other ∷ [])
-      (outcome ∷ later)
+    (outcome ∷ later)
     old new
 
 -- The second image follows after a refusal of the first, and not after a failed write.
@@ -62,7 +62,7 @@ pub record NextImagesAreKnown : Type 0 where
   pub after_refusal : (files : KnownFiles) (hints : Bool) (request : ImagesRequest)
       (other : ImageSource) (later : List (Result Done SourceFailure)) (old new : Streams)
       → AreTwoDone files hints request file_r1 other (failed_r1 (Call (Refused bad_magic))) later
-        old new
+      old new
       → (outcome : Result Done SourceFailure) × (later ≡ outcome ∷ [])
   pub after_write : (files : KnownFiles) (hints : Bool) (request : ImagesRequest)
       (other : ImageSource) (later : List (Result Done SourceFailure)) (old new : Streams)

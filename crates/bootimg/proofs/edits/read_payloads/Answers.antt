@@ -24,7 +24,7 @@ returns-in-Err-clause-failed g c =
     let here = get_or_read c.args.words.now c.loop-word.word-index c.word-item.result c.loop-word-test.true c.word-item.is no_payload in
     inl (payload_not_read _ _ c.args.limits c.args.words.now c.loop-word.word-index no_payload c.word-item.result
     (contents_of c.loop-word.contents.items) _ _ _ _ c.loop-word-test.true here c.loop-word.invariant.0 c.loop-word.invariant.1
-      c.in-Err.ensures.failed refl)
+    c.in-Err.ensures.failed refl)
 
 pub returns-in_err-push-in-Ok-clause-failed : goal.returns-in_err-push-in-Ok-clause-failed
 returns-in_err-push-in-Ok-clause-failed g c =

@@ -35,7 +35,7 @@ returns-in_err-payload-clause-failure c =
     c.from_residual-in_err-payload.ensures.1 (
       failed.1,
       none_of_words IsNewPayload words index no_word c.loop-word-test.true
-        (λ (payload : PayloadWord) is. none payload.image payload.file.now is),
+          (λ (payload : PayloadWord) is. none payload.image payload.file.now is),
     )
 
 pub loop-word-preserved : goal.loop-word-preserved

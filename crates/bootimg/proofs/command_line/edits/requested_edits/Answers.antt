@@ -70,7 +70,7 @@ returns-clause-plan c =
         removed = removed.0;
         set = set.0;
         are = edits_in_order c.new-edits.result.items c.add_removals.new.edits.items c.add_settings.new.edits.items
-          c.add_changes.new.edits.items
+            c.add_changes.new.edits.items
             removed.0 set.0 _ c.new-edits.ensures.items removed.1 set.1 c.in_ok-add_changes.ensures;
         are_removals = subst (λ w. AllZip IsRemovalWord w removed.0) c.all_values-removals.ensures removed.2;
         are_settings = subst (λ w. AreSetWords w set.0) c.all_values.ensures set.2;

@@ -9,4 +9,4 @@ pub returns-in-Ok : goal.returns-in-Ok
 returns-in-Ok c =
     subst (λ word. IsTrue c.is_some.result ↔ ((edit : Edit) × IsRemovalWord word edit)) c.as_bytes.ensures.value
     (taken_if_some (IsRemovalWord c.as_bytes.result.now) c.in-Ok.found c.is_some.result c.in-Ok.ensures.some c.in-Ok.ensures.none
-      c.is_some.ensures)
+    c.is_some.ensures)

@@ -29,7 +29,7 @@ returns-then-not-branch c = λ edits are.
     let held = HoldsNames-held c.loop-word.places c.place_of_word.result names so_far.0 has in (
       λ yes. absurd (true≢false (sym yes)),
       λ distinct. absurd (held (subst (λ name. IsNew name names) (sym is)
-        (new_distinct_place set_place edits index no_edit here.0 distinct))),
+          (new_distinct_place set_place edits index no_edit here.0 distinct))),
     )
 
 pub loop-word-preserved : goal.loop-word-preserved

@@ -17,7 +17,7 @@ returns-in_err-parse_number-in-load-clause-none c =
     let word = c.args.field.now in
     let text = c.args.text.now in
     if_none c.from_residual-in_err-parse_number-in-load.result
-      ((value : FieldValue) → word ≡ field_to_set value → IsFieldText text value → ⊥)
+    ((value : FieldValue) → word ≡ field_to_set value → IsFieldText text value → ⊥)
     (no_load word text c.in-load.is (λ number is. absurd (let e = c.in_err-parse_number-in-load.ensures.exactly number is in cc)))
 
 pub returns-in_err-parse_number-in-entry-clause-none : goal.returns-in_err-parse_number-in-entry-clause-none
@@ -25,7 +25,7 @@ returns-in_err-parse_number-in-entry-clause-none c =
     let word = c.args.field.now in
     let text = c.args.text.now in
     if_none c.from_residual-in_err-parse_number-in-entry.result
-      ((value : FieldValue) → word ≡ field_to_set value → IsFieldText text value → ⊥)
+    ((value : FieldValue) → word ≡ field_to_set value → IsFieldText text value → ⊥)
     (no_entry word text c.in-entry.is (λ number is. absurd (let e = c.in_err-parse_number-in-entry.ensures.exactly number is in cc)))
 
 pub returns-in_err-parse_code-in-os-clause-none : goal.returns-in_err-parse_code-in-os-clause-none
@@ -47,6 +47,6 @@ returns-in_err-parse_code-in-compression-clause-none c =
     let word = c.args.field.now in
     let text = c.args.text.now in
     if_none c.from_residual-in_err-parse_code-in-compression.result
-      ((value : FieldValue) → word ≡ field_to_set value → IsFieldText text value → ⊥)
+    ((value : FieldValue) → word ≡ field_to_set value → IsFieldText text value → ⊥)
     (no_compression word text c.in-compression.is
-      (λ number is. absurd (let e = c.in_err-parse_code-in-compression.ensures.exactly number is in cc)))
+    (λ number is. absurd (let e = c.in_err-parse_code-in-compression.ensures.exactly number is in cc)))
