@@ -515,9 +515,10 @@ uint32_t bootimg_update(const uint8_t *file, size_t file_size, uint32_t changes,
                         size_t buffer_size, bootimg_result *answer);
 
 /* Sets the numbers in the notes that the program prints after it has written the normal form with
- * these changes, or, if `changes` is 0, the normal form. They are unchanged unless the status is
- * BOOTIMG_OK. The arguments are those of bootimg_update, and the call fails as it does. The output
- * is made in memory that the call allocates. */
+ * these changes, or, if `changes` is 0, the normal form. After an update the program can print one
+ * more note, on payloads that are inside the blob now: bootimg_edit_notes counts them. The numbers
+ * are unchanged unless the status is BOOTIMG_OK. The arguments are those of bootimg_update, and the
+ * call fails as it does. The output is made in memory that the call allocates. */
 uint32_t bootimg_notes(const uint8_t *file, size_t file_size, uint32_t changes, uint32_t time,
                        uint32_t form, uint32_t limit, uint32_t depth, bootimg_note_numbers *notes,
                        bootimg_result *answer);

@@ -693,7 +693,8 @@ def notes(
     align: int | None = None,
 ) -> Notes:
     """Returns what a user should know about what `update` returns with these arguments, or
-    `normalise` without `time` and `hashes`. Raises what `update` raises.
+    `normalise` without `time` and `hashes`. How many payloads are inside the blob now is not among
+    it: `edit_notes` has that, too. Raises what `update` raises.
 
     >>> import bootimg
     >>> codes = ("linux", "arm64", "kernel")
@@ -1347,11 +1348,13 @@ def _extracted(options: argparse.Namespace, file: bytes) -> memoryview:
     return extract_config(file, name, options.key, options.index, options.limit)
 
 
-def _note(found: Notes) -> None:
+def _note(found: Notes | EditNotes) -> None:
     """Prints the notes of the program."""
     lines = []
     if found.signatures:
         lines.append(f"{found.signatures} signature nodes carried, not checked")
+    if isinstance(found, EditNotes) and found.inside:
+        lines.append(f"{found.inside} payloads are inside the blob now, see --external")
     if found.lost_alignment:
         lines.append(
             f"payloads are no longer aligned to {found.lost_alignment} bytes, see --align"
@@ -1369,12 +1372,12 @@ def _run(options: argparse.Namespace, files: list[bytes]) -> tuple[bytes, int]:
         external, align = options.external, options.align
         if options.command == "normalise":
             image = normalise(files[0], external, limit, align=align)
-            found = notes(files[0], external=external, limit=limit, align=align)
+            _note(notes(files[0], external=external, limit=limit, align=align))
         else:
-            changes = (options.time, options.hashes)
-            image = update(files[0], *changes, external, limit, align=align)
-            found = notes(files[0], *changes, external, limit, align=align)
-        _note(found)
+            time, hashes = options.time, options.hashes
+            image = update(files[0], time, hashes, external, limit, align=align)
+            form: dict[str, Any] = {"external": external, "align": align}
+            _note(edit_notes(files[0], time=time, hashes=hashes, limit=limit, **form))
         return image, 0
     if options.command == "extract":
         return bytes(_extracted(options, files[0])), 0

@@ -18,7 +18,7 @@ use Rattle.bi_legacy.specs.Laws.{OneLegacyMeaning}
 use Rattle.bi_legacy.specs.Text.{legacy_text}
 use Rattle.bi_norm.specs.Meaning.{Meaning, OfFit, OfLegacy, normal_text}
 use Rattle.bi_norm.proofs.ComparisonFacts.{multi_means}
-use Rattle.bi_c.specs.EditCalls.{IsEditOf, IsMadeOf, IsSetting, OfFile, OfWord, edit_note_numbers}
+use Rattle.bi_c.specs.EditCalls.{IsEditOf, IsEditedFile, IsSetting, OfFile, OfWord, edit_note_numbers}
 use Rattle.bi_c.specs.KnownEditCalls.{EditArgumentsAreKnown, EditCallsAreKnown, EditElementsAreKnown, no_numbers, number_element}
 use Rattle.bi_c.proofs.AnswerFacts.{widest_is_in_range}
 use Rattle.bi_c.proofs.EditElements.{no_setting_edit, removal_edit}
@@ -129,7 +129,7 @@ no_notes_of_legacy : (notes : EditNotes) → AreNoNotes notes → edit_note_numb
 no_notes_of_legacy notes are = rw (are.signatures, are.kept.alignment, are.kept.positions, are.inside) refl
 
 module _ (form : ℕ) (text : List ℕ) (notes : EditNotes)
-    (is : IsMadeOf 0x7fffffff 64 form [] (number_element 3 5 ∷ []) multi_file text notes) where
+    (is : IsEditedFile 0x7fffffff 64 form [] (number_element 3 5 ∷ []) multi_file text notes) where
   same_edits : is.edits ≡ SetTime 5 ∷ []
   same_edits = are_time is.edits is.are_edits
 

@@ -7,7 +7,7 @@ use Rattle.bi_edit.specs.declared.edit.Edit.TheVariants.{RemoveNode, RemovePrope
 use Rattle.bi_edit.specs.declared.edit.FieldValue.{FieldValue}
 use Rattle.bi_edit.specs.declared.edit.FieldValue.TheVariants as field
 use Rattle.bi_edit.specs.EditWords.{IsRemovalWord}
-use Rattle.bi_c.specs.EditCalls.{IsBadElement, IsEditOf, IsNewPayload, IsSetting, kind_of_field}
+use Rattle.bi_c.specs.EditCalls.{GivesPayload, IsBadElement, IsEditOf, IsSetting, kind_of_field}
 use Rattle.bi_c.specs.PieceBuilding.{bytes_of_piece}
 use Rattle.bi_c.specs.declared.edits.EditElement.{EditElement}
 
@@ -65,7 +65,7 @@ module _ (input : List ℕ) (element : EditElement) where
 
   -- and those of the third for payloads.
   pub no_payload_edit : element.kind ≡ 2 →
-      ((edit : Edit) → ¬ (IsNewPayload (bytes_of_piece input element.word) (bytes_of_piece input element.payload) edit)) →
+      ((edit : Edit) → ¬ (GivesPayload (bytes_of_piece input element.word) (bytes_of_piece input element.payload) edit)) →
       IsBadElement input element
   no_payload_edit kind none (SetPayload image payload) is = none (SetPayload image payload) is.has_values
   no_payload_edit kind none (RemoveNode path) is = omega (arith, kind, is.is_kind)

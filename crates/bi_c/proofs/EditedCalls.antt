@@ -10,7 +10,7 @@ use Rattle.bi_edit.specs.declared.edit_error.EditError.TheVariants as error
 use Rattle.bi_edit.specs.declared.edit_notes.EditNotes.{EditNotes}
 use Rattle.bi_edit.specs.EditedFiles.{IsEdited, IsEditFileError, IsEditOutput}
 use Rattle.bi_c.specs.Arguments.{bounds}
-use Rattle.bi_c.specs.EditCalls.{AreEditsFailure, HasEditElements, IsEditCallFailure, IsEditOf, IsMadeOf, IsRefusedEdit, OfFile, OfWord}
+use Rattle.bi_c.specs.EditCalls.{AreEditsFailure, HasEditElements, IsEditCallFailure, IsEditOf, IsEditedFile, IsRefusedEdit, OfFile, OfWord}
 use Rattle.bi_c.specs.EditCalls.{failure_of_edit_error}
 use Rattle.bi_c.specs.declared.edits.EditElement.{EditElement}
 use Rattle.bi_c.specs.declared.failure.Failure.{Failure}
@@ -30,7 +30,7 @@ module _ (limit depth form : ℕ) (input : List ℕ) (elements : List EditElemen
 
   module _ (limits : Limits) (edits : List Edit) (same : limits ≡ bounds limit depth) (are : AllZip (IsEditOf input) elements edits) where
     pub made_of : (text : List ℕ) (notes : EditNotes) → IsEditOutput edits has.choice limits notes file text →
-        IsMadeOf limit depth form input elements file text notes
+        IsEditedFile limit depth form input elements file text notes
     made_of text notes is = record {
       arguments = has;
       edits = edits;

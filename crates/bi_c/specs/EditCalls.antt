@@ -88,10 +88,10 @@ IsSetting word (SetProperty place value) = IsSettingWord word place value.items
 IsSetting word edit = ⊥
 
 -- The edit gives the image or part that is printed as this word these bytes.
-abbrev pub IsNewPayload : (word bytes : List ℕ) → Edit → Type 0
-IsNewPayload word bytes (SetPayload image payload) =
+abbrev pub GivesPayload : (word bytes : List ℕ) → Edit → Type 0
+GivesPayload word bytes (SetPayload image payload) =
     IsChildWord word image × (payload.now ≡ bytes)
-IsNewPayload word bytes edit = ⊥
+GivesPayload word bytes edit = ⊥
 
 -- The edit has this word, these bytes or this number.
 abbrev pub HasValues : (word bytes : List ℕ) → (number : ℕ) → Edit → Type 0
@@ -100,7 +100,7 @@ HasValues word bytes number SetDigests = ⊤
 HasValues word bytes number (SetField value) = IsFieldOfElement word number value
 HasValues word bytes number (SetProperty place value) = IsSetting word (SetProperty place value)
 HasValues word bytes number (SetPayload image payload) =
-    IsNewPayload word bytes (SetPayload image payload)
+    GivesPayload word bytes (SetPayload image payload)
 HasValues word bytes number removal = IsRemovalWord word removal
 
 -- The edit that an element is for.
@@ -132,7 +132,7 @@ AreEditsFailure input elements other = ⊥
 -- ---- what the calls return
 
 -- The text and the notes are those of the file after the edits that the elements are for.
-pub record IsMadeOf (limit depth form : ℕ) (input : List ℕ) (elements : List EditElement)
+pub record IsEditedFile (limit depth form : ℕ) (input : List ℕ) (elements : List EditElement)
     (file text : List ℕ) (notes : EditNotes) : Type 0
   where
     pub arguments : HasEditElements limit depth form input elements
@@ -145,7 +145,7 @@ pub record IsEditText (limit depth form : ℕ) (input : List ℕ) (elements : Li
     (file text : List ℕ) (value : ℕ) : Type 0
   where
     pub notes : EditNotes
-    pub is : IsMadeOf limit depth form input elements file text notes
+    pub is : IsEditedFile limit depth form input elements file text notes
     pub is_number : value ≡ notes.kept.signatures
 
 -- The numbers in the notes, or 0 if there is no note.
@@ -163,7 +163,7 @@ pub record AreEditNumbers (limit depth form : ℕ) (input : List ℕ) (elements 
   where
     pub text : List ℕ
     pub notes : EditNotes
-    pub is : IsMadeOf limit depth form input elements file text notes
+    pub is : IsEditedFile limit depth form input elements file text notes
     pub are_numbers : numbers ≡ edit_note_numbers notes
 
 -- The failure for an error of editing. It has neither a reader nor a writer.

@@ -7,9 +7,9 @@ ghost use Rattle.bi_edit.specs.declared.edit.Edit.{Edit};
 ghost use Rattle.bi_edit.specs.declared.edit.Edit.TheVariants.{SetField};
 ghost use Rattle.bi_edit.specs.declared.form_choice.FormChoice.{FormChoice};
 ghost use Rattle.bi_c.specs.Answers.{FillsBuffer, Sets};
-ghost use Rattle.bi_c.specs.EditCalls.{AreEditNumbers, AreEditsFailure, IsBadElement};
-ghost use Rattle.bi_c.specs.EditCalls.{IsEditCallFailure, IsEditElement, IsEditOf, IsEditText};
-ghost use Rattle.bi_c.specs.EditCalls.{IsMadeOf, IsNewPayload, IsSetting, edit_note_numbers};
+ghost use Rattle.bi_c.specs.EditCalls.{AreEditNumbers, AreEditsFailure, GivesPayload};
+ghost use Rattle.bi_c.specs.EditCalls.{IsBadElement, IsEditCallFailure, IsEditElement, IsEditOf};
+ghost use Rattle.bi_c.specs.EditCalls.{IsEditText, IsEditedFile, IsSetting, edit_note_numbers};
 ghost use Rattle.bi_c.specs.EditCalls.{failure_of_edit_error, number_of_choice};
 ghost use Rattle.bi_c.specs.PieceBuilding.{IsPieceInside, bytes_of_piece};
 
@@ -167,7 +167,7 @@ fn edited_file(
     limit: u32,
     depth: u32,
 ) -> Result<EditedFile, Failure>
-    ensures made { IfOk result (λ made. IsMadeOf limit depth form input.now elements.now file.now
+    ensures made { IfOk result (λ made. IsEditedFile limit depth form input.now elements.now file.now
         made.text.items made.notes) }
     ensures failed { IfErr result
         (IsEditCallFailure limit depth form input.now elements.now file.now) }
@@ -321,9 +321,9 @@ fn setting<'a>(alloc: Global, word: &[u8]) -> Result<Option<Edit<'a>>, Error>
 /// and only if the word is no name. Fails if memory runs out.
 fn new_payload<'a>(alloc: Global, word: &[u8], payload: &'a [u8]) -> Result<Option<Edit<'a>>, Error>
     ensures some { IfOk result (λ found. IfSome found
-        (IsNewPayload word.now payload.entry.now)) }
+        (GivesPayload word.now payload.entry.now)) }
     ensures none { IfOk result (λ found. IfNone found
-        ((edit : Edit) → ¬ (IsNewPayload word.now payload.entry.now edit))) }
+        ((edit : Edit) → ¬ (GivesPayload word.now payload.entry.now edit))) }
 {
     let Some(name) = child_name(alloc, word)? else {
         return Ok(None);

@@ -120,32 +120,23 @@ static void tell(const struct call *call, const bootimg_result *answer)
         fprintf(stderr, "bootimg: %s: %.*s at %u\n", call->paths[answer->file - 1], (int)named.size, name, (unsigned)answer->offset);
 }
 
-/* Writes the notes of the program. A struct of the notes is overwritten, and nothing after it. */
-static void note(const struct call *call, const bootimg_result *made)
+/* Writes the notes of the program. */
+static void print_notes(const struct call *call, bootimg_edit_note_numbers notes)
 {
-    struct {
-        bootimg_note_numbers notes;
-        uint64_t after;
-    } room;
-    bootimg_result answer;
-    uint32_t changes = strcmp(call->command, "update") == 0 ? call->changes : 0;
-    memset(&room, 0xc3, sizeof room);
-    CHECK(bootimg_notes(call->files[0].bytes, call->files[0].size, changes, call->time, call->form, call->limit, BOOTIMG_DEPTH,
-                        &room.notes, &answer) == BOOTIMG_OK);
-    CHECK(room.after == 0xc3c3c3c3c3c3c3c3u && room.notes.signatures == made->value);
-    CHECK(answer.size == 0 && answer.value == 0 && answer.cause == 0 && answer.offset == 0 && answer.file == 0 && answer.reason == 0);
     if (call->is_quiet)
         return;
-    if (room.notes.signatures != 0)
-        fprintf(stderr, "bootimg: note: %zu signature nodes carried, not checked\n", room.notes.signatures);
-    if (room.notes.lost_alignment != 0)
-        fprintf(stderr, "bootimg: note: payloads are no longer aligned to %u bytes, see --align\n", (unsigned)room.notes.lost_alignment);
-    if (room.notes.lost_positions != 0)
-        fprintf(stderr, "bootimg: note: %zu fixed positions of payloads were not kept\n", room.notes.lost_positions);
+    if (notes.signatures != 0)
+        fprintf(stderr, "bootimg: note: %zu signature nodes carried, not checked\n", notes.signatures);
+    if (notes.inside != 0)
+        fprintf(stderr, "bootimg: note: %zu payloads are inside the blob now, see --external\n", notes.inside);
+    if (notes.lost_alignment != 0)
+        fprintf(stderr, "bootimg: note: payloads are no longer aligned to %u bytes, see --align\n", (unsigned)notes.lost_alignment);
+    if (notes.lost_positions != 0)
+        fprintf(stderr, "bootimg: note: %zu fixed positions of payloads were not kept\n", notes.lost_positions);
 }
 
-/* Writes the notes on what is edited. A struct of the notes is overwritten, and nothing after it. */
-static void note_edits(const struct call *call, const bootimg_result *made)
+/* The notes on what is edited. A struct of the notes is overwritten, and nothing after it. */
+static bootimg_edit_note_numbers notes_of_edits(const struct call *call, const bootimg_result *made)
 {
     struct {
         bootimg_edit_note_numbers notes;
@@ -157,16 +148,44 @@ static void note_edits(const struct call *call, const bootimg_result *made)
                              call->edits_count, call->form, call->limit, BOOTIMG_DEPTH, &room.notes, &answer) == BOOTIMG_OK);
     CHECK(room.after == 0xc3c3c3c3c3c3c3c3u && room.notes.signatures == made->value);
     CHECK(answer.size == 0 && answer.value == 0 && answer.cause == 0 && answer.offset == 0 && answer.file == 0 && answer.reason == 0);
-    if (call->is_quiet)
-        return;
-    if (room.notes.signatures != 0)
-        fprintf(stderr, "bootimg: note: %zu signature nodes carried, not checked\n", room.notes.signatures);
-    if (room.notes.inside != 0)
-        fprintf(stderr, "bootimg: note: %zu payloads are inside the blob now, see --external\n", room.notes.inside);
-    if (room.notes.lost_alignment != 0)
-        fprintf(stderr, "bootimg: note: payloads are no longer aligned to %u bytes, see --align\n", (unsigned)room.notes.lost_alignment);
-    if (room.notes.lost_positions != 0)
-        fprintf(stderr, "bootimg: note: %zu fixed positions of payloads were not kept\n", room.notes.lost_positions);
+    return room.notes;
+}
+
+/* The notes on an update, which are those on the same edits. */
+static bootimg_edit_note_numbers notes_of_update(const struct call *call, const bootimg_result *made)
+{
+    struct call edits = *call;
+    edits.edits_count = 0;
+    if (call->changes & BOOTIMG_CHANGE_TIME)
+        edits.edits[edits.edits_count++] = (bootimg_edit_element){.kind = BOOTIMG_EDIT_TIME, .number = call->time};
+    if (call->changes & BOOTIMG_CHANGE_HASHES)
+        edits.edits[edits.edits_count++] = (bootimg_edit_element){.kind = BOOTIMG_EDIT_HASHES};
+    return notes_of_edits(&edits, made);
+}
+
+/* Writes the notes on a normal form or an update. A struct of the notes is overwritten, and nothing after it. It has not how many payloads
+ * are inside the blob now, which the program says of an update. */
+static void note(const struct call *call, const bootimg_result *made)
+{
+    struct {
+        bootimg_note_numbers notes;
+        uint64_t after;
+    } room;
+    bootimg_edit_note_numbers all = {0, 0, 0, 0};
+    bootimg_result answer;
+    int is_update = strcmp(call->command, "update") == 0;
+    memset(&room, 0xc3, sizeof room);
+    CHECK(bootimg_notes(call->files[0].bytes, call->files[0].size, is_update ? call->changes : 0, call->time, call->form, call->limit,
+                        BOOTIMG_DEPTH, &room.notes, &answer) == BOOTIMG_OK);
+    CHECK(room.after == 0xc3c3c3c3c3c3c3c3u && room.notes.signatures == made->value);
+    CHECK(answer.size == 0 && answer.value == 0 && answer.cause == 0 && answer.offset == 0 && answer.file == 0 && answer.reason == 0);
+    if (is_update)
+        all = notes_of_update(call, made);
+    CHECK(!is_update || (all.lost_alignment == room.notes.lost_alignment && all.lost_positions == room.notes.lost_positions));
+    all.signatures = room.notes.signatures;
+    all.lost_positions = room.notes.lost_positions;
+    all.lost_alignment = room.notes.lost_alignment;
+    print_notes(call, all);
 }
 
 /* The same on what cannot be edited: the struct is as it was, and the status and the answer are the same. */
@@ -273,7 +292,7 @@ static int run(const struct call *call, FILE *output)
     if (has_notes)
         note(call, &answer);
     if (is_edit)
-        note_edits(call, &answer);
+        print_notes(call, notes_of_edits(call, &answer));
     if (strcmp(call->command, "scan") == 0)
         return answer.size == (call->is_json ? strlen("{\"images\":[]}\n") : 0);
     if (strcmp(call->command, "compare") == 0 && call->regions_count == 0) {
@@ -362,7 +381,8 @@ static void try_edit(const struct memory file, const char *input, const bootimg_
     size_t size = strlen(input);
     CHECK(bootimg_edit(file.bytes, file.size, (const uint8_t *)input, size, edits, count, form, limit, depth, &byte, 1, &answer) == status);
     CHECK(byte == 0xa5 && answer.size == 0 && answer.value == value && answer.reason == reason);
-    CHECK(bootimg_edit_notes(file.bytes, file.size, (const uint8_t *)input, size, edits, count, form, limit, depth, &notes, &answer) == status);
+    CHECK(bootimg_edit_notes(file.bytes, file.size, (const uint8_t *)input, size, edits, count, form, limit, depth, &notes, &answer) ==
+          status);
     CHECK(notes.signatures == 1 && notes.lost_positions == 2 && notes.inside == 3 && notes.lost_alignment == 4);
     CHECK(answer.size == 0 && answer.value == value && answer.reason == reason);
 }

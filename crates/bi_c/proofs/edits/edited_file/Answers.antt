@@ -1,6 +1,6 @@
 use Rattle.std.proofs.Common.{◌≡◌, ◌∙◌, ◌++◌, List, ℕ, ap, subst, sym}
 use Rattle.std.specs.List.{AllZip}
-use Rattle.bi_c.specs.EditCalls.{HasEditElements, IsEditCallFailure, IsEditOf, IsMadeOf}
+use Rattle.bi_c.specs.EditCalls.{HasEditElements, IsEditCallFailure, IsEditOf, IsEditedFile}
 use Rattle.bi_c.proofs.CallAnswers.{is_so}
 use Rattle.bi_c.proofs.EditedCalls.{made_of, not_made_in_memory}
 use Rattle.bi_c.proofs.edits.edited_file.Goals as goal
@@ -20,7 +20,7 @@ returns-in-Ok-edit_file_into-clause-made c =
     let appended = c.in-Ok-edit_file_into.ensures.appended in
     let same : c.into_vec.result.items ≡ appended.text =
     c.into_vec.ensures ∙ appended.appended ∙ ap (λ (l : List ℕ). l ++ appended.text) c.new-sink.ensures in
-    subst (λ (text : List ℕ). IsMadeOf c.args.limit c.args.depth c.args.form input elements file text notes) (sym same)
+    subst (λ (text : List ℕ). IsEditedFile c.args.limit c.args.depth c.args.form input elements file text notes) (sym same)
     (made_of c.args.limit c.args.depth c.args.form input elements file has c.in-Some.limits c.deref.result.now c.in-Some.ensures.value
     (subst (AllZip (IsEditOf input) elements) (sym c.deref.ensures.value) c.in-Ok.ensures.edits) appended.text notes appended.is_text)
 
