@@ -1,7 +1,7 @@
-use Rattle.std.proofs.Common.{◌≡◌, ◌∙◌, ap, length, refl, subst₂, sym, arith}
+use Rattle.std.proofs.Common.{◌∙◌, ap, length, refl, subst₂, sym, arith}
 use Rattle.std.proofs.lemmas.Result.{err_from_is_err_and}
 use Rattle.bootimg.specs.EditedImages.{contents_of}
-use Rattle.bootimg.specs.Runs.{AllRead, ArePayloadsRead, ImageNotRead, IsEditedWork, IsPayloadsFailure, PayloadsNotRead}
+use Rattle.bootimg.specs.Runs.{AllRead, ArePayloadsRead, ImageNotRead, IsPayloadsFailure, PayloadsNotRead}
 use Rattle.bootimg.proofs.EditRuns.{contents_long, image_within}
 use Rattle.bootimg.proofs.edits.edit_image.Goals as goal
 

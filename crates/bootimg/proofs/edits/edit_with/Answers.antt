@@ -1,4 +1,4 @@
-use Rattle.std.proofs.Common.{List, refl, subst₂}
+use Rattle.std.proofs.Common.{refl, subst₂}
 use Rattle.std.proofs.lemmas.Result.{err_from_is_err_and}
 use Rattle.bi_base.specs.Commands.{CommandFailed}
 use Rattle.bi_base.specs.Writing.{WriteOrFlushStopped}

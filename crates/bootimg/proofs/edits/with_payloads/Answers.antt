@@ -1,5 +1,5 @@
 use Rattle.std.proofs.Common.{ℕ, ◌≡◌, ◌∙◌, ◌++◌, [], ◌∷◌, append-nil, append_assoc, ap, arith, get_or, length, length-append, refl, subst}
-use Rattle.std.proofs.Common.{subst₂, sym, take, take_all}
+use Rattle.std.proofs.Common.{subst₂, sym, take_all}
 use Rattle.std.proofs.lemmas.List.{map-id}
 use Rattle.std.proofs.lemmas.Iterator.Consumers.{YieldsList-end, YieldsList-turn}
 use Rattle.std.proofs.lemmas.Iterator.Adapters.{YieldsList-from_vec}

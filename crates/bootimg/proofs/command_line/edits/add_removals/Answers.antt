@@ -1,4 +1,4 @@
-use Rattle.std.proofs.Common.{◌≡◌, ◌∙◌, Bor, List, ℕ, [], ◌∷◌, ◌++◌, ap, get_or, inl, refl, subst, take_all}
+use Rattle.std.proofs.Common.{◌∙◌, Bor, List, ℕ, [], ◌∷◌, ◌++◌, ap, inl, refl, subst, take_all}
 use Rattle.std.proofs.lemmas.List.{append_assoc}
 use Rattle.std.specs.List.{AllZip}
 use Rattle.bi_common.proofs.UnshownNames.{some_holds}

@@ -1,4 +1,4 @@
-use Rattle.std.proofs.Common.{List, ℕ, [], ◌∷◌, ◌++◌, map, take, ap, get_or, subst, sym, ◌∙◌, refl, true≢false}
+use Rattle.std.proofs.Common.{List, ℕ, [], ◌∷◌, ◌++◌, map, take, ap, subst, sym, ◌∙◌, refl, true≢false}
 use Rattle.std.proofs.lemmas.Bool.{not-true, not-false}
 use Rattle.std.proofs.lemmas.List.{get_or_read}
 use Rattle.bi_blob.specs.NameSets.{HoldsNames}

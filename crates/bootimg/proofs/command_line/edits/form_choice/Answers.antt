@@ -1,8 +1,5 @@
-use Rattle.std.proofs.Common.{false, true, refl, subst, ap, ◌∙◌, sym}
-use Rattle.bi_fit.specs.declared.form.Form.{Form}
-use Rattle.bi_fit.specs.declared.form.Form.TheVariants.{Embedded}
-use Rattle.bootimg.specs.CommandLine.{HasNoFormChoice, IsForm, KeepsForm, NoForm, TwoForms}
-use Rattle.bootimg.specs.declared.failure.Failure.TheVariants.{BadValue}
+use Rattle.std.proofs.Common.{refl, subst, ◌∙◌}
+use Rattle.bootimg.specs.CommandLine.{KeepsForm, NoForm, TwoForms}
 use Rattle.bootimg.proofs.CommandLines.{err_if}
 use Rattle.bootimg.proofs.command_line.edits.form_choice.Goals as goal
 

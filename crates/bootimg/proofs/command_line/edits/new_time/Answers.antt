@@ -1,4 +1,4 @@
-use Rattle.std.proofs.Common.{◌∙◌, sym, subst, ap, option_map, Bor, List, ℕ}
+use Rattle.std.proofs.Common.{◌∙◌, ap, option_map, Bor, List, ℕ}
 use Rattle.bootimg.specs.CommandLine.{IsBadValue, IsNewTime}
 use Rattle.bootimg.specs.declared.failure.Failure.TheVariants.{BadValue}
 use Rattle.bootimg.proofs.CommandLines.{err_if, ok_or_failed}

@@ -1,10 +1,9 @@
-use Rattle.std.proofs.Common.{◌≡◌, ◌∙◌, Bor, List, ℕ, [], ◌∷◌, ◌++◌, ap, get_or, refl, subst, take_all}
-use Rattle.std.proofs.lemmas.List.{append_assoc}
+use Rattle.std.proofs.Common.{Bor, List, ℕ, [], get_or, subst, take_all}
 use Rattle.std.specs.List.{AllZip}
 use Rattle.bi_edit.specs.declared.words.PayloadWord.{PayloadWord}
 use Rattle.bi_edit.specs.EditWords.{IsPayloadWord}
 use Rattle.bootimg.specs.EditOptions.{IsNewPayload}
-use Rattle.bootimg.specs.CommandLine.{IsBadValue, NoneIs, texts_of}
+use Rattle.bootimg.specs.CommandLine.{IsBadValue, texts_of}
 use Rattle.bootimg.specs.declared.failure.Failure.TheVariants.{BadValue}
 use Rattle.bootimg.proofs.CommandLines.{fails_with, none_given, ok_or_failed, ok_or_is}
 use Rattle.bootimg.proofs.EditPlans.{none_of_words, memory_failure, words_next}

@@ -2,7 +2,7 @@ use Rattle.std.proofs.Common.{◌≡◌, ◌∙◌, inr, subst}
 use Rattle.std.specs.List.{AllZip}
 use Rattle.bi_edit.specs.EditWords.{IsRemovalWord}
 use Rattle.clap.specs.declared.parser.matches.ArgMatches.{ArgMatches}
-use Rattle.bootimg.specs.CommandLine.{HasBadEdits, IsBadValue, IsNewTime, option_of, texts_of}
+use Rattle.bootimg.specs.CommandLine.{HasBadEdits, IsBadValue, IsNewTime, texts_of}
 use Rattle.bootimg.specs.EditOptions.{ArePayloadWords, AreSetWords}
 use Rattle.bootimg.specs.declared.failure.Failure.{Failure}
 use Rattle.bootimg.specs.declared.failure.Failure.TheVariants.{BadValue}

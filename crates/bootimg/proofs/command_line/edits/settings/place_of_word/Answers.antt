@@ -1,5 +1,4 @@
 use Rattle.std.proofs.Common.{◌+◌, ◌∙◌, None, Some, ap, arith, length, refl, take}
-use Rattle.bi_edit.specs.declared.edit.Edit.{Edit}
 use Rattle.bootimg.proofs.SetWords.{cut_of_none, cut_of_split, no_set_word, place_of_property, slash_is, before_second}
 use Rattle.bootimg.proofs.command_line.edits.settings.place_of_word.Goals as goal
 
