@@ -62,3 +62,12 @@ returns-in-Topic c =
 
 pub returns-in-Algorithms : goal.returns-in-Algorithms
 returns-in-Algorithms c = rw c.in-Algorithms.is c.are_algorithms.ensures
+
+pub returns-in-Removal : goal.returns-in-Removal
+returns-in-Removal c = rw c.in-Removal.is c.is_removal.ensures
+
+pub returns-in-NewValue : goal.returns-in-NewValue
+returns-in-NewValue c = rw c.in-NewValue.is c.is_new_value.ensures
+
+pub returns-in-NewPayload : goal.returns-in-NewPayload
+returns-in-NewPayload c = rw c.in-NewPayload.is c.is_new_payload.ensures
