@@ -67,7 +67,7 @@ class _Edits:
         remove: Iterable[bytes | str],
         set: Iterable[bytes | str],
         payloads: Mapping[Any, bootimg.Buffer] | None,
-        fields: Mapping[str, Field],
+        fields: Mapping[str, Field] | None,
         time: int | None,
         hashes: bool,
     ) -> None:
@@ -82,7 +82,7 @@ class _Edits:
             self._add(_SET, word, index=index)
         for index, (name, payload) in enumerate((payloads or {}).items()):
             self._add(_PAYLOAD, name, payload, index=index)
-        for field, value in fields.items():
+        for field, value in (fields or {}).items():
             self._add_field(field, value)
         if time is not None:
             self._add(_TIME, number=bootimg._number(time))
@@ -154,7 +154,7 @@ def edit(
     remove: Iterable[bytes | str] = (),
     set: Iterable[bytes | str] = (),
     payloads: Mapping[str, bootimg.Buffer] | Mapping[bytes, bootimg.Buffer] | None = None,
-    fields: Mapping[str, Field] = {},
+    fields: Mapping[str, Field] | None = None,
     time: int | None = None,
     hashes: bool = False,
     external: bool = False,
@@ -210,7 +210,7 @@ def edit_notes(
     remove: Iterable[bytes | str] = (),
     set: Iterable[bytes | str] = (),
     payloads: Mapping[str, bootimg.Buffer] | Mapping[bytes, bootimg.Buffer] | None = None,
-    fields: Mapping[str, Field] = {},
+    fields: Mapping[str, Field] | None = None,
     time: int | None = None,
     hashes: bool = False,
     external: bool = False,
