@@ -3,12 +3,13 @@
 import os
 from pathlib import Path
 
-# The processor seconds that each crate took to prove in one run of `rt ci`, on a machine with four cores and other work, and each step of
-# the quick build. A build writes those of its crates to out/build.times. Of the time that is left only the ratios count.
+# The processor seconds that each crate took to prove in one run of `rt ci`, on a machine with four cores and other work (bi_tree, bi_plain
+# and bi_edit by `rt check`), and each step of the quick build. A build writes those of its crates to out/build.times. Of the time that is
+# left only the ratios count.
 CRATES = {
-    "bi_base": 187, "bi_blob": 54, "bi_hash": 105, "bi_lay": 167, "bi_legacy": 148, "bi_fdt": 493, "bi_fit": 969, "bi_norm": 266,
-    "bi_coverage": 300, "bi_common": 295, "bi_report": 718, "bi_describe": 459, "bi_values": 240, "bi_labels": 60, "bi_show": 564, "bi_commands": 277,
-    "bi_files": 294, "bootimg": 1223, "bi_c": 462,
+    "bi_base": 187, "bi_blob": 54, "bi_hash": 105, "bi_lay": 167, "bi_legacy": 148, "bi_fdt": 493, "bi_tree": 89, "bi_fit": 969,
+    "bi_plain": 155, "bi_norm": 266, "bi_coverage": 300, "bi_common": 295, "bi_edit": 401, "bi_report": 718, "bi_describe": 459,
+    "bi_values": 240, "bi_labels": 60, "bi_show": 564, "bi_commands": 277, "bi_files": 294, "bootimg": 1223, "bi_c": 462,
 }  # fmt: skip
 STEPS = {"translating": 65, "compiling": 95, "linking": 2}
 # How much must be done before an estimate is worth a line, and as how much a step counts at most that has not ended.
