@@ -33,6 +33,7 @@ use Rattle.bi_c.specs.TreeBuilding.{address_if}
 use Rattle.bi_c.specs.ValueCalls.{failure_of_get_error, value_form_of, words_of_place}
 use Rattle.bi_c.specs.VerdictElements.{verdict_number}
 use Rattle.bi_c.specs.declared.answer.Answer.{Answer}
+use Rattle.bi_c.specs.declared.argument.Argument.TheVariants as argument
 use Rattle.bi_c.specs.declared.failure.Failure.TheVariants.{WrongArgument, Refused, OutOfMemory}
 use Rattle.bi_c.specs.declared.failure.Failure.TheVariants.{NotFound}
 
@@ -51,7 +52,7 @@ pub record StatusNumbersAreKnown : Type 0 where
   pub refused : status_of_failure (Refused 1 cell_fault) ≡ 1
   pub out_of_memory : status_of_failure OutOfMemory ≡ 2
   pub without_room : no_room ≡ 3
-  pub wrong_argument : status_of_failure WrongArgument ≡ 4
+  pub wrong_argument : status_of_failure (WrongArgument argument.Limit 0) ≡ 4
   pub not_found : status_of_failure (NotFound 1 0) ≡ 5
 
 -- The numbers of the struct, in their order.
@@ -73,8 +74,8 @@ pub record AnswersAreKnown : Type 0 where
       ≡ 0 ∷ 0 ∷ 18 ∷ 160 ∷ 2 ∷ 0 ∷ []
   pub out_of_memory : struct_numbers (answer_of_failure OutOfMemory)
       ≡ 0 ∷ 0 ∷ 0 ∷ 0 ∷ 0 ∷ 0 ∷ []
-  pub wrong_argument : struct_numbers (answer_of_failure WrongArgument)
-      ≡ 0 ∷ 0 ∷ 0 ∷ 0 ∷ 0 ∷ 0 ∷ []
+  pub wrong_argument : struct_numbers (answer_of_failure (WrongArgument argument.Edits 3))
+      ≡ 0 ∷ 3 ∷ 0 ∷ 0 ∷ 0 ∷ 16 ∷ []
   pub missing : struct_numbers (answer_of_failure (NotFound 7 3)) ≡ 0 ∷ 3 ∷ 0 ∷ 0 ∷ 0 ∷ 7 ∷ []
 
 -- The choice has this reason, and the index of the first name that no image has, and no other.
