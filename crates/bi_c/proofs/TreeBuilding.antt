@@ -15,7 +15,7 @@ use Rattle.bi_c.specs.TreeBuilding.{IsSpecOf, IsToBeBuilt, IsTreeBuildFailure, I
 use Rattle.bi_c.specs.declared.argument.Argument.{Argument}
 use Rattle.bi_c.specs.declared.argument.Argument.TheVariants.{Images}
 use Rattle.bi_c.specs.Checks.{IsElementFailure, IsWrong}
-use Rattle.bi_c.specs.TreeBuilding.{SpecsCheck}
+use Rattle.bi_c.specs.TreeBuilding.{IsSpecInside, SpecsCheck}
 use Rattle.bi_c.specs.Arguments.{FormCheck}
 use Rattle.bi_c.proofs.CheckFacts.{element_is_wrong}
 

@@ -178,28 +178,43 @@ pub record ArePieces (pieces : PlanPieces) : Type 0 where
       AllByRecursion (IsConfigurationInside pieces.input pieces.lists) pieces.configurations
   pub algorithms : AllByRecursion (λ number. number < 6) pieces.algorithms
 
--- The options are checked: all but the limits and the form, the limits, and then the form.
+-- The options are checked: what they have besides the limits and the form, the limits, and then
+-- the form.
+abbrev pub OwnCheck : (input : List ℕ) → BuildOptions → Option (Argument × ℕ) → Type 0
+OwnCheck input options = NextCheck NoCheck argument.Options (AreOtherOptions input options)
+
 abbrev pub OptionsCheck : (input : List ℕ) → BuildOptions → Option (Argument × ℕ) → Type 0
 OptionsCheck input options =
-    let first = NextCheck NoCheck argument.Options (AreOtherOptions input options) in
-    let second = NextCheck first argument.Limit
-        (AreOtherOptions input options × IsLimit options.limit) in
-    let third = NextCheck second argument.Depth
-        (AreOtherOptions input options × IsInRange options.limit options.depth) in
-    NextCheck third argument.Form (AreOptions input options)
+    NextCheck
+    (NextCheck
+    (NextCheck (OwnCheck input options) argument.Limit
+    (AreOtherOptions input options × IsLimit options.limit))
+    argument.Depth (AreOtherOptions input options × IsInRange options.limit options.depth))
+    argument.Form (AreOptions input options)
 
--- The options and the arrays are checked, except the configurations,
-abbrev pub PartsCheck : PlanPieces → Option (Argument × ℕ) → Type 0
-PartsCheck pieces =
-    let first = ArrayCheck (OptionsCheck pieces.input pieces.options) argument.Images
-        (IsSpecInside pieces.input) pieces.images in
-    let second = ArrayCheck first argument.Texts (AreTextsInside pieces.input) pieces.texts in
-    let third = ArrayCheck second argument.Lists (IsPieceInside pieces.input) pieces.lists in
-    ArrayCheck third argument.Algorithms (λ number. number < 6) pieces.algorithms
+-- Then the images are checked,
+abbrev pub ImagesCheck : PlanPieces → Option (Argument × ℕ) → Type 0
+ImagesCheck pieces = ArrayCheck (OptionsCheck pieces.input pieces.options) argument.Images
+    (IsSpecInside pieces.input) pieces.images
+
+-- the texts,
+abbrev pub TextsCheck : PlanPieces → Option (Argument × ℕ) → Type 0
+TextsCheck pieces =
+    ArrayCheck (ImagesCheck pieces) argument.Texts (AreTextsInside pieces.input) pieces.texts
+
+-- the lists,
+abbrev pub ListsCheck : PlanPieces → Option (Argument × ℕ) → Type 0
+ListsCheck pieces =
+    ArrayCheck (TextsCheck pieces) argument.Lists (IsPieceInside pieces.input) pieces.lists
+
+-- the algorithms,
+abbrev pub AlgorithmsCheck : PlanPieces → Option (Argument × ℕ) → Type 0
+AlgorithmsCheck pieces = ArrayCheck (ListsCheck pieces) argument.Algorithms
+    (λ number. number < 6) pieces.algorithms
 
 -- and then the configurations.
 abbrev pub PlanCheck : PlanPieces → Option (Argument × ℕ) → Type 0
-PlanCheck pieces = ArrayCheck (PartsCheck pieces) argument.Configurations
+PlanCheck pieces = ArrayCheck (AlgorithmsCheck pieces) argument.Configurations
     (IsConfigurationInside pieces.input pieces.lists) pieces.configurations
 
 -- ---- what the call returns

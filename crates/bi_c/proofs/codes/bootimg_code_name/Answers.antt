@@ -1,4 +1,4 @@
-use Rattle.std.proofs.Common.{◌≡◌, ◌∙◌, ℕ, Some, None, ap, refl, sym, subst, arith}
+use Rattle.std.proofs.Common.{◌≡◌, ◌<◌, ◌∙◌, ℕ, Some, None, ap, refl, sym, subst, arith}
 use Rattle.bi_legacy.specs.Codes.{name_of_code}
 use Rattle.bi_c.specs.Answers.{FilledNothing}
 use Rattle.bi_c.specs.CodeCalls.{names_of_field}

@@ -1,4 +1,4 @@
-use Rattle.std.proofs.Common.{◌∙◌, Some, ap, refl, sym, arith}
+use Rattle.std.proofs.Common.{◌∙◌, ◌<◌, Some, ap, refl, sym, arith}
 use Rattle.bi_c.specs.Answers.{Failed, Returned}
 use Rattle.bi_c.specs.declared.failure.Failure.TheVariants.{NotFound, WrongArgument}
 use Rattle.bi_c.specs.declared.argument.Argument.TheVariants.{Field}

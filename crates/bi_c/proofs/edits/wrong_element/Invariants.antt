@@ -1,9 +1,11 @@
-use Rattle.std.proofs.Common.{◌↔◌, drop}
+use Rattle.std.proofs.Common.{◌≡◌, take}
 use Rattle.std.specs.List.{AllByRecursion}
 use Rattle.bi_c.specs.EditCalls.{IsEditElement}
-use Rattle.bi_c.proofs.edits.are_elements.Given as goal
+use Rattle.bi_c.proofs.edits.wrong_element.Given as goal
 
--- All elements are those of edits if and only if the elements that are left are.
+-- The elements so far are those of edits, and they are counted.
 abbrev pub invariant-loop-element : goal.invariant-loop-element
-invariant-loop-element l =
-    AllByRecursion (IsEditElement l.input) (drop l.element-index l.elements) ↔ AllByRecursion (IsEditElement l.input) l.elements
+invariant-loop-element l = record {
+  counted : l.index ≡ l.element-index;
+  before : AllByRecursion (IsEditElement l.input) (take l.element-index l.elements);
+}

@@ -9,7 +9,7 @@ use Rattle.bi_c.proofs.CallAnswers.{not_so, is_so, buffer_is_filled}
 use Rattle.bi_c.proofs.TreeBuilding.{no_specs, no_tree_of_pieces, tree_of_pieces}
 use Rattle.bi_c.specs.declared.argument.Argument.TheVariants.{Form, Images}
 use Rattle.bi_c.specs.Checks.{LimitsCheck}
-use Rattle.bi_c.specs.Arguments.{FormCheck, HasForm}
+use Rattle.bi_c.specs.Arguments.{FormCheck}
 use Rattle.bi_c.specs.TreeBuilding.{IsSpecInside}
 use Rattle.bi_c.proofs.CheckFacts.{before_array_is_wrong, first_is_wrong, limits_are_wrong, next_is_wrong}
 use Rattle.bi_c.proofs.fit_building.bootimg_build_fit.Goals as goal
