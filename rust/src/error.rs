@@ -116,6 +116,44 @@ impl fmt::Display for Refusal {
 
 impl std::error::Error for Refusal {}
 
+/// An argument that is out of its range. Of several that are, it is the first of these.
+#[derive(Clone, Copy, Debug, PartialEq, Eq)]
+#[non_exhaustive]
+pub enum Argument {
+    /// The greatest number of bytes.
+    Limit = 2,
+    /// The greatest depth of a FIT.
+    Depth,
+    /// The form of a FIT.
+    Form,
+    /// The name of a value.
+    Value = 12,
+    /// Any other argument. This crate passes the library no such one that is wrong.
+    Other = 0,
+}
+
+impl Argument {
+    /// Returns the argument with a number of the library.
+    fn from_number(number: u32) -> Argument {
+        [Argument::Limit, Argument::Depth, Argument::Form, Argument::Value]
+            .into_iter()
+            .find(|&argument| argument as u32 == number)
+            .unwrap_or(Argument::Other)
+    }
+}
+
+impl fmt::Display for Argument {
+    fn fmt(&self, formatter: &mut fmt::Formatter<'_>) -> fmt::Result {
+        formatter.write_str(match self {
+            Argument::Limit => "limit",
+            Argument::Depth => "depth",
+            Argument::Form => "form",
+            Argument::Value => "value",
+            Argument::Other => "another one",
+        })
+    }
+}
+
 /// Why a call fails.
 #[derive(Clone, Copy, Debug, PartialEq, Eq)]
 #[non_exhaustive]
@@ -124,8 +162,8 @@ pub enum Error {
     Refused(Refusal),
     /// An allocation failed.
     OutOfMemory,
-    /// A number is out of its range.
-    WrongArgument,
+    /// An argument is out of its range.
+    WrongArgument(Argument),
     /// No configuration has the name.
     NoConfiguration,
     /// The configuration does not have the key.
@@ -162,7 +200,7 @@ impl fmt::Display for Error {
         match self {
             Error::Refused(refusal) => refusal.fmt(formatter),
             Error::OutOfMemory => formatter.write_str("out of memory"),
-            Error::WrongArgument => formatter.write_str("wrong argument"),
+            Error::WrongArgument(argument) => write!(formatter, "wrong argument: {argument}"),
             Error::NoConfiguration => formatter.write_str("no such configuration"),
             Error::NoKey => formatter.write_str("no such key"),
             Error::BadList => formatter.write_str("bad list"),
@@ -197,7 +235,7 @@ pub(crate) fn failure(status: u32, answer: &sys::Answer) -> Error {
             file: answer.file,
         }),
         (sys::OUT_OF_MEMORY, _) => Error::OutOfMemory,
-        (sys::WRONG_ARGUMENT, _) => Error::WrongArgument,
+        (sys::WRONG_ARGUMENT, number) => Error::WrongArgument(Argument::from_number(number)),
         (_, 1) => Error::WrongKind,
         (_, 4) => Error::NoConfiguration,
         (_, 5) => Error::NoKey,

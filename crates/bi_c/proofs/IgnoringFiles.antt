@@ -1,4 +1,4 @@
-use Rattle.std.proofs.Common.{◌≡◌, ℕ, Bool, false, List, refl, subst}
+use Rattle.std.proofs.Common.{◌≡◌, ℕ, Bool, false, List, refl, subst, sym}
 use Rattle.std.specs.List.{AllByRecursion}
 use Rattle.bi_base.specs.Limits.{Limits, IsInRange}
 use Rattle.bi_common.specs.declared.format.Format.{Format}

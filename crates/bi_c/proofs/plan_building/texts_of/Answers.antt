@@ -29,7 +29,7 @@ loop-element-preserved c =
 pub returns-in_default-clause-failed : goal.returns-in_default-clause-failed
 returns-in_default-clause-failed c = (
   refl,
-  subst (IsFirstWrong (AreTextsInside c.args.input.now) c.args.elements.now) (sym (c.len.ensures ∙ c.loop-element.invariant.counted))
+  subst (IsFirstWrong (AreTextsInside c.args.input.now) c.args.elements.now) (sym (c.len.ensures ∙ c.loop-element.texts.ok.0 ∙ c.loop-element.invariant.counted))
       (wrong_at (AreTextsInside c.args.input.now) c.args.elements.now c.loop-element.element-index past_texts c.loop-element-test.true
       c.loop-element.invariant.inside c.in_default.ensures.none),
 )
