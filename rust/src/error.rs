@@ -121,24 +121,27 @@ impl std::error::Error for Refusal {}
 #[non_exhaustive]
 pub enum Argument {
     /// The greatest number of bytes.
-    Limit = 2,
+    Limit,
     /// The greatest depth of a FIT.
     Depth,
     /// The form of a FIT.
     Form,
     /// The name of a value.
-    Value = 12,
-    /// Any other argument. This crate passes the library no such one that is wrong.
-    Other = 0,
+    Value,
+    /// Another argument. No call of this crate passes a wrong one to the library.
+    Other,
 }
 
 impl Argument {
     /// Returns the argument with a number of the library.
     fn from_number(number: u32) -> Argument {
-        [Argument::Limit, Argument::Depth, Argument::Form, Argument::Value]
-            .into_iter()
-            .find(|&argument| argument as u32 == number)
-            .unwrap_or(Argument::Other)
+        match number {
+            2 => Argument::Limit,
+            3 => Argument::Depth,
+            4 => Argument::Form,
+            12 => Argument::Value,
+            _ => Argument::Other,
+        }
     }
 }
 
@@ -149,7 +152,7 @@ impl fmt::Display for Argument {
             Argument::Depth => "depth",
             Argument::Form => "form",
             Argument::Value => "value",
-            Argument::Other => "another one",
+            Argument::Other => "another argument",
         })
     }
 }

@@ -4,7 +4,7 @@ use bootimg::{
     build_fit, build_fit_as, build_legacy, check, check_json, compare, compare_ignoring,
     compare_ignoring_json, compare_json, concerns, convert, describe, describe_json, edit,
     edit_notes, get, kind, listing, listing_json, normalise, notes, same_meaning, scan, scan_json,
-    show, show_json, update, verify, verify_json, version, Algorithm, BuildConfiguration,
+    show, show_json, update, verify, verify_json, version, Algorithm, Argument, BuildConfiguration,
     BuildImage, BuildTexts, Cause, Changes, CodeField, Concern, Concerns, Edit, EditNotes, Error,
     Fit, Form, FormChoice, Header, Key, Kind, Legacy, Limits, Notes, Place, Plan, Policy, Refusal,
     Value, ValueForm, Verdict,
