@@ -133,7 +133,7 @@ no_code_fails (Refused file fault) is = absurd is
 no_code_fails OutOfMemory is = absurd is
 
 -- There is no field with the number 4.
-no_field_fails : (failure : Failure) → IsCodeNumberFailure 4 (codes "linux") failure → 
+no_field_fails : (failure : Failure) → IsCodeNumberFailure 4 (codes "linux") failure →
     (failure ≡ WrongArgument Field 0) ⊎ (failure ≡ OutOfMemory)
 no_field_fails (WrongArgument found index) is =
     let same = next_only NoCheck Field (4 < 4) no_check_none found index is.1 in inl (λ i. WrongArgument (same.0 i) (same.1 i))

@@ -79,7 +79,8 @@ select_failure select limits file cause failure same is = subst (IsSelectFailure
     by NoPayload is = numbered select limits file HasNoPayload 9 0 is (refl, refl)
 
 -- The answer of a call with valid arguments.
-pub extract_answers : (Check : Option (Argument × ℕ) → Type 0) (limits other_limits : Limits) (select other : Select) (file : List ℕ) (answer : Answer)
+pub extract_answers : (Check : Option (Argument × ℕ) → Type 0) (limits other_limits : Limits) (select other : Select) (file : List ℕ)
+    (answer : Answer)
     (status : ℕ) →
     Check None → limits ≡ other_limits → select ≡ other
     → Answers (IsFound limits select file) (IsSelectFailure limits select file) answer status

@@ -50,7 +50,8 @@ configuration_bytes limits file content read =
     (root_bytes file content.blob.cpu content.blob.reservations is.root is.blob).1
 
 -- If a call on a FIT cannot read the file, it fails as reading fails.
-pub tree_failed : (Check : Option (Argument × ℕ) → Type 0) (limits : Limits) (file : List ℕ) (IsReason : ℕ → ℕ → Type 0) (cause : Error) (failure : Failure) →
+pub tree_failed : (Check : Option (Argument × ℕ) → Type 0) (limits : Limits) (file : List ℕ) (IsReason : ℕ → ℕ → Type 0) (cause : Error)
+    (failure : Failure) →
     Check None → failure ≡ failure_of_error cause → IsFitReadError limits file cause → IsTreeFailure Check limits file IsReason failure
 tree_failed Check limits file IsReason cause failure valid same is =
     subst (IsTreeFailure Check limits file IsReason) (sym same) (by cause is)

@@ -199,7 +199,8 @@ no_such_form : (before : List ℕ) →
     AlwaysFills (IsNormalised 0x7fffffff 64 2 kernel_file) (IsNormaliseFailure 0x7fffffff 64 2 kernel_file) before before
     (record empty_answer { reason = 4 }) 4
 no_such_form before =
-    never_fills (IsNormalised 0x7fffffff 64 2 kernel_file) (IsNormaliseFailure 0x7fffffff 64 2 kernel_file) before (WrongArgument argument.Form 0)
+    never_fills (IsNormalised 0x7fffffff 64 2 kernel_file) (IsNormaliseFailure 0x7fffffff 64 2 kernel_file) before
+    (WrongArgument argument.Form 0)
     (λ text value is. no_form_below_four 2 (lit< tt) (lit< tt) is.arguments.form is.arguments.is_form)
     (only_wrong (FormCheck 0x7fffffff 64 2) (IsErrorInForm 2 (λ form. IsNormaliseError widest form kernel_file)) argument.Form 0
     (λ has. no_form_below_four 2 (lit< tt) (lit< tt) has.form has.is_form)
@@ -426,7 +427,8 @@ module _ (one_legacy : OneLegacyMeaning) where
 
   -- ---- extracting
 
-  module _ (Check : Option (Argument × ℕ) → Type 0) (valid : Check None) (select : Select) (file : List ℕ) (meaning : Meaning) (means : Means widest file meaning)
+  module _ (Check : Option (Argument × ℕ) → Type 0) (valid : Check None) (select : Select) (file : List ℕ) (meaning : Meaning)
+  (means : Means widest file meaning)
       (choice : Choice) (chosen : choice_of select meaning ≡ choice) where
     -- What holds of the choice of what the file means holds of this one.
     of_choice : (P : Choice → Type 0) → MeansSuch widest file (λ other. P (choice_of select other)) → P choice
@@ -436,7 +438,8 @@ module _ (one_legacy : OneLegacyMeaning) where
 
     pub extracted : (bytes : List ℕ) (size offset : ℕ) → choice ≡ Chosen bytes → length bytes ≡ size →
         ((found : ℕ) → IsOffset widest select file found → found ≡ offset) →
-        AlwaysAnswers (IsExtracted (Check None) widest select file) (IsExtractCallFailure Check widest select file) (answer_of size offset) 0
+        AlwaysAnswers (IsExtracted (Check None) widest select file) (IsExtractCallFailure Check widest select file) (answer_of size offset)
+        0
     extracted bytes size offset same long only =
         always_answers (IsExtracted (Check None) widest select file) (IsExtractCallFailure Check widest select file) size offset
         (λ given found is. (

@@ -80,5 +80,5 @@ pub node_read_failed : (limit depth : ℕ) (file : List ℕ) (IsReason : ℕ →
     (failure : Failure) → IsInRange limit depth → limits ≡ bounds limit depth → failure ≡ failure_of_error cause →
     IsFitReadError limits file cause → IsTreeFailure (LimitsCheck limit depth) (bounds limit depth) file IsReason failure
 node_read_failed limit depth file IsReason limits cause failure in_range same_limits same is =
-    tree_failed (IsInRange limit depth) (bounds limit depth) file IsReason cause failure in_range same
+    tree_failed (LimitsCheck limit depth) (bounds limit depth) file IsReason cause failure in_range same
     (subst (λ (l : Limits). IsFitReadError l file cause) same_limits is)

@@ -20,7 +20,7 @@ use Rattle.bi_c.proofs.CheckFacts.{element_is_wrong}
 
 module _ (limit depth : ℕ) (input : List ℕ) (fields : LegacyFields) (parts : List Region) where
   -- If a region is outside the input, the call fails.
-  pub no_pieces : (failure : Failure) → IsInRange limit depth → IsPieceInside input fields.name → 
+  pub no_pieces : (failure : Failure) → IsInRange limit depth → IsPieceInside input fields.name →
       IsElementFailure Parts (IsPieceInside input) parts failure →
       IsPieceBuildFailure limit depth input fields parts failure
   no_pieces (WrongArgument found index) in_range inside none =

@@ -3,7 +3,7 @@ use Rattle.std.specs.Prelude.{Option, None}
 use Rattle.bi_base.specs.declared.fault.Error.{Error}
 use Rattle.bi_base.specs.declared.fault.Error.TheVariants as error
 use Rattle.bi_base.specs.Causes.{number_of}
-use Rattle.bi_c.specs.Checks.{IsWrong, number_of_argument}
+use Rattle.bi_c.specs.Checks.{IsWrong, argument_number}
 use Rattle.bi_c.specs.declared.answer.Answer.{Answer}
 use Rattle.bi_c.specs.declared.argument.Argument.{Argument}
 use Rattle.bi_c.specs.declared.failure.Failure.{Failure}
@@ -56,7 +56,7 @@ answer_of_failure (WrongArgument argument index) = record {
   cause = 0;
   offset = 0;
   file = 0;
-  reason = number_of_argument argument;
+  reason = argument_number argument;
 }
 
 -- The status of a failure.

@@ -11,28 +11,28 @@ use Rattle.bi_c.specs.declared.failure.Failure.TheVariants.{WrongArgument, OutOf
 -- wrong element if the argument is an array, and otherwise 0.
 
 -- The number of an argument. A call checks its arguments in the order of their numbers.
-abbrev pub number_of_argument : Argument → ℕ
-number_of_argument argument.Options = 1
-number_of_argument argument.Limit = 2
-number_of_argument argument.Depth = 3
-number_of_argument argument.Form = 4
-number_of_argument argument.Changes = 5
-number_of_argument argument.Layout = 6
-number_of_argument argument.Kinds = 7
-number_of_argument argument.Key = 8
-number_of_argument argument.Field = 9
-number_of_argument argument.Code = 10
-number_of_argument argument.Number = 11
-number_of_argument argument.Place = 12
-number_of_argument argument.Fields = 13
-number_of_argument argument.Parts = 14
-number_of_argument argument.Words = 15
-number_of_argument argument.Edits = 16
-number_of_argument argument.Images = 17
-number_of_argument argument.Texts = 18
-number_of_argument argument.Lists = 19
-number_of_argument argument.Algorithms = 20
-number_of_argument argument.Configurations = 21
+abbrev pub argument_number : Argument → ℕ
+argument_number argument.Options = 1
+argument_number argument.Limit = 2
+argument_number argument.Depth = 3
+argument_number argument.Form = 4
+argument_number argument.Changes = 5
+argument_number argument.Layout = 6
+argument_number argument.Kinds = 7
+argument_number argument.Key = 8
+argument_number argument.Field = 9
+argument_number argument.Code = 10
+argument_number argument.Number = 11
+argument_number argument.Place = 12
+argument_number argument.Fields = 13
+argument_number argument.Parts = 14
+argument_number argument.Words = 15
+argument_number argument.Edits = 16
+argument_number argument.Images = 17
+argument_number argument.Texts = 18
+argument_number argument.Lists = 19
+argument_number argument.Algorithms = 20
+argument_number argument.Configurations = 21
 
 -- No argument is checked.
 abbrev pub NoCheck : Option (Argument × ℕ) → Type 0

@@ -55,7 +55,8 @@ pub record IsNumberOfName (field : ℕ) (name : List ℕ) (size value : ℕ) : T
 
 -- Why there is no number: the number of the field is wrong, or no code has the name.
 abbrev pub IsCodeNumberFailure : (field : ℕ) → (name : List ℕ) → Failure → Type 0
-IsCodeNumberFailure field name (WrongArgument found index) = IsWrong (FieldCheck field) found index
+IsCodeNumberFailure field name (WrongArgument found index) =
+    IsWrong (FieldCheck field) found index
 IsCodeNumberFailure field name (NotFound reason index) =
     (field < 4) × (code_of_name (names_of_field field) name ≡ None) × (reason ≡ 15) × (index ≡ 0)
 IsCodeNumberFailure field name other = ⊥

@@ -32,6 +32,7 @@ use Rattle.bi_c.specs.NodeElements.{IsNodeReason, IsPropertyReason, LacksNode, L
 use Rattle.bi_c.specs.TreeBuilding.{address_if}
 use Rattle.bi_c.specs.ValueCalls.{failure_of_get_error, value_form_of, words_of_place}
 use Rattle.bi_c.specs.VerdictElements.{verdict_number}
+use Rattle.bi_c.specs.Checks.{argument_number}
 use Rattle.bi_c.specs.declared.answer.Answer.{Answer}
 use Rattle.bi_c.specs.declared.argument.Argument.TheVariants as argument
 use Rattle.bi_c.specs.declared.failure.Failure.TheVariants.{WrongArgument, Refused, OutOfMemory}
@@ -77,6 +78,30 @@ pub record AnswersAreKnown : Type 0 where
   pub wrong_argument : struct_numbers (answer_of_failure (WrongArgument argument.Edits 3))
       ≡ 0 ∷ 3 ∷ 0 ∷ 0 ∷ 0 ∷ 16 ∷ []
   pub missing : struct_numbers (answer_of_failure (NotFound 7 3)) ≡ 0 ∷ 3 ∷ 0 ∷ 0 ∷ 0 ∷ 7 ∷ []
+
+-- The numbers of the arguments.
+pub record ArgumentNumbersAreKnown : Type 0 where
+  pub options : argument_number argument.Options ≡ 1
+  pub limit : argument_number argument.Limit ≡ 2
+  pub depth : argument_number argument.Depth ≡ 3
+  pub form : argument_number argument.Form ≡ 4
+  pub changes : argument_number argument.Changes ≡ 5
+  pub layout : argument_number argument.Layout ≡ 6
+  pub kinds : argument_number argument.Kinds ≡ 7
+  pub key : argument_number argument.Key ≡ 8
+  pub field : argument_number argument.Field ≡ 9
+  pub code : argument_number argument.Code ≡ 10
+  pub number : argument_number argument.Number ≡ 11
+  pub place : argument_number argument.Place ≡ 12
+  pub fields : argument_number argument.Fields ≡ 13
+  pub parts : argument_number argument.Parts ≡ 14
+  pub words : argument_number argument.Words ≡ 15
+  pub edits : argument_number argument.Edits ≡ 16
+  pub images : argument_number argument.Images ≡ 17
+  pub texts : argument_number argument.Texts ≡ 18
+  pub lists : argument_number argument.Lists ≡ 19
+  pub algorithms : argument_number argument.Algorithms ≡ 20
+  pub configurations : argument_number argument.Configurations ≡ 21
 
 -- The choice has this reason, and the index of the first name that no image has, and no other.
 pub record HasReason (choice : Choice) (reason index : ℕ) : Type 0 where

@@ -1,7 +1,7 @@
 //! The arguments of a call that can be out of their ranges.
 
 ghost use Rattle.std.specs.Prelude.{◌≡◌};
-ghost use Rattle.bi_c.specs.Checks.{IsWrongLimit, number_of_argument};
+ghost use Rattle.bi_c.specs.Checks.{IsWrongLimit, argument_number};
 
 /// An argument of a call that can be out of its range. Of several that are, a call names the first
 /// in this order.
@@ -53,7 +53,7 @@ pub(crate) enum Argument {
 
 /// Returns the number of an argument.
 pub(crate) fn number_of(argument: Argument) -> u32
-    ensures { result ≡ number_of_argument argument }
+    ensures { result ≡ argument_number argument }
 {
     match argument {
         Argument::Options => 1,

@@ -46,7 +46,8 @@ loop-region-preserved c =
 pub returns-in_default-clause-failed : goal.returns-in_default-clause-failed
 returns-in_default-clause-failed c = (
   refl,
-  subst (IsFirstWrong (IsPieceInside c.args.input.now) c.args.regions.now) (sym (c.len.ensures ∙ c.loop-region.pieces.ok.0 ∙ c.loop-region.invariant.counted))
+  subst (IsFirstWrong (IsPieceInside c.args.input.now) c.args.regions.now) (sym (c.len.ensures ∙ c.loop-region.pieces.ok.0 ∙
+      c.loop-region.invariant.counted))
       (wrong_at (IsPieceInside c.args.input.now) c.args.regions.now c.loop-region.region-index no_region c.loop-region-test.true
       c.loop-region.invariant.inside c.in_default.ensures.none),
 )

@@ -13,14 +13,16 @@ use Rattle.bi_c.proofs.check.bootimg_check.Goals as goal
 pub returns-in_default : goal.returns-in_default
 returns-in_default c =
     FilledNothing (WrongArgument c.wrong_limit.result 0)
-    (first_is_wrong (LimitsCheck c.args.limit c.args.depth) Kinds (HasKinds c.args.limit c.args.depth c.args.kinds) _ 0 (λ valid. valid.limits)
+    (first_is_wrong (LimitsCheck c.args.limit c.args.depth) Kinds (HasKinds c.args.limit c.args.depth c.args.kinds) _ 0
+    (λ valid. valid.limits)
     (limits_are_wrong c.args.limit c.args.depth _ c.wrong_limit.ensures (not_so _ c.in_default.ensures.in_range)))
     refl c.fail.ensures.answer c.fail.ensures.status
 
 pub returns-in_default-policy_of : goal.returns-in_default-policy_of
 returns-in_default-policy_of c =
     FilledNothing (WrongArgument Kinds 0)
-    (next_is_wrong (LimitsCheck c.args.limit c.args.depth) Kinds (HasKinds c.args.limit c.args.depth c.args.kinds) (is_so _ c.in-Some.ensures.in_range)
+    (next_is_wrong (LimitsCheck c.args.limit c.args.depth) Kinds (HasKinds c.args.limit c.args.depth c.args.kinds)
+    (is_so _ c.in-Some.ensures.in_range)
     (λ valid. not_so _ c.in_default-policy_of.ensures.in_range valid.are_kinds))
     refl c.fail-in_default-policy_of.ensures.answer c.fail-in_default-policy_of.ensures.status
 

@@ -14,13 +14,15 @@ pub returns-then-field-gt-CODE_COMPRESSION : goal.returns-then-field-gt-CODE_COM
 returns-then-field-gt-CODE_COMPRESSION c =
     FilledNothing (WrongArgument Field 0)
     (first_is_wrong (FieldCheck c.args.field) Code (HasCodeOfField c.args.field c.args.code) Field 0 (λ has. has.is_field)
-    (next_is_wrong NoCheck Field (c.args.field < 4) tt (λ is_field. omega (arith, is_field, c.if-field-gt-CODE_COMPRESSION.true)))) refl c.fail.ensures.answer
+    (next_is_wrong NoCheck Field (c.args.field < 4) tt (λ is_field. omega (arith, is_field, c.if-field-gt-CODE_COMPRESSION.true)))) refl
+    c.fail.ensures.answer
     c.fail.ensures.status
 
 pub returns-in_default : goal.returns-in_default
 returns-in_default c =
     FilledNothing (WrongArgument Code 0)
-    (next_is_wrong (FieldCheck c.args.field) Code (HasCodeOfField c.args.field c.args.code) (omega (arith, c.if-field-gt-CODE_COMPRESSION.false))
+    (next_is_wrong (FieldCheck c.args.field) Code (HasCodeOfField c.args.field c.args.code)
+    (omega (arith, c.if-field-gt-CODE_COMPRESSION.false))
     (λ has. not_so _ c.in_default.ensures.in_range has.is_code)) refl c.fail-in_default.ensures.answer
     c.fail-in_default.ensures.status
 

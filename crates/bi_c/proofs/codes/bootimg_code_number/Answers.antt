@@ -9,7 +9,8 @@ use Rattle.bi_c.proofs.codes.bootimg_code_number.Goals as goal
 pub returns-then-field-gt-CODE_COMPRESSION : goal.returns-then-field-gt-CODE_COMPRESSION
 returns-then-field-gt-CODE_COMPRESSION c =
     Failed (WrongArgument Field 0)
-    (next_is_wrong NoCheck Field (c.args.field < 4) tt (λ is_field. omega (arith, is_field, c.if-field-gt-CODE_COMPRESSION.true))) c.fail.ensures.answer
+    (next_is_wrong NoCheck Field (c.args.field < 4) tt (λ is_field. omega (arith, is_field, c.if-field-gt-CODE_COMPRESSION.true)))
+    c.fail.ensures.answer
     c.fail.ensures.status
 
 pub returns-in-Some : goal.returns-in-Some

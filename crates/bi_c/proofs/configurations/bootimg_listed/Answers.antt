@@ -16,14 +16,16 @@ use Rattle.bi_c.proofs.configurations.bootimg_listed.Goals as goal
 pub returns-in_default : goal.returns-in_default
 returns-in_default c =
     FilledNothing (WrongArgument c.wrong_limit.result 0)
-    (first_is_wrong (LimitsCheck c.args.limit c.args.depth) argument.Key (HasKey c.args.limit c.args.depth c.args.key) _ 0 (λ valid. valid.limits)
+    (first_is_wrong (LimitsCheck c.args.limit c.args.depth) argument.Key (HasKey c.args.limit c.args.depth c.args.key) _ 0
+    (λ valid. valid.limits)
     (limits_are_wrong c.args.limit c.args.depth _ c.wrong_limit.ensures (not_so _ c.in_default.ensures.in_range)))
     refl c.fail.ensures.answer c.fail.ensures.status
 
 pub returns-in_default-key_of : goal.returns-in_default-key_of
 returns-in_default-key_of c =
     FilledNothing (WrongArgument argument.Key 0)
-    (next_is_wrong (LimitsCheck c.args.limit c.args.depth) argument.Key (HasKey c.args.limit c.args.depth c.args.key) (is_so _ c.in-Some.ensures.in_range)
+    (next_is_wrong (LimitsCheck c.args.limit c.args.depth) argument.Key (HasKey c.args.limit c.args.depth c.args.key)
+    (is_so _ c.in-Some.ensures.in_range)
     (λ valid. not_so _ c.in_default-key_of.ensures.in_range valid.is_key))
     refl c.fail-in_default-key_of.ensures.answer c.fail-in_default-key_of.ensures.status
 

@@ -52,7 +52,8 @@ loop-image-preserved c =
 pub returns-in_default-clause-failed : goal.returns-in_default-clause-failed
 returns-in_default-clause-failed c = (
   refl,
-  subst (IsFirstWrong (IsSpecInside c.args.input.now) c.args.images.now) (sym (c.len.ensures ∙ c.loop-image.specs.ok.0 ∙ c.loop-image.invariant.counted))
+  subst (IsFirstWrong (IsSpecInside c.args.input.now) c.args.images.now) (sym (c.len.ensures ∙ c.loop-image.specs.ok.0 ∙
+      c.loop-image.invariant.counted))
       (wrong_at (IsSpecInside c.args.input.now) c.args.images.now c.loop-image.image-index no_element c.loop-image-test.true
       c.loop-image.invariant.inside c.in_default.ensures.none),
 )

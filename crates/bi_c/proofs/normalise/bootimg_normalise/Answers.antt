@@ -21,7 +21,8 @@ returns-in_default c =
 pub returns-in_default-form_of : goal.returns-in_default-form_of
 returns-in_default-form_of c =
     FilledNothing (WrongArgument Form 0)
-    (next_is_wrong (LimitsCheck c.args.limit c.args.depth) Form (HasForm c.args.limit c.args.depth c.args.form) (is_so _ c.in-Some.ensures.in_range)
+    (next_is_wrong (LimitsCheck c.args.limit c.args.depth) Form (HasForm c.args.limit c.args.depth c.args.form)
+    (is_so _ c.in-Some.ensures.in_range)
     (λ valid. c.in_default-form_of.ensures.none valid.form valid.is_form))
     refl c.fail-in_default-form_of.ensures.answer c.fail-in_default-form_of.ensures.status
 

@@ -27,7 +27,8 @@ loop-number-preserved c =
 pub returns-in_default-clause-failed : goal.returns-in_default-clause-failed
 returns-in_default-clause-failed c = (
   refl,
-  subst (IsFirstWrong (λ number. number < 6) c.args.numbers.now) (sym (c.len.ensures ∙ c.loop-number.algorithms.ok.0 ∙ c.loop-number.invariant.counted))
+  subst (IsFirstWrong (λ number. number < 6) c.args.numbers.now) (sym (c.len.ensures ∙ c.loop-number.algorithms.ok.0 ∙
+      c.loop-number.invariant.counted))
       (wrong_at (λ number. number < 6) c.args.numbers.now c.loop-number.number-index 0 c.loop-number-test.true
       c.loop-number.invariant.inside (not_so _ c.in_default.ensures.in_range)),
 )

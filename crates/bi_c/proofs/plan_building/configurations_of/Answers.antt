@@ -27,7 +27,8 @@ loop-element-preserved c =
 pub returns-in_default-clause-failed : goal.returns-in_default-clause-failed
 returns-in_default-clause-failed c = λ lists same. (
   refl,
-  subst (IsFirstWrong (IsConfigurationInside c.args.input.now lists) c.args.elements.now) (sym (c.len.ensures ∙ c.loop-element.configurations.ok.0 ∙ c.loop-element.invariant.counted))
+  subst (IsFirstWrong (IsConfigurationInside c.args.input.now lists) c.args.elements.now)
+      (sym (c.len.ensures ∙ c.loop-element.configurations.ok.0 ∙ c.loop-element.invariant.counted))
       (wrong_at (IsConfigurationInside c.args.input.now lists) c.args.elements.now c.loop-element.element-index past_configuration
       c.loop-element-test.true (c.loop-element.invariant.are lists same).inside (c.in_default.ensures.none lists same)),
 )

@@ -8,7 +8,12 @@ use Rattle.bi_c.proofs.CheckFacts.{counted_more, wrong_at}
 use Rattle.bi_c.proofs.plan_building.texts_of.Goals as goal
 
 pub loop-element-init : goal.loop-element-init
-loop-element-init c = record { inside = tt; counted = ap length c.new-texts.ensures.items; so_far = ap texts_models c.new-texts.ensures.items }
+loop-element-init c = record {
+  inside = tt;
+  counted = ap length c.new-texts.ensures.items;
+  so_far = ap texts_models
+      c.new-texts.ensures.items;
+}
 
 pub loop-element-preserved : goal.loop-element-preserved
 loop-element-preserved c =
@@ -29,7 +34,8 @@ loop-element-preserved c =
 pub returns-in_default-clause-failed : goal.returns-in_default-clause-failed
 returns-in_default-clause-failed c = (
   refl,
-  subst (IsFirstWrong (AreTextsInside c.args.input.now) c.args.elements.now) (sym (c.len.ensures ∙ c.loop-element.texts.ok.0 ∙ c.loop-element.invariant.counted))
+  subst (IsFirstWrong (AreTextsInside c.args.input.now) c.args.elements.now) (sym
+      (c.len.ensures ∙ c.loop-element.texts.ok.0 ∙ c.loop-element.invariant.counted))
       (wrong_at (AreTextsInside c.args.input.now) c.args.elements.now c.loop-element.element-index past_texts c.loop-element-test.true
       c.loop-element.invariant.inside c.in_default.ensures.none),
 )

@@ -18,23 +18,28 @@ use Rattle.bi_c.proofs.update.bootimg_update.Goals as goal
 pub returns-in_default : goal.returns-in_default
 returns-in_default c =
     FilledNothing (WrongArgument c.wrong_limit.result 0)
-    (first_is_wrong (FormCheck c.args.limit c.args.depth c.args.form) argument.Changes (HasChanges c.args.limit c.args.depth c.args.form c.args.changes) _ 0 (λ valid. valid.has_form)
-    (first_is_wrong (LimitsCheck c.args.limit c.args.depth) argument.Form (HasForm c.args.limit c.args.depth c.args.form) _ 0 (λ valid. valid.limits)
+    (first_is_wrong (FormCheck c.args.limit c.args.depth c.args.form) argument.Changes
+    (HasChanges c.args.limit c.args.depth c.args.form c.args.changes) _ 0 (λ valid. valid.has_form)
+    (first_is_wrong (LimitsCheck c.args.limit c.args.depth) argument.Form (HasForm c.args.limit c.args.depth c.args.form) _ 0
+    (λ valid. valid.limits)
     (limits_are_wrong c.args.limit c.args.depth _ c.wrong_limit.ensures (not_so _ c.in_default.ensures.in_range))))
     refl c.fail.ensures.answer c.fail.ensures.status
 
 pub returns-in_default-form_of : goal.returns-in_default-form_of
 returns-in_default-form_of c =
     FilledNothing (WrongArgument argument.Form 0)
-    (first_is_wrong (FormCheck c.args.limit c.args.depth c.args.form) argument.Changes (HasChanges c.args.limit c.args.depth c.args.form c.args.changes) argument.Form 0 (λ valid. valid.has_form)
-    (next_is_wrong (LimitsCheck c.args.limit c.args.depth) argument.Form (HasForm c.args.limit c.args.depth c.args.form) (is_so _ c.in-Some.ensures.in_range)
+    (first_is_wrong (FormCheck c.args.limit c.args.depth c.args.form) argument.Changes
+    (HasChanges c.args.limit c.args.depth c.args.form c.args.changes) argument.Form 0 (λ valid. valid.has_form)
+    (next_is_wrong (LimitsCheck c.args.limit c.args.depth) argument.Form (HasForm c.args.limit c.args.depth c.args.form)
+    (is_so _ c.in-Some.ensures.in_range)
     (λ valid. c.in_default-form_of.ensures.none valid.form valid.is_form)))
     refl c.fail-in_default-form_of.ensures.answer c.fail-in_default-form_of.ensures.status
 
 pub returns-in_default-changes_of : goal.returns-in_default-changes_of
 returns-in_default-changes_of c =
     FilledNothing (WrongArgument argument.Changes 0)
-    (next_is_wrong (FormCheck c.args.limit c.args.depth c.args.form) argument.Changes (HasChanges c.args.limit c.args.depth c.args.form c.args.changes) (record {
+    (next_is_wrong (FormCheck c.args.limit c.args.depth c.args.form) argument.Changes
+    (HasChanges c.args.limit c.args.depth c.args.form c.args.changes) (record {
       limits = is_so _ c.in-Some.ensures.in_range;
       form = c.in-Some-form_of.kind;
       is_form = c.in-Some-form_of.ensures.some;
