@@ -1,4 +1,4 @@
-use Rattle.std.proofs.Common.{◌≡◌, ◌∙◌, ◌++◌, ℕ, List, [], ◌∷◌, Option, ap, lit<, lit≤, refl, sym, subst, arith}
+use Rattle.std.proofs.Common.{codes, ◌≡◌, ◌∙◌, ◌++◌, ℕ, List, [], ◌∷◌, Option, ap, lit<, lit≤, refl, sym, subst, arith}
 use Rattle.std.specs.List.{AllZip, join_with_byte}
 use Rattle.bi_common.specs.Shown.{path, shown_text}
 use Rattle.bi_describe.proofs.DescribedFileFacts.{only_smallest, tree_of_smallest_text}
@@ -19,9 +19,11 @@ use Rattle.bi_legacy.specs.Text.{legacy_text}
 use Rattle.bi_norm.specs.Meaning.{Meaning, OfFit, OfLegacy, normal_text}
 use Rattle.bi_norm.proofs.ComparisonFacts.{multi_means}
 use Rattle.bi_c.specs.EditCalls.{IsEditOf, IsEditedFile, IsSetting, OfFile, OfWord, edit_note_numbers}
-use Rattle.bi_c.specs.KnownEditCalls.{EditArgumentsAreKnown, EditCallsAreKnown, EditElementsAreKnown, no_numbers, number_element}
+use Rattle.bi_c.specs.KnownEditCalls.{word_element, EditArgumentsAreKnown, EditCallsAreKnown, EditElementsAreKnown, no_numbers}
+use Rattle.bi_c.specs.KnownEditCalls.{number_element}
 use Rattle.bi_c.proofs.AnswerFacts.{widest_is_in_range}
-use Rattle.bi_c.specs.declared.argument.Argument.TheVariants.{Edits, Form}
+use Rattle.bi_c.specs.declared.argument.Argument.TheVariants.{Edits}
+use Rattle.bi_c.specs.declared.argument.Argument.TheVariants as argument
 use Rattle.bi_c.specs.Checks.{IsFirstWrong, IsWrong, LimitsCheck, NextCheck}
 use Rattle.bi_c.specs.EditCalls.{EditsCheck, HasChoice, IsEditElement}
 use Rattle.bi_c.specs.declared.edits.EditElement.{EditElement}
@@ -67,7 +69,8 @@ no_empty_setting SetDigests is = is
 wrong_edit : (input : List ℕ) (elements : List EditElement) (index : ℕ) → IsFirstWrong (IsEditElement input) elements index →
     IsWrong (EditsCheck 0x7fffffff 64 0 input elements) Edits index
 wrong_edit input elements index =
-    element_is_wrong (NextCheck (LimitsCheck 0x7fffffff 64) Form (HasChoice 0x7fffffff 64 0)) Edits (IsEditElement input) elements index
+    element_is_wrong (NextCheck (LimitsCheck 0x7fffffff 64) argument.Form (HasChoice 0x7fffffff 64 0)) Edits (IsEditElement input) elements
+    index
     (record { limits = widest_is_in_range; choice = choice.Given Embedded; is_choice = refl })
 
 pub edit_arguments_are_known : EditArgumentsAreKnown

@@ -372,7 +372,7 @@ module _ (one_legacy : OneLegacyMeaning) where
     normalised = normalised;
     not_normalised = not_normalised;
     no_such_form = no_such_form;
-  two_wrong = two_wrong;
+    two_wrong = two_wrong;
     updated = updated;
     no_such_change = no_such_change;
     concern = concern;
@@ -428,7 +428,7 @@ module _ (one_legacy : OneLegacyMeaning) where
   -- ---- extracting
 
   module _ (Check : Option (Argument × ℕ) → Type 0) (valid : Check None) (select : Select) (file : List ℕ) (meaning : Meaning)
-  (means : Means widest file meaning)
+      (means : Means widest file meaning)
       (choice : Choice) (chosen : choice_of select meaning ≡ choice) where
     -- What holds of the choice of what the file means holds of this one.
     of_choice : (P : Choice → Type 0) → MeansSuch widest file (λ other. P (choice_of select other)) → P choice
@@ -546,6 +546,10 @@ multi_is_too_large before =
     failed OutOfMemory is = inr refl
     failed (NotFound reason index) is = absurd is
 
+-- The limits and the name are valid.
+abbrev HasName : Type 0
+HasName = IsInRange 87 64 × IsPieceInside pieces_of_multi fields_of_multi.name
+
 part_is_outside : (before : List ℕ) →
     AlwaysFills (IsBuiltOfPieces 87 64 pieces_of_multi fields_of_multi (region_at_offset 6 4 ∷ []))
     (IsPieceBuildFailure 87 64 pieces_of_multi fields_of_multi (region_at_offset 6 4 ∷ [])) before before
@@ -558,13 +562,10 @@ part_is_outside before =
     outside : ¬ (HasPieces 87 64 pieces_of_multi fields_of_multi (region_at_offset 6 4 ∷ []))
     outside is = omega (arith, is.parts_inside.0)
 
-    abbrev IsName : Type 0
-    IsName = IsInRange 87 64 × IsPieceInside pieces_of_multi fields_of_multi.name
-
     only : OnlyWrong (PiecesCheck 87 64 pieces_of_multi fields_of_multi (region_at_offset 6 4 ∷ [])) Parts 0
     only =
-        array_only (NextCheck (LimitsCheck 87 64) Fields IsName) Parts (IsPieceInside pieces_of_multi) (region_at_offset 6 4 ∷ []) 0
-        (next_none (LimitsCheck 87 64) Fields IsName (limits_none 87 64 (lit≤ tt, lit≤ tt, lit≤ tt, lit≤ tt))
+        array_only (NextCheck (LimitsCheck 87 64) Fields HasName) Parts (IsPieceInside pieces_of_multi) (region_at_offset 6 4 ∷ []) 0
+        (next_none (LimitsCheck 87 64) Fields HasName (limits_none 87 64 (lit≤ tt, lit≤ tt, lit≤ tt, lit≤ tt))
         ((lit≤ tt, lit≤ tt, lit≤ tt, lit≤ tt), lit≤ tt))
         (first_only (IsPieceInside pieces_of_multi) (region_at_offset 6 4) [] (λ is. omega (arith, is)))
 

@@ -1,4 +1,4 @@
-use Rattle.std.proofs.Common.{◌≡◌, ◌⊎◌, ◌∙◌, ℕ, List, [], ◌∷◌, codes, None, Some, inl, inr, ap, refl, lit<}
+use Rattle.std.proofs.Common.{◌≡◌, ◌<◌, ◌⊎◌, ◌∙◌, ℕ, List, [], ◌∷◌, codes, None, Some, inl, inr, ap, refl, lit<, lit≤}
 use Rattle.std.proofs.Common.{arith}
 use Rattle.std.specs.List.{AllZip}
 use Rattle.bi_fit.specs.declared.building.Head.{Head}
@@ -32,10 +32,11 @@ use Rattle.bi_c.specs.KnownPlanCalls.{kernel_texts, known_options, ramdisk_texts
 use Rattle.bi_c.specs.KnownPlanCalls.{with_configuration, with_options, with_other_texts}
 use Rattle.bi_c.specs.PieceBuilding.{IsPieceInside}
 use Rattle.bi_c.specs.PlanBuilding.{AlgorithmsCheck, AreOptions, AreOtherOptions, AreTextsInside, ImagesCheck, IsConfigurationInside}
-use Rattle.bi_c.specs.PlanBuilding.{ListsCheck, OptionsCheck, OwnCheck, PlanCheck, TextsCheck}
+use Rattle.bi_c.specs.PlanBuilding.{ListsCheck, OptionsCheck, OptionsDepthCheck, OptionsLimitCheck, OwnCheck, PlanCheck, TextsCheck}
 use Rattle.bi_c.specs.TreeBuilding.{IsSpecInside}
 use Rattle.bi_c.specs.declared.argument.Argument.{Argument}
-use Rattle.bi_c.specs.declared.argument.Argument.TheVariants.{Algorithms, Configurations, Depth, Form, Images, Limit, Lists, Options, Texts}
+use Rattle.bi_c.specs.declared.argument.Argument.TheVariants.{Algorithms, Configurations, Depth, Images, Limit, Lists, Options, Texts}
+use Rattle.bi_c.specs.declared.argument.Argument.TheVariants as argument
 use Rattle.bi_c.specs.declared.plan_building.BuildConfiguration.{BuildConfiguration}
 use Rattle.bi_c.specs.declared.plan_building.BuildOptions.{BuildOptions}
 use Rattle.bi_c.specs.declared.plan_building.BuildTexts.{BuildTexts}
@@ -162,8 +163,9 @@ module _ (pieces : PlanPieces) (wrong : Argument) (options : ¬ (AreOptions piec
 wrong_own : (pieces : PlanPieces) → ¬ (AreOtherOptions pieces.input pieces.options) → HasWrongArgument Options 0 pieces
 wrong_own pieces wrong =
     wrong_options pieces Options (λ are. wrong (others are))
-    (next_keeps _ Form (AreOptions pieces.input pieces.options) Options 0
-    (next_keeps _ Depth (AreOtherOptions pieces.input pieces.options × IsInRange pieces.options.limit pieces.options.depth) Options 0
+    (next_keeps (OptionsDepthCheck pieces.input pieces.options) argument.Form (AreOptions pieces.input pieces.options) Options 0
+    (next_keeps (OptionsLimitCheck pieces.input pieces.options) Depth
+    (AreOtherOptions pieces.input pieces.options × IsInRange pieces.options.limit pieces.options.depth) Options 0
     (next_keeps (OwnCheck pieces.input pieces.options) Limit (AreOtherOptions pieces.input pieces.options × IsLimit pieces.options.limit)
     Options 0 (next_only NoCheck Options (AreOtherOptions pieces.input pieces.options) no_check_none) wrong)
     (λ valid. wrong valid.0)) (λ valid. wrong valid.0))
@@ -179,8 +181,8 @@ wrong_own pieces wrong =
 -- Valid options are not wrong.
 options_none : (input : List ℕ) (options : BuildOptions) → AreOptions input options → NoneWrong (OptionsCheck input options)
 options_none input options are =
-    next_none _ Form (AreOptions input options)
-    (next_none _ Depth (AreOtherOptions input options × IsInRange options.limit options.depth)
+    next_none (OptionsDepthCheck input options) argument.Form (AreOptions input options)
+    (next_none (OptionsLimitCheck input options) Depth (AreOtherOptions input options × IsInRange options.limit options.depth)
     (next_none (OwnCheck input options) Limit (AreOtherOptions input options × IsLimit options.limit)
     (next_none NoCheck Options (AreOtherOptions input options) no_check_none others)
     (others, (are.arguments.limits.0, are.arguments.limits.1))) (others, are.arguments.limits)) are
@@ -282,25 +284,23 @@ wrong_list =
     (λ valid. omega (arith, valid.1.0))) (λ valid. omega (arith, valid.0.1.0)))
 
 -- There is no form with the number 2.
-wrong_form : HasWrongArgument Form 0 (with_options (record known_options { form = 2 }))
+abbrev formless_options : BuildOptions
+formless_options = record known_options { form = 2 }
+
+wrong_form : HasWrongArgument argument.Form 0 (with_options formless_options)
 wrong_form =
-    wrong_options pieces Form none
-    (next_only _ Form (AreOptions pieces_of_plan options)
-    (next_none _ Depth (AreOtherOptions pieces_of_plan options × IsInRange 0x7fffffff 64)
-    (next_none (OwnCheck pieces_of_plan options) Limit (AreOtherOptions pieces_of_plan options × IsLimit 0x7fffffff)
-    (next_none NoCheck Options (AreOtherOptions pieces_of_plan options) no_check_none others)
+    wrong_options (with_options formless_options) argument.Form none
+    (next_only (OptionsDepthCheck pieces_of_plan formless_options) argument.Form (AreOptions pieces_of_plan formless_options)
+    (next_none (OptionsLimitCheck pieces_of_plan formless_options) Depth
+    (AreOtherOptions pieces_of_plan formless_options × IsInRange 0x7fffffff 64)
+    (next_none (OwnCheck pieces_of_plan formless_options) Limit (AreOtherOptions pieces_of_plan formless_options × IsLimit 0x7fffffff)
+    (next_none NoCheck Options (AreOtherOptions pieces_of_plan formless_options) no_check_none others)
     (others, (lit≤ tt, lit≤ tt))) (others, widest_is_in_range)))
   where
-    abbrev options : BuildOptions
-    options = record known_options { form = 2 }
-
-    abbrev pieces : PlanPieces
-    pieces = with_options options
-
-    none : ¬ (AreOptions pieces_of_plan options)
+    none : ¬ (AreOptions pieces_of_plan formless_options)
     none are = no_form_below_four 2 (lit< tt) (lit< tt) are.arguments.form are.arguments.is_form
 
-    others : AreOtherOptions pieces_of_plan options
+    others : AreOtherOptions pieces_of_plan formless_options
     others = record { is_size = refl; description = lit≤ tt; default = lit≤ tt; is_flag = lit< tt }
 
 pub wrong_plans_are_known : WrongPlansAreKnown

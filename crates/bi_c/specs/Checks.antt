@@ -39,7 +39,8 @@ abbrev pub NoCheck : Option (Argument × ℕ) → Type 0
 NoCheck None = ⊤
 NoCheck (Some found) = ⊥
 
--- After these checks, one more argument is checked. It says when all arguments so far are valid.
+-- After other checks, the next argument is checked: all arguments so far are valid, or this one is
+-- the first that is wrong.
 abbrev pub NextCheck : (First : Option (Argument × ℕ) → Type 0) → (next : Argument)
     → (AreValid : Type 0) → Option (Argument × ℕ) → Type 0
 NextCheck First next AreValid None = AreValid
@@ -54,7 +55,7 @@ pub record IsFirstWrong {T : Type 0} (IsValid : T → Type 0) (elements : List T
     pub before : AllByRecursion IsValid (take index elements)
     pub is_wrong : ¬ (IsValid element)
 
--- After these checks, the elements of an array are checked.
+-- After other checks, the elements of an array are checked.
 abbrev pub ArrayCheck : {T : Type 0} (First : Option (Argument × ℕ) → Type 0) → (array : Argument)
     → (IsValid : T → Type 0) → List T → Option (Argument × ℕ) → Type 0
 ArrayCheck First array IsValid elements None = First None × AllByRecursion IsValid elements

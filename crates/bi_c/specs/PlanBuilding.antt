@@ -183,14 +183,17 @@ pub record ArePieces (pieces : PlanPieces) : Type 0 where
 abbrev pub OwnCheck : (input : List ℕ) → BuildOptions → Option (Argument × ℕ) → Type 0
 OwnCheck input options = NextCheck NoCheck argument.Options (AreOtherOptions input options)
 
+abbrev pub OptionsLimitCheck : (input : List ℕ) → BuildOptions → Option (Argument × ℕ) → Type 0
+OptionsLimitCheck input options = NextCheck (OwnCheck input options) argument.Limit
+    (AreOtherOptions input options × IsLimit options.limit)
+
+abbrev pub OptionsDepthCheck : (input : List ℕ) → BuildOptions → Option (Argument × ℕ) → Type 0
+OptionsDepthCheck input options = NextCheck (OptionsLimitCheck input options) argument.Depth
+    (AreOtherOptions input options × IsInRange options.limit options.depth)
+
 abbrev pub OptionsCheck : (input : List ℕ) → BuildOptions → Option (Argument × ℕ) → Type 0
 OptionsCheck input options =
-    NextCheck
-    (NextCheck
-    (NextCheck (OwnCheck input options) argument.Limit
-    (AreOtherOptions input options × IsLimit options.limit))
-    argument.Depth (AreOtherOptions input options × IsInRange options.limit options.depth))
-    argument.Form (AreOptions input options)
+    NextCheck (OptionsDepthCheck input options) argument.Form (AreOptions input options)
 
 -- Then the images are checked,
 abbrev pub ImagesCheck : PlanPieces → Option (Argument × ℕ) → Type 0

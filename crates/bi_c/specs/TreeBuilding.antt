@@ -69,12 +69,6 @@ pub record IsTreeRefusal (limit depth form time : ℕ) (input description : List
     pub is_to_be_built : IsToBeBuilt time input description images head specs
     pub is : IsBuildError (bounds limit depth) arguments.form head specs (error.Refused fault)
 
--- The numbers are in their ranges, and the images are inside the input.
-pub record HasSpecs (limit depth form : ℕ) (input : List ℕ) (images : List BuildElement) : Type 0
-  where
-    pub arguments : HasForm limit depth form
-    pub specs_inside : AllByRecursion (IsSpecInside input) images
-
 -- The limits, the form and then the images are checked.
 abbrev pub SpecsCheck : (limit depth form : ℕ) → (input : List ℕ) → List BuildElement
     → Option (Argument × ℕ) → Type 0
