@@ -10,7 +10,7 @@ use Rattle.bi_legacy.specs.Codes.{CodeName, compression_names, name_of_code}
 use Rattle.bi_show.specs.AllCodes.{code_of_name, given_arch_names, given_os_names, given_type_names}
 use Rattle.bi_c.specs.CodeCalls.{HasCodeOfField, IsCodeNameFailure, IsCodeNumberFailure, IsNameOfCode, IsNumberOfName, names_of_field}
 use Rattle.bi_c.specs.Answers.{answer_of}
-use Rattle.bi_c.specs.KnownCalls.{AlwaysAnswers, AlwaysFills, empty_answer}
+use Rattle.bi_c.specs.KnownCalls.{AlwaysAnswers, AlwaysFills}
 use Rattle.bi_c.specs.KnownCodeCalls.{NamesOfCodesAreKnown}
 use Rattle.bi_c.specs.declared.failure.Failure.{Failure}
 use Rattle.bi_c.specs.declared.failure.Failure.TheVariants.{NotFound, OutOfMemory, Refused, WrongArgument}

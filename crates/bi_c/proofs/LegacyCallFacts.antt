@@ -52,7 +52,7 @@ use Rattle.bi_show.specs.KnownPages.{PagesAreKnown}
 use Rattle.bi_show.specs.ShownFiles.{IsPage, OfLegacyImage, OfImageTree}
 use Rattle.bi_c.specs.Answers.{Answers, IsFailure, Returned, Failed, Sets, WasSet, WasNotSet}
 use Rattle.bi_c.specs.Answers.{answer_of, answer_of_failure}
-use Rattle.bi_c.specs.Arguments.{HasChanges, HasForm, HasLayout, IsErrorInForm, allowed_by, changes_of}
+use Rattle.bi_c.specs.Arguments.{HasChanges, HasForm, IsErrorInForm, allowed_by, changes_of}
 use Rattle.bi_c.specs.Calls.{HasKinds, IsCheckText, IsFailureOfOne, IsKindFailure, IsKindNumber, IsNormaliseFailure, IsNormalised}
 use Rattle.bi_c.specs.Calls.{IsPageFailure, IsPageText, IsUpdateFailure, IsUpdatedText, flag}
 use Rattle.bi_c.specs.ConcernElements.{AreConcernElements, concern_element}

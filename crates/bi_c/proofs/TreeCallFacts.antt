@@ -4,7 +4,7 @@ use Rattle.std.specs.List.{AllZip}
 use Rattle.bi_base.specs.Cells.{cell, cell8, u32_at}
 use Rattle.bi_base.specs.declared.fault.Cause.TheVariants.{BadField}
 use Rattle.bi_base.specs.declared.fault.Fault.{Fault}
-use Rattle.bi_base.specs.Limits.{IsInRange, widest}
+use Rattle.bi_base.specs.Limits.{widest}
 use Rattle.bi_base.specs.Strings.{text_before_nul}
 use Rattle.bi_blob.specs.Layout.{text_of_events, text_of_blocks}
 use Rattle.bi_blob.specs.Lookups.{Sibling, property_named, root_node, siblings}

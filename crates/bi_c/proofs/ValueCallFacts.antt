@@ -1,4 +1,4 @@
-use Rattle.std.proofs.Common.{◌≡◌, ℕ, List, [], ◌∷◌, codes, refl, subst, lit<, arith}
+use Rattle.std.proofs.Common.{ℕ, List, [], ◌∷◌, codes, refl, subst, lit<, arith}
 use Rattle.bi_base.specs.Limits.{widest}
 use Rattle.bi_legacy.specs.Laws.{OneLegacyMeaning}
 use Rattle.bi_values.specs.Getting.{IsTextOfValues}

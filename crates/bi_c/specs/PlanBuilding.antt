@@ -1,5 +1,5 @@
 use Rattle.std.specs.Prelude.{ℕ, ◌+◌, ◌<◌, ◌≤◌, ◌≡◌, ◌==◌, List, Option, None, Some, if◌then◌else◌}
-use Rattle.std.specs.Prelude.{Bool, ⊤, length, map, take, drop}
+use Rattle.std.specs.Prelude.{Bool, length, map, take, drop}
 use Rattle.std.specs.List.{AllByRecursion, AllZip}
 use Rattle.std.specs.Option.{option_map}
 use Rattle.bi_base.specs.declared.fault.Fault.{Fault}

@@ -13,7 +13,7 @@ use Rattle.bi_c.specs.Checks.{IsWrong, LimitsCheck, NextCheck}
 use Rattle.bi_c.specs.declared.argument.Argument.{Argument}
 use Rattle.bi_c.specs.declared.argument.Argument.TheVariants as argument
 use Rattle.bi_c.specs.declared.failure.Failure.{Failure}
-use Rattle.bi_c.specs.declared.failure.Failure.TheVariants.{WrongArgument, Refused, OutOfMemory}
+use Rattle.bi_c.specs.declared.failure.Failure.TheVariants.{WrongArgument, OutOfMemory}
 use Rattle.bi_c.specs.declared.failure.Failure.TheVariants.{NotFound}
 
 -- What the call from C returns that gets a single value (profile of this project).

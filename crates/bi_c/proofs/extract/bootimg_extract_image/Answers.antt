@@ -1,5 +1,4 @@
 use Rattle.std.proofs.Common.{refl}
-use Rattle.bi_base.specs.Limits.{IsInRange}
 use Rattle.bi_commands.specs.declared.extract.Select.TheVariants.{Image}
 use Rattle.bi_c.specs.declared.failure.Failure.TheVariants.{WrongArgument}
 use Rattle.bi_c.specs.Answers.{Failed}
