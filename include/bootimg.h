@@ -30,7 +30,10 @@
  *   BOOTIMG_OUT_OF_MEMORY   An allocation failed (that it did is tested, and not proved).
  *   BOOTIMG_NO_ROOM         The output is larger than the buffer. `size` and `value` are as for
  *                           BOOTIMG_OK.
- *   BOOTIMG_WRONG_ARGUMENT  A number is out of the range of its argument.
+ *   BOOTIMG_WRONG_ARGUMENT  An argument is out of its range. `reason` is its number, one of
+ *                           BOOTIMG_ARGUMENT_*; of several that are, it is the least. `value` is
+ *                           the index of the first wrong element if the argument is an array, and
+ *                           otherwise 0.
  *   BOOTIMG_NOT_FOUND       What the call looks for is not there. `reason` is one of
  *                           BOOTIMG_WRONG_KIND to BOOTIMG_FINDS_NOTHING. `value` is an index: of
  *                           the first name that no image has for BOOTIMG_MISSING, of the first word
@@ -156,7 +159,7 @@ enum bootimg_cause {
 #define BOOTIMG_LOADABLES 4u
 #define BOOTIMG_SCRIPT 5u
 
-/* `reason`: what is not there. */
+/* `reason` with BOOTIMG_NOT_FOUND: what is not there. */
 #define BOOTIMG_WRONG_KIND 1u
 #define BOOTIMG_NO_PART 2u
 #define BOOTIMG_NO_IMAGE 3u
@@ -175,6 +178,34 @@ enum bootimg_cause {
 #define BOOTIMG_BAD_WORD 16u
 #define BOOTIMG_BAD_EDIT 17u
 #define BOOTIMG_FINDS_NOTHING 18u
+
+/* `reason` with BOOTIMG_WRONG_ARGUMENT: the parameter of the call with this name.
+ * BOOTIMG_ARGUMENT_PLACE stands for `place` and `name` of bootimg_get, and BOOTIMG_ARGUMENT_FIELDS
+ * for the region of the name. `form`, `limit` and `depth` of bootimg_build_options have their own
+ * numbers, and BOOTIMG_ARGUMENT_OPTIONS stands for its other members. */
+enum bootimg_argument {
+    BOOTIMG_ARGUMENT_OPTIONS = 1,
+    BOOTIMG_ARGUMENT_LIMIT = 2,
+    BOOTIMG_ARGUMENT_DEPTH = 3,
+    BOOTIMG_ARGUMENT_FORM = 4,
+    BOOTIMG_ARGUMENT_CHANGES = 5,
+    BOOTIMG_ARGUMENT_LAYOUT = 6,
+    BOOTIMG_ARGUMENT_KINDS = 7,
+    BOOTIMG_ARGUMENT_KEY = 8,
+    BOOTIMG_ARGUMENT_FIELD = 9,
+    BOOTIMG_ARGUMENT_CODE = 10,
+    BOOTIMG_ARGUMENT_NUMBER = 11,
+    BOOTIMG_ARGUMENT_PLACE = 12,
+    BOOTIMG_ARGUMENT_FIELDS = 13,
+    BOOTIMG_ARGUMENT_PARTS = 14,
+    BOOTIMG_ARGUMENT_WORDS = 15,
+    BOOTIMG_ARGUMENT_EDITS = 16,
+    BOOTIMG_ARGUMENT_IMAGES = 17,
+    BOOTIMG_ARGUMENT_TEXTS = 18,
+    BOOTIMG_ARGUMENT_LISTS = 19,
+    BOOTIMG_ARGUMENT_ALGORITHMS = 20,
+    BOOTIMG_ARGUMENT_CONFIGURATIONS = 21
+};
 
 /* `field`: a field of the header of a legacy image that contains a code. */
 #define BOOTIMG_CODE_OS 0u

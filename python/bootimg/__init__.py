@@ -42,6 +42,7 @@ from typing import Any, Iterable, Iterator, NamedTuple, TypeVar, overload
 __version__ = "0.4.0"
 __all__ = [
     "ALGORITHMS",
+    "ARGUMENTS",
     "Buffer",
     "BuildConfiguration",
     "BuildImage",
@@ -159,6 +160,29 @@ REASONS = (
     "bad edit",
     "nothing to remove",
 )
+ARGUMENTS = (
+    "options",
+    "limit",
+    "depth",
+    "form",
+    "changes",
+    "layout",
+    "kinds",
+    "key",
+    "field",
+    "code",
+    "number",
+    "place",
+    "fields",
+    "parts",
+    "words",
+    "edits",
+    "images",
+    "texts",
+    "lists",
+    "algorithms",
+    "configurations",
+)
 VALUE_FORMS = ("shown", "text", "number", "raw")
 
 _OK, _REFUSED, _OUT_OF_MEMORY, _NO_ROOM, _WRONG_ARGUMENT, _NOT_FOUND = range(6)
@@ -213,7 +237,12 @@ class OutOfMemory(BootimgError, MemoryError):
 
 
 class WrongArgument(BootimgError, ValueError):
-    """A number is out of the range of its argument, or a name is unknown."""
+    """A number is out of the range of its argument, or a name is unknown. `argument` is the name of
+    the argument: one of ARGUMENTS, or of another number or name that the module looks at itself."""
+
+    def __init__(self, argument: str, shown: str | None = None) -> None:
+        super().__init__(f"wrong argument: {argument if shown is None else shown}")
+        self.argument = argument
 
 
 class NotFound(BootimgError, LookupError):
@@ -441,17 +470,22 @@ def _load() -> ctypes.CDLL:
 _library = _load()
 
 
-def _number(number: int) -> int:
+def _number(number: int, argument: str) -> int:
     """Returns a number that C can take. Raises WrongArgument for any other number."""
     if not 0 <= number <= 0xFFFFFFFF:
-        raise WrongArgument("wrong argument")
+        raise WrongArgument(argument)
     return number
 
 
-def _index_of(name: str, names: tuple[str, ...]) -> int:
+def _bounds(limit: int, depth: int) -> tuple[int, int]:
+    """Returns the limits that C takes."""
+    return _number(limit, "limit"), _number(depth, "depth")
+
+
+def _index_of(name: str, names: tuple[str, ...], argument: str) -> int:
     """Returns the number of a name that C passes as a number."""
     if name not in names:
-        raise WrongArgument(f"wrong argument: {name!r}")
+        raise WrongArgument(argument, repr(name))
     return names.index(name)
 
 
@@ -461,7 +495,7 @@ def _raise(status: int, answer: _Answer) -> None:
     if status == _OUT_OF_MEMORY:
         raise OutOfMemory("out of memory")
     if status == _WRONG_ARGUMENT:
-        raise WrongArgument("wrong argument")
+        raise WrongArgument(ARGUMENTS[answer.reason - 1])
     if status == _NOT_FOUND and answer.reason == _BAD_WORD:
         raise _BadWord(answer.value)
     if status == _NOT_FOUND and answer.reason in (_BAD_EDIT, _FINDS_NOTHING):
@@ -591,7 +625,7 @@ def version() -> str:
 
 def cause_name(number: int) -> str:
     """Returns the name of the cause with the given number, 1 to 26."""
-    return _fill("cause_name", 64, (), _number(number))[0].decode("ascii")
+    return _fill("cause_name", 64, (), _number(number, "number"))[0].decode("ascii")
 
 
 def explain(number: int) -> str:
@@ -601,7 +635,7 @@ def explain(number: int) -> str:
     >>> bootimg.explain(4)
     'The data checksum of a legacy image is wrong: fetch the image again.'
     """
-    return _fill("explain", 512, (), _number(number))[0].decode("ascii")
+    return _fill("explain", 512, (), _number(number, "number"))[0].decode("ascii")
 
 
 def kind(file: Buffer) -> str:
@@ -617,8 +651,8 @@ def _form(external: bool, align: int | None) -> int:
     if align is None:
         return int(external)
     if not external or align in (0, 1):
-        raise WrongArgument("wrong argument")
-    return _number(align)
+        raise WrongArgument("form")
+    return _number(align, "form")
 
 
 def normalise(
@@ -645,7 +679,7 @@ def normalise_and_count(
 ) -> tuple[bytes, int]:
     """Returns what `normalise` returns, and the number of signature nodes, which are kept and not
     checked."""
-    numbers = (_form(external, align), _number(limit), _number(depth))
+    numbers = (_form(external, align), *_bounds(limit, depth))
     return _fill("normalise", _size_of(file) + 4096, (file,), *numbers)
 
 
@@ -719,7 +753,7 @@ def _update_numbers(
     """Returns the numbers of an update for C."""
     changes = int(time is not None) + 2 * int(hashes)
     form = _form(external, align)
-    return (changes, _number(time or 0), form, _number(limit), _number(depth))
+    return (changes, _number(time or 0, "time"), form, *_bounds(limit, depth))
 
 
 def _region(name: str, files: tuple[Buffer, ...], *numbers: int) -> memoryview:
@@ -733,14 +767,14 @@ def extract_part(
 ) -> memoryview:
     """Returns the part with the given index, counted from 0, of a legacy image, as a view of the
     file."""
-    return _region("extract_part", (file,), _number(index), _number(limit), _number(depth))
+    return _region("extract_part", (file,), _number(index, "index"), *_bounds(limit, depth))
 
 
 def extract_image(
     file: Buffer, name: bytes | str, limit: int = LIMIT, depth: int = DEPTH
 ) -> memoryview:
     """Returns the payload of the image with the given name in a FIT, as a view of the file."""
-    return _region("extract_image", (file, _name_of(name)), _number(limit), _number(depth))
+    return _region("extract_image", (file, _name_of(name)), *_bounds(limit, depth))
 
 
 def extract_config(
@@ -754,7 +788,7 @@ def extract_config(
     """Returns a payload that the configuration with the given name lists under a key, one of KEYS,
     as a view of the file. `index` is its index in the list, counted from 0. Without a name, the
     default configuration is used."""
-    numbers = (_index_of(key, KEYS), _number(index), _number(limit), _number(depth))
+    numbers = (_index_of(key, KEYS, "key"), _number(index, "index"), *_bounds(limit, depth))
     if name is None:
         return _region("extract_default", (file,), *numbers)
     return _region("extract_config", (file, _name_of(name)), *numbers)
@@ -772,25 +806,25 @@ def _text(name: str, files: tuple[Buffer, ...], *numbers: int) -> tuple[str, int
 def listing(file: Buffer, limit: int = LIMIT, depth: int = DEPTH) -> str:
     """Returns the listing of a file: what the image holds, and the sizes and offsets of parts or
     payloads."""
-    return _text("list", (file,), _number(limit), _number(depth))[0]
+    return _text("list", (file,), *_bounds(limit, depth))[0]
 
 
 def listing_json(file: Buffer, limit: int = LIMIT, depth: int = DEPTH) -> str:
     """Returns what `listing` says as one JSON text in ASCII and a newline."""
-    return _text("list_json", (file,), _number(limit), _number(depth))[0]
+    return _text("list_json", (file,), *_bounds(limit, depth))[0]
 
 
 def describe(file: Buffer, limit: int = LIMIT, depth: int = DEPTH) -> str:
     """Returns the description of what a file means. It does not depend on the layout of the file.
     Raises Refused with TooLarge if the description, or the payloads together, are longer than
     `limit`."""
-    return _text("describe", (file,), _number(limit), _number(depth))[0]
+    return _text("describe", (file,), *_bounds(limit, depth))[0]
 
 
 def describe_json(file: Buffer, limit: int = LIMIT, depth: int = DEPTH) -> str:
     """Returns what `describe` says as one JSON text in ASCII and a newline. Raises Refused with
     TooLarge if this text, or the payloads together, are longer than `limit`."""
-    return _text("describe_json", (file,), _number(limit), _number(depth))[0]
+    return _text("describe_json", (file,), *_bounds(limit, depth))[0]
 
 
 def get(
@@ -806,8 +840,8 @@ def get(
     is one of VALUE_FORMS. Raises WrongArgument if the words do not name one value, and NotFound if
     it is not there, or not in the form."""
     files = (file, _name_of(place), _name_of(name))
-    number = _index_of(form, VALUE_FORMS)
-    return _fill("get", 256, files, number, _number(limit), _number(depth))[0]
+    number = _index_of(form, VALUE_FORMS, "form")
+    return _fill("get", 256, files, number, *_bounds(limit, depth))[0]
 
 
 def show(
@@ -817,13 +851,13 @@ def show(
     the verdicts on hash nodes, of its configurations, of its signature nodes with what they cover,
     and the lines of `check`. With `layout`, it shows the regions of the file by their offsets. Its
     form may change with the version. Raises Refused with TooLarge as `check` does."""
-    return _text("show", (file,), int(layout), _number(limit), _number(depth))[0]
+    return _text("show", (file,), int(layout), *_bounds(limit, depth))[0]
 
 
 def show_json(file: Buffer, limit: int = LIMIT, depth: int = DEPTH) -> str:
     """Returns what `show` says, without regions of the file, as one JSON text in ASCII and a
     newline. Its form stays. Raises Refused as `show` does."""
-    return _text("show_json", (file,), _number(limit), _number(depth))[0]
+    return _text("show_json", (file,), *_bounds(limit, depth))[0]
 
 
 def scan(file: Buffer, limit: int = LIMIT, depth: int = DEPTH) -> str:
@@ -837,24 +871,24 @@ def scan(file: Buffer, limit: int = LIMIT, depth: int = DEPTH) -> str:
     >>> print(bootimg.scan(bytes(100) + small), end="")
     100 legacy 65 Linux
     """
-    return _text("scan", (file,), _number(limit), _number(depth))[0]
+    return _text("scan", (file,), *_bounds(limit, depth))[0]
 
 
 def scan_json(file: Buffer, limit: int = LIMIT, depth: int = DEPTH) -> str:
     """Returns what `scan` says as one JSON text in ASCII and a newline, even if there is no
     image."""
-    return _text("scan_json", (file,), _number(limit), _number(depth))[0]
+    return _text("scan_json", (file,), *_bounds(limit, depth))[0]
 
 
 def verify(file: Buffer, limit: int = LIMIT, depth: int = DEPTH) -> Report:
     """Returns the report on the checksums and digests of a file."""
-    text, value = _text("verify", (file,), _number(limit), _number(depth))
+    text, value = _text("verify", (file,), *_bounds(limit, depth))
     return Report(text, value == 1)
 
 
 def verify_json(file: Buffer, limit: int = LIMIT, depth: int = DEPTH) -> Report:
     """Returns what `verify` says, with the report as one JSON text in ASCII and a newline."""
-    text, value = _text("verify_json", (file,), _number(limit), _number(depth))
+    text, value = _text("verify_json", (file,), *_bounds(limit, depth))
     return Report(text, value == 1)
 
 
@@ -872,7 +906,7 @@ def check(
     Refused with TooLarge if the payloads together, or the paths that signatures must cover, are
     longer than `limit`."""
     number = _policy_number(allow, signed)
-    return _text("check", (file,), number, _number(limit), _number(depth))[0]
+    return _text("check", (file,), number, *_bounds(limit, depth))[0]
 
 
 def check_json(
@@ -886,20 +920,20 @@ def check_json(
     """Returns what `check` says as one JSON text in ASCII and a newline, even if there is no
     concern."""
     number = _policy_number(allow, signed)
-    return _text("check_json", (file,), number, _number(limit), _number(depth))[0]
+    return _text("check_json", (file,), number, *_bounds(limit, depth))[0]
 
 
 def _policy_number(allow: Iterable[str], signed: bool) -> int:
     """Returns the number of a choice of kinds of concerns, and of whether signatures are asked
     for."""
-    return sum(1 << _index_of(kind, CONCERNS) for kind in set(allow)) + _SIGNED * signed
+    return sum(1 << _index_of(kind, CONCERNS, "kinds") for kind in set(allow)) + _SIGNED * signed
 
 
 def convert(file: Buffer, limit: int = LIMIT, depth: int = DEPTH) -> bytes:
     """Returns the FIT that a legacy image is converted to. Raises Refused with BadMagic for a file
     that is not a legacy image, with NoCodeName, EmptyPart or TooManyParts for an image that cannot
     be converted, and with TooLarge if the output is longer than `limit`."""
-    return _fill("convert", _size_of(file) + 4096, (file,), _number(limit), _number(depth))[0]
+    return _fill("convert", _size_of(file) + 4096, (file,), *_bounds(limit, depth))[0]
 
 
 @overload
@@ -972,7 +1006,7 @@ def build_legacy(
             raise TypeError("build_legacy() needs header, or os, arch and type")
         header = LegacyHeader("", 0, 0, 0, os, arch, type, "none")
     if isinstance(header, FitHeader):
-        raise WrongArgument("wrong argument: the header of a FIT")
+        raise WrongArgument("header", "the header of a FIT")
     pieces = [_name_of(header.name if name is None else name), *map(_bytes_of, parts)]
     regions, offset = [], 0
     for piece in pieces:
@@ -985,13 +1019,13 @@ def build_legacy(
         code_number("compression", header.compression if compression is None else compression),
     )
     numbers = (
-        _number(header.time if time is None else time),
-        _number(header.load if load is None else load),
-        _number(header.entry if entry is None else entry),
+        _number(header.time if time is None else time, "time"),
+        _number(header.load if load is None else load, "load"),
+        _number(header.entry if entry is None else entry, "entry"),
     )
     fields = _LegacyFields(regions[0], *numbers, *codes)
     array = (_Region * len(regions[1:]))(*regions[1:])
-    rest = (ctypes.byref(fields), array, len(array), _number(limit), _number(depth))
+    rest = (ctypes.byref(fields), array, len(array), *_bounds(limit, depth))
     return _fill("build_legacy", offset + 4096, (b"".join(pieces),), *rest)[0]
 
 
@@ -1069,7 +1103,7 @@ class _Input:
         regions = self.add_text(image.name), self.add(bytes(image.payload))
         codes = [0, 0, 0, 0] if image.texts else [*map(_code_of, CODES, [image] * 4)]
         addresses = int(image.load is not None) + 2 * int(image.entry is not None)
-        load, entry = _number(image.load or 0), _number(image.entry or 0)
+        load, entry = _number(image.load or 0, "load"), _number(image.entry or 0, "entry")
         return _BuildElement(*regions, load, entry, addresses, *codes)
 
     def add_texts(self, image: BuildImage) -> _BuildTexts:
@@ -1134,10 +1168,9 @@ def build_fit(
         ctypes.sizeof(_BuildOptions),
         made.add_text(description),
         made.add_text(default),
-        _number(time),
+        _number(time, "time"),
         _form(external, align),
-        _number(limit),
-        _number(depth),
+        *_bounds(limit, depth),
         int(default is not None),
     )
     arrays: list[ctypes.Array[Any]] = [
@@ -1145,7 +1178,7 @@ def build_fit(
         (_BuildTexts * len(images))(*map(made.add_texts, images)),
         (_BuildConfiguration * len(planned))(*map(made.add_configuration, planned)),
     ]
-    algorithms = [_index_of(name, ALGORITHMS) for name in hashes]
+    algorithms = [_index_of(name, ALGORITHMS, "algorithms") for name in hashes]
     arrays += [
         (_Region * len(made.lists))(*made.lists),
         (ctypes.c_uint32 * len(algorithms))(*algorithms),
@@ -1157,7 +1190,7 @@ def build_fit(
 
 def same_meaning(one: Buffer, other: Buffer, limit: int = LIMIT, depth: int = DEPTH) -> bool:
     """Returns whether two files mean the same thing."""
-    answer = _call("same_meaning", (one, other), _number(limit), _number(depth))
+    answer = _call("same_meaning", (one, other), *_bounds(limit, depth))
     return bool(answer.value == 1)
 
 
@@ -1209,7 +1242,7 @@ def _compared(
     ignore: Iterable[bytes | str],
 ) -> Comparison:
     words = tuple(ignore)
-    numbers = (_number(limit), _number(depth))
+    numbers = _bounds(limit, depth)
     if not words:
         text, value = _text("compare" + ending, (one, other), *numbers)
         return Comparison(value == 1, text)
@@ -1222,7 +1255,7 @@ def _compared(
     try:
         filled = _fill("compare_ignoring" + ending, 16384, files, array, len(array), *numbers)
     except _BadWord as bad:
-        raise WrongArgument(f"wrong argument: {words[bad.index]!r}") from None
+        raise WrongArgument("words", repr(words[bad.index])) from None
     return Comparison(filled[1] == 1, filled[0].decode("ascii"))
 
 

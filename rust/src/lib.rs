@@ -40,7 +40,7 @@ pub use building::{
 pub use codes::CodeField;
 pub use concerns::{concerns, Concern};
 pub use edits::{edit, edit_notes, Edit, EditNotes, FormChoice};
-pub use error::{Cause, Error, Refusal};
+pub use error::{Argument, Cause, Error, Refusal};
 pub use fit::{Configuration, Fit, FitImage, Place, Reservation};
 pub use hashes::{Hash, Verdict};
 pub use legacy::{Header, Legacy};

@@ -4,7 +4,7 @@ use bootimg::{
     build_fit, build_fit_as, build_legacy, check, check_json, compare, compare_ignoring,
     compare_ignoring_json, compare_json, concerns, convert, describe, describe_json, edit,
     edit_notes, get, kind, listing, listing_json, normalise, notes, same_meaning, scan, scan_json,
-    show, show_json, update, verify, verify_json, version, Algorithm, BuildConfiguration,
+    show, show_json, update, verify, verify_json, version, Algorithm, Argument, BuildConfiguration,
     BuildImage, BuildTexts, Cause, Changes, CodeField, Concern, Concerns, Edit, EditNotes, Error,
     Fit, Form, FormChoice, Header, Key, Kind, Legacy, Limits, Notes, Place, Plan, Policy, Refusal,
     Value, ValueForm, Verdict,
@@ -118,7 +118,7 @@ fn fits() {
             depth: 64,
         },
     );
-    assert_eq!(wrong.unwrap_err(), Error::WrongArgument);
+    assert_eq!(wrong.unwrap_err(), Error::WrongArgument(Argument::Limit));
 }
 
 #[test]
@@ -316,7 +316,10 @@ fn fits_that_cannot_be_built() {
         built(second, size as u32 - 1),
         Err(refusal(Cause::TooLarge, size as u32 - 1, 1))
     );
-    assert_eq!(built(second, 63), Err(Error::WrongArgument));
+    assert_eq!(
+        built(second, 63),
+        Err(Error::WrongArgument(Argument::Limit))
+    );
     assert_eq!(
         build_fit(&[], b"\0", 0, Form::Embedded, ALL),
         Err(refusal(Cause::BadField, 0, 1))
@@ -359,7 +362,7 @@ fn texts() {
     );
     assert_eq!(
         get(&board, Value::Field("size"), ValueForm::Shown, ALL),
-        Err(Error::WrongArgument)
+        Err(Error::WrongArgument(Argument::Value))
     );
     assert!(verify(&board, ALL).unwrap().all_good && verify_json(&board, ALL).unwrap().all_good);
     assert_eq!(
@@ -571,11 +574,9 @@ fn alignments() {
     );
     for bytes in [0, 1, 2, 3, 12, 1 << 21, u32::MAX] {
         let wrong = Form::Aligned(bytes);
-        assert_eq!(normalise(&board, wrong, ALL), Err(Error::WrongArgument));
-        assert_eq!(
-            notes(&board, nothing, wrong, ALL),
-            Err(Error::WrongArgument)
-        );
+        let error = Error::WrongArgument(Argument::Form);
+        assert_eq!(normalise(&board, wrong, ALL), Err(error));
+        assert_eq!(notes(&board, nothing, wrong, ALL), Err(error));
     }
 }
 
@@ -648,7 +649,8 @@ fn kept_forms() {
     assert_eq!(noted(FormChoice::Given(Form::External)), lost);
     for bytes in [0, 1, 2, 3, 12] {
         let wrong = Form::Aligned(bytes).into();
-        assert_eq!(edit(&board, &edits, wrong, ALL), Err(Error::WrongArgument));
+        let error = Error::WrongArgument(Argument::Form);
+        assert_eq!(edit(&board, &edits, wrong, ALL), Err(error));
     }
 }
 

@@ -16,6 +16,10 @@ use Rattle.bi_norm.specs.Meaning.{OfFit}
 use Rattle.bi_c.specs.IgnoringCalls.{HasIgnoredWords}
 use Rattle.bi_c.specs.KnownElements.{region_at_offset}
 use Rattle.bi_c.specs.KnownIgnoringCalls.{IgnoringCallsAreKnown}
+use Rattle.bi_c.specs.declared.argument.Argument.TheVariants.{Words}
+use Rattle.bi_c.specs.Checks.{LimitsCheck}
+use Rattle.bi_c.specs.PieceBuilding.{IsPieceInside}
+use Rattle.bi_c.proofs.CheckFacts.{element_is_wrong}
 use Rattle.bi_c.proofs.AnswerFacts.{widest_is_in_range}
 
 -- What the calls return for small files that compare without what words name is known.
@@ -77,7 +81,14 @@ ignoring_calls_are_known one_legacy = record {
     record { limits = widest_is_in_range; inside = (lit≤ tt, (lit≤ tt, (lit≤ tt, tt))) },
     record { is_reason = refl; is_first = ignored_values_are_known.second },
   );
-  outside = λ one other has. omega (arith, has.inside.0);
+  outside = λ one other.
+      element_is_wrong (LimitsCheck 0x7fffffff 64) Words (IsPieceInside (codes "time"))
+      (region_at_offset 0 4 ∷ region_at_offset 1 4 ∷ []) 1 widest_is_in_range (record {
+        element = region_at_offset 1 4;
+        is_there = refl;
+        before = (lit≤ tt, tt);
+        is_wrong = λ is. omega (arith, is);
+      });
   refused = record {
     words = [];
     arguments = record { arguments = record { limits = widest_is_in_range; inside = tt }; are_words = refl };

@@ -1,4 +1,4 @@
-use Rattle.std.proofs.Common.{◌≡◌, ℕ, Bool, false, List, refl, subst}
+use Rattle.std.proofs.Common.{◌≡◌, ℕ, Bool, false, List, refl, subst, sym}
 use Rattle.std.specs.List.{AllByRecursion}
 use Rattle.bi_base.specs.Limits.{Limits, IsInRange}
 use Rattle.bi_common.specs.declared.format.Format.{Format}
@@ -12,9 +12,13 @@ use Rattle.bi_c.specs.declared.failure.Failure.TheVariants.{WrongArgument, Refus
 use Rattle.bi_c.specs.declared.region.Region.{Region}
 use Rattle.bi_c.specs.Arguments.{bounds}
 use Rattle.bi_c.specs.Calls.{failure_of_compare_error, flag}
-use Rattle.bi_c.specs.IgnoringCalls.{HasIgnoredWords, IsIgnoringFailure, IsWithoutWords, IsWordsFailure, pieces_in}
+use Rattle.bi_c.specs.IgnoringCalls.{HasIgnoredWords, IsIgnoringFailure, IsWithoutWords, IsWordsFailure, WordsCheck, pieces_in}
 use Rattle.bi_c.specs.PieceBuilding.{IsPieceInside}
 use Rattle.bi_c.proofs.ComparedFiles.{failed_of_two}
+use Rattle.bi_c.specs.declared.argument.Argument.{Argument}
+use Rattle.bi_c.specs.declared.argument.Argument.TheVariants.{Words}
+use Rattle.bi_c.specs.Checks.{IsWrong, LimitsCheck}
+use Rattle.bi_c.proofs.CheckFacts.{element_is_wrong}
 
 -- A call from C compares two files without what its words name, or fails as reading the words or comparing the files fails.
 
@@ -22,7 +26,9 @@ module _ (limit depth : ℕ) (input : List ℕ) (regions : List Region) (one oth
   -- If the regions have no words, the call fails.
   pub words_failed : (failure : Failure) → IsWordsFailure input regions failure →
       IsIgnoringFailure limit depth input regions one other failure
-  words_failed WrongArgument none = λ has. none has.inside
+  words_failed (WrongArgument found index) none =
+      subst (λ (wrong : Argument). IsWrong (WordsCheck limit depth input regions) wrong index) (sym none.0)
+      (element_is_wrong (LimitsCheck limit depth) Words (IsPieceInside input) regions index in_range none.1)
   words_failed OutOfMemory none = in_range
   words_failed (NotFound reason index) none = (record { limits = in_range; inside = none.0 }, none.1)
   words_failed (Refused file fault) none = absurd none

@@ -1,6 +1,7 @@
 pub mod AnswerFacts
 pub mod ArrayFilling
 pub mod CallAnswers
+pub mod CheckFacts
 pub mod CodeNames
 pub mod CheckedFiles
 pub mod ComparedFiles

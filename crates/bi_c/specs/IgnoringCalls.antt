@@ -1,4 +1,4 @@
-use Rattle.std.specs.Prelude.{ℕ, ◌≡◌, ⊤, Bool, false, List, map}
+use Rattle.std.specs.Prelude.{ℕ, ◌≡◌, Bool, false, List, Option, map}
 use Rattle.std.specs.List.{AllByRecursion}
 use Rattle.bi_base.specs.Limits.{IsInRange}
 use Rattle.bi_common.specs.declared.format.Format.{Format}
@@ -10,6 +10,9 @@ use Rattle.bi_describe.specs.declared.ignored.IgnoredError.TheVariants as ignore
 use Rattle.bi_c.specs.Arguments.{bounds}
 use Rattle.bi_c.specs.Calls.{IsFailureOfTwo, flag}
 use Rattle.bi_c.specs.PieceBuilding.{IsPieceInside, bytes_of_piece}
+use Rattle.bi_c.specs.Checks.{ArrayCheck, IsElementFailure, IsWrong, LimitsCheck}
+use Rattle.bi_c.specs.declared.argument.Argument.{Argument}
+use Rattle.bi_c.specs.declared.argument.Argument.TheVariants as argument
 use Rattle.bi_c.specs.declared.failure.Failure.{Failure}
 use Rattle.bi_c.specs.declared.failure.Failure.TheVariants.{WrongArgument, Refused, OutOfMemory}
 use Rattle.bi_c.specs.declared.failure.Failure.TheVariants.{NotFound}
@@ -26,6 +29,12 @@ pieces_in input regions = map (bytes_of_piece input) regions
 pub record HasInsideWords (limit depth : ℕ) (input : List ℕ) (regions : List Region) : Type 0 where
   pub limits : IsInRange limit depth
   pub inside : AllByRecursion (IsPieceInside input) regions
+
+-- The limits and then the words are checked.
+abbrev pub WordsCheck : (limit depth : ℕ) → (input : List ℕ) → List Region
+    → Option (Argument × ℕ) → Type 0
+WordsCheck limit depth input regions =
+    ArrayCheck (LimitsCheck limit depth) argument.Words (IsPieceInside input) regions
 
 -- The arguments are so, and the bytes in the regions are for these words.
 pub record HasIgnoredWords (limit depth : ℕ) (input : List ℕ) (regions : List Region)
@@ -58,11 +67,10 @@ pub record IsBadWord (input : List ℕ) (regions : List Region) (reason index : 
 
 -- Why regions of an input have no words.
 abbrev pub IsWordsFailure : (input : List ℕ) → List Region → Failure → Type 0
-IsWordsFailure input regions WrongArgument = ¬ (AllByRecursion (IsPieceInside input) regions)
-IsWordsFailure input regions OutOfMemory = ⊤
 IsWordsFailure input regions (NotFound reason index) =
     AllByRecursion (IsPieceInside input) regions × IsBadWord input regions reason index
-IsWordsFailure input regions (Refused file fault) = ⊥
+IsWordsFailure input regions failure =
+    IsElementFailure argument.Words (IsPieceInside input) regions failure
 
 -- Two files with valid words are refused.
 pub record IsRefusedWithWords (limit depth : ℕ) (input : List ℕ) (regions : List Region)
@@ -77,8 +85,8 @@ pub record IsRefusedWithWords (limit depth : ℕ) (input : List ℕ) (regions : 
 -- nothing, or comparing them fails. Memory can run out as soon as the limits are in their ranges.
 abbrev pub IsIgnoringFailure : (limit depth : ℕ) → (input : List ℕ) → List Region
     → (one other : List ℕ) → Failure → Type 0
-IsIgnoringFailure limit depth input regions one other WrongArgument =
-    ¬ (HasInsideWords limit depth input regions)
+IsIgnoringFailure limit depth input regions one other (WrongArgument found index) =
+    IsWrong (WordsCheck limit depth input regions) found index
 IsIgnoringFailure limit depth input regions one other (NotFound reason index) =
     HasInsideWords limit depth input regions × IsBadWord input regions reason index
 IsIgnoringFailure limit depth input regions one other OutOfMemory = IsInRange limit depth

@@ -8,6 +8,7 @@ use Rattle.bi_legacy.specs.KnownImages.{kernel_file}
 use Rattle.bi_norm.specs.KnownComparisons.{file_without_magic, no_magic}
 use Rattle.bi_c.specs.IgnoringCalls.{HasIgnoredWords, IsIgnoringFailure, IsWithoutWords}
 use Rattle.bi_c.specs.KnownElements.{region_at_offset}
+use Rattle.bi_c.specs.declared.argument.Argument.TheVariants as argument
 use Rattle.bi_c.specs.declared.failure.Failure.TheVariants.{Refused, WrongArgument, NotFound}
 
 -- What the calls return for small files that compare without what words name, by which a reader can
@@ -31,6 +32,6 @@ pub record IgnoringCallsAreKnown : Type 0 where
       (region_at_offset 0 4 ∷ region_at_offset 4 0 ∷ region_at_offset 4 1 ∷ []) one other
       (NotFound 16 1)
   pub outside : (one other : List ℕ) → IsIgnoringFailure 0x7fffffff 64 (codes "time")
-      (region_at_offset 1 4 ∷ []) one other WrongArgument
+      (region_at_offset 0 4 ∷ region_at_offset 1 4 ∷ []) one other (WrongArgument argument.Words 1)
   pub refused : IsIgnoringFailure 0x7fffffff 64 [] [] file_without_magic kernel_file
       (Refused 1 no_magic)

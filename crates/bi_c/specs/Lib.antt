@@ -1,6 +1,7 @@
 pub mod Answers
 pub mod Arguments
 pub mod Calls
+pub mod Checks
 pub mod CodeCalls
 pub mod ConcernElements
 pub mod EditCalls

@@ -11,6 +11,7 @@ ghost use Rattle.bi_c.specs.IgnoringCalls.{failure_of_ignored_error, pieces_in};
 ghost use Rattle.bi_c.specs.PieceBuilding.{IsPieceInside};
 
 use crate::answer::{Answer, fail};
+use crate::argument::{Argument, wrong_limit};
 use crate::arguments::limits_of;
 use crate::building::pieces;
 use crate::compare::fill_comparison;
@@ -45,7 +46,7 @@ pub extern "C" fn bootimg_compare_ignoring(
         buffer.old buffer.new answer.new result }
 {
     let Some(limits) = limits_of(limit, depth) else {
-        return fail(Failure::WrongArgument, answer);
+        return fail(Failure::WrongArgument(wrong_limit(limit), 0), answer);
     };
     let ignored = match ignored_words(alloc, input, words) {
         Ok(ignored) => ignored,
@@ -80,7 +81,7 @@ pub extern "C" fn bootimg_compare_ignoring_json(
         buffer.old buffer.new answer.new result }
 {
     let Some(limits) = limits_of(limit, depth) else {
-        return fail(Failure::WrongArgument, answer);
+        return fail(Failure::WrongArgument(wrong_limit(limit), 0), answer);
     };
     let ignored = match ignored_words(alloc, input, words) {
         Ok(ignored) => ignored,
@@ -106,7 +107,7 @@ fn ignored_words(alloc: Global, input: &[u8], regions: &[Region]) -> Result<Vec<
         (pieces_in input.now regions.now) (words_of_made ignored.items)) }
     ensures failed { IfErr result (IsWordsFailure input.now regions.now) }
 {
-    let values = match pieces(alloc, input, regions) {
+    let values = match pieces(alloc, input, regions, Argument::Words) {
         Ok(values) => values,
         Err(failure) => return Err(failure),
     };

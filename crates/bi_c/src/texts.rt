@@ -11,6 +11,7 @@ ghost use Rattle.bi_norm.specs.Converting.{IsConvertedFile, IsConvertError};
 ghost use Rattle.bi_norm.specs.Reading.{IsBootImageReadError};
 
 use crate::answer::{Answer, fail, fill};
+use crate::argument::wrong_limit;
 use crate::arguments::limits_of;
 use crate::failure::{Failure, failure_of};
 use bi_base::Error;
@@ -36,7 +37,7 @@ pub extern "C" fn bootimg_list(
         buffer.old buffer.new answer.new result }
 {
     let Some(limits) = limits_of(limit, depth) else {
-        return fail(Failure::WrongArgument, answer);
+        return fail(Failure::WrongArgument(wrong_limit(limit), 0), answer);
     };
     fill_text(listing(alloc, file, limits), buffer, answer)
 }
@@ -57,7 +58,7 @@ pub extern "C" fn bootimg_list_json(
         buffer.old buffer.new answer.new result }
 {
     let Some(limits) = limits_of(limit, depth) else {
-        return fail(Failure::WrongArgument, answer);
+        return fail(Failure::WrongArgument(wrong_limit(limit), 0), answer);
     };
     fill_text(listing_json(alloc, file, limits), buffer, answer)
 }
@@ -78,7 +79,7 @@ pub extern "C" fn bootimg_describe(
         buffer.old buffer.new answer.new result }
 {
     let Some(limits) = limits_of(limit, depth) else {
-        return fail(Failure::WrongArgument, answer);
+        return fail(Failure::WrongArgument(wrong_limit(limit), 0), answer);
     };
     fill_text(describe(alloc, file, limits), buffer, answer)
 }
@@ -100,7 +101,7 @@ pub extern "C" fn bootimg_describe_json(
         buffer.old buffer.new answer.new result }
 {
     let Some(limits) = limits_of(limit, depth) else {
-        return fail(Failure::WrongArgument, answer);
+        return fail(Failure::WrongArgument(wrong_limit(limit), 0), answer);
     };
     fill_text(describe_json(alloc, file, limits), buffer, answer)
 }
@@ -134,7 +135,7 @@ pub extern "C" fn bootimg_verify(
         buffer.old buffer.new answer.new result }
 {
     let Some(limits) = limits_of(limit, depth) else {
-        return fail(Failure::WrongArgument, answer);
+        return fail(Failure::WrongArgument(wrong_limit(limit), 0), answer);
     };
     fill_report(verify(alloc, file, limits), buffer, answer)
 }
@@ -157,7 +158,7 @@ pub extern "C" fn bootimg_verify_json(
         buffer.old buffer.new answer.new result }
 {
     let Some(limits) = limits_of(limit, depth) else {
-        return fail(Failure::WrongArgument, answer);
+        return fail(Failure::WrongArgument(wrong_limit(limit), 0), answer);
     };
     fill_report(verify_json(alloc, file, limits), buffer, answer)
 }
@@ -195,7 +196,7 @@ pub extern "C" fn bootimg_convert(
         buffer.old buffer.new answer.new result }
 {
     let Some(limits) = limits_of(limit, depth) else {
-        return fail(Failure::WrongArgument, answer);
+        return fail(Failure::WrongArgument(wrong_limit(limit), 0), answer);
     };
     match convert(alloc, file, limits) {
         Ok(text) => fill(&text, 0, buffer, answer),

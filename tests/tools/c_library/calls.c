@@ -352,7 +352,7 @@ static int extract(const struct call *call, FILE *output)
         }
         return 2;
     }
-    CHECK(answer->reason == 0);
+    CHECK((answer->reason != 0) == (status == BOOTIMG_WRONG_ARGUMENT));
     if (status != BOOTIMG_OK)
         return 10 + (int)status;
     CHECK(answer->value <= call->files[0].size && answer->size <= call->files[0].size - answer->value);
@@ -370,6 +370,13 @@ static const struct {
 };
 
 enum { CALLS_OF_ONE = sizeof of_one / sizeof of_one[0] };
+
+/* A call fails with this status since the argument with this number is wrong, and, if it is an array, its element with this index. */
+static void names(uint32_t status, const bootimg_result *answer, uint32_t argument, size_t index)
+{
+    CHECK(status == BOOTIMG_WRONG_ARGUMENT && answer->reason == argument && answer->value == index);
+    CHECK(answer->size == 0 && answer->cause == 0 && answer->offset == 0 && answer->file == 0);
+}
 
 /* A call of bootimg_edit on a file, with one byte of room, that fails with this status and this reason. */
 static void try_edit(const struct memory file, const char *input, const bootimg_edit_element *edits, size_t count, uint32_t form,
@@ -400,14 +407,14 @@ static void try_edits(const struct call *call)
         {{0, 1}, {2, (size_t)-1}, BOOTIMG_EDIT_PAYLOAD, 0}, {{(size_t)-1, 2}, {0, 0}, BOOTIMG_EDIT_REMOVE, 0},
     };
     for (size_t i = 0; i < 3; i++) {
-        try_edit(file, "", &time, 1, 0, limits[i], 64, BOOTIMG_WRONG_ARGUMENT, 0, 0);
-        try_edit(file, "", &time, 1, 0, call->limit, depths[i], BOOTIMG_WRONG_ARGUMENT, 0, 0);
+        try_edit(file, "", &time, 1, 0, limits[i], 64, BOOTIMG_WRONG_ARGUMENT, BOOTIMG_ARGUMENT_LIMIT, 0);
+        try_edit(file, "", &time, 1, 0, call->limit, depths[i], BOOTIMG_WRONG_ARGUMENT, BOOTIMG_ARGUMENT_DEPTH, 0);
     }
     for (size_t i = 0; i < sizeof forms / sizeof forms[0]; i++)
-        try_edit(file, "", &time, 1, forms[i], call->limit, 64, BOOTIMG_WRONG_ARGUMENT, 0, 0);
+        try_edit(file, "", &time, 1, forms[i], call->limit, 64, BOOTIMG_WRONG_ARGUMENT, BOOTIMG_ARGUMENT_FORM, 0);
     for (size_t i = 0; i < sizeof wrong / sizeof wrong[0]; i++) {
         const bootimg_edit_element edits[] = {time, bad, wrong[i], bad};
-        try_edit(file, "xy", edits, 4, 0, call->limit, 64, BOOTIMG_WRONG_ARGUMENT, 0, 0);
+        try_edit(file, "xy", edits, 4, 0, call->limit, 64, BOOTIMG_WRONG_ARGUMENT, BOOTIMG_ARGUMENT_EDITS, 2);
         try_edit(none, "xy", edits, 2, BOOTIMG_KEEP_FORM, 64, 1, BOOTIMG_NOT_FOUND, BOOTIMG_BAD_EDIT, 1);
     }
     try_edit(none, "", &time, 1, 0, call->limit, 64, BOOTIMG_REFUSED, 0, 0);
@@ -425,44 +432,50 @@ static int try_arguments(struct call *call)
         for (int j = 0; j < CALLS_OF_ONE; j++) {
             wrong.command = of_one[j].command;
             wrong.is_json = of_one[j].is_json;
-            CHECK(make(&wrong, &byte, 1, &answer) == BOOTIMG_WRONG_ARGUMENT);
-            CHECK(byte == 0xa5 && answer.size == 0 && answer.value == 0 && answer.cause == 0);
+            names(make(&wrong, &byte, 1, &answer), &answer, BOOTIMG_ARGUMENT_LIMIT, 0);
+            CHECK(byte == 0xa5);
         }
-        CHECK(bootimg_list(call->files[0].bytes, call->files[0].size, call->limit, depths[i], &byte, 1, &answer) ==
-              BOOTIMG_WRONG_ARGUMENT);
-        CHECK(bootimg_same_meaning(call->files[0].bytes, call->files[0].size, call->files[0].bytes, call->files[0].size,
-                                   call->limit, depths[i], &answer) == BOOTIMG_WRONG_ARGUMENT);
+        names(bootimg_list(call->files[0].bytes, call->files[0].size, call->limit, depths[i], &byte, 1, &answer), &answer,
+              BOOTIMG_ARGUMENT_DEPTH, 0);
+        names(bootimg_same_meaning(call->files[0].bytes, call->files[0].size, call->files[0].bytes, call->files[0].size,
+                                   call->limit, depths[i], &answer), &answer, BOOTIMG_ARGUMENT_DEPTH, 0);
     }
     for (int i = 0; i < 8; i++) {
         static const uint32_t forms[] = {2, 3, 5, 12, 4095, 0x180000, 0x200000, 0x80000000u};
-        CHECK(bootimg_normalise(call->files[0].bytes, call->files[0].size, forms[i], call->limit, 64, &byte, 1, &answer) ==
-              BOOTIMG_WRONG_ARGUMENT);
-        CHECK(bootimg_update(call->files[0].bytes, call->files[0].size, 0, 0, forms[i], call->limit, 64, &byte, 1, &answer) ==
-              BOOTIMG_WRONG_ARGUMENT);
+        names(bootimg_normalise(call->files[0].bytes, call->files[0].size, forms[i], call->limit, 64, &byte, 1, &answer), &answer,
+              BOOTIMG_ARGUMENT_FORM, 0);
+        names(bootimg_update(call->files[0].bytes, call->files[0].size, 0, 0, forms[i], call->limit, 64, &byte, 1, &answer), &answer,
+              BOOTIMG_ARGUMENT_FORM, 0);
     }
     for (int shift = 2; shift <= 20; shift++) {
         uint32_t status = bootimg_normalise(call->files[0].bytes, call->files[0].size, (uint32_t)1 << shift, call->limit, 64, NULL, 0,
                                             &answer);
         CHECK(status == BOOTIMG_NO_ROOM || status == BOOTIMG_REFUSED);
     }
-    CHECK(bootimg_check(call->files[0].bytes, call->files[0].size, 2 * BOOTIMG_SIGNED, call->limit, 64, &byte, 1, &answer) ==
-          BOOTIMG_WRONG_ARGUMENT);
-    CHECK(bootimg_check_json(call->files[0].bytes, call->files[0].size, 2 * BOOTIMG_SIGNED, call->limit, 64, &byte, 1, &answer) ==
-          BOOTIMG_WRONG_ARGUMENT);
-    CHECK(bootimg_update(call->files[0].bytes, call->files[0].size, 4, 0, 0, call->limit, 64, &byte, 1, &answer) ==
-          BOOTIMG_WRONG_ARGUMENT);
-    CHECK(bootimg_show(call->files[0].bytes, call->files[0].size, 2, call->limit, 64, &byte, 1, &answer) ==
-          BOOTIMG_WRONG_ARGUMENT);
-    CHECK(bootimg_get(call->files[0].bytes, call->files[0].size, (const uint8_t *)"/", 1, (const uint8_t *)"x", 1, 4, call->limit, 64,
-                      &byte, 1, &answer) == BOOTIMG_WRONG_ARGUMENT);
-    CHECK(bootimg_get(call->files[0].bytes, call->files[0].size, (const uint8_t *)"size", 4, NULL, 0, BOOTIMG_VALUE_RAW, call->limit, 64,
-                      &byte, 1, &answer) == BOOTIMG_WRONG_ARGUMENT);
+    names(bootimg_check(call->files[0].bytes, call->files[0].size, 2 * BOOTIMG_SIGNED, call->limit, 64, &byte, 1, &answer), &answer,
+          BOOTIMG_ARGUMENT_KINDS, 0);
+    names(bootimg_check_json(call->files[0].bytes, call->files[0].size, 2 * BOOTIMG_SIGNED, call->limit, 64, &byte, 1, &answer), &answer,
+          BOOTIMG_ARGUMENT_KINDS, 0);
+    names(bootimg_update(call->files[0].bytes, call->files[0].size, 4, 0, 0, call->limit, 64, &byte, 1, &answer), &answer,
+          BOOTIMG_ARGUMENT_CHANGES, 0);
+    /* Of several that are wrong, the first is named. */
+    names(bootimg_update(call->files[0].bytes, call->files[0].size, 4, 0, 3, call->limit, 64, &byte, 1, &answer), &answer,
+          BOOTIMG_ARGUMENT_FORM, 0);
+    names(bootimg_update(call->files[0].bytes, call->files[0].size, 4, 0, 3, call->limit, 65, &byte, 1, &answer), &answer,
+          BOOTIMG_ARGUMENT_DEPTH, 0);
+    names(bootimg_update(call->files[0].bytes, call->files[0].size, 4, 0, 3, 63, 65, &byte, 1, &answer), &answer,
+          BOOTIMG_ARGUMENT_LIMIT, 0);
+    names(bootimg_show(call->files[0].bytes, call->files[0].size, 2, call->limit, 64, &byte, 1, &answer), &answer,
+          BOOTIMG_ARGUMENT_LAYOUT, 0);
+    names(bootimg_get(call->files[0].bytes, call->files[0].size, (const uint8_t *)"/", 1, (const uint8_t *)"x", 1, 4, call->limit, 64,
+                      &byte, 1, &answer), &answer, BOOTIMG_ARGUMENT_FORM, 0);
+    names(bootimg_get(call->files[0].bytes, call->files[0].size, (const uint8_t *)"size", 4, NULL, 0, BOOTIMG_VALUE_RAW, call->limit, 64,
+                      &byte, 1, &answer), &answer, BOOTIMG_ARGUMENT_PLACE, 0);
     for (int i = 0; i < 2; i++) {
         const bootimg_region outside[] = {{0, 4}, {1 + (size_t)i, 4}};
-        CHECK(bootimg_compare_ignoring(call->files[0].bytes, call->files[0].size, call->files[0].bytes, call->files[0].size,
-                                       (const uint8_t *)"time", 4, outside, 2, i == 0 ? call->limit : 63, 64, &byte, 1, &answer) ==
-              BOOTIMG_WRONG_ARGUMENT);
-        CHECK(answer.value == 0 && answer.reason == 0);
+        names(bootimg_compare_ignoring(call->files[0].bytes, call->files[0].size, call->files[0].bytes, call->files[0].size,
+                                       (const uint8_t *)"time", 4, outside, 2, i == 0 ? call->limit : 63, 64, &byte, 1, &answer), &answer,
+              i == 0 ? BOOTIMG_ARGUMENT_WORDS : BOOTIMG_ARGUMENT_LIMIT, i == 0 ? 1 : 0);
     }
     try_edits(call);
     for (int selection = PART; selection <= DEFAULT; selection++) {
@@ -471,19 +484,22 @@ static int try_arguments(struct call *call)
         wrong.name = call->files[0];
         for (int i = 0; i < 4; i++) {
             wrong.limit = limits[i];
-            CHECK(make_extract(&wrong, &answer) == BOOTIMG_WRONG_ARGUMENT && answer.reason == 0);
+            names(make_extract(&wrong, &answer), &answer, BOOTIMG_ARGUMENT_LIMIT, 0);
         }
         wrong.limit = call->limit;
         wrong.key = BOOTIMG_SCRIPT + 1;
-        CHECK((make_extract(&wrong, &answer) == BOOTIMG_WRONG_ARGUMENT) == (selection >= CONFIG));
+        if (selection >= CONFIG)
+            names(make_extract(&wrong, &answer), &answer, BOOTIMG_ARGUMENT_KEY, 0);
+        else
+            CHECK(make_extract(&wrong, &answer) != BOOTIMG_WRONG_ARGUMENT);
     }
-    CHECK(bootimg_code_name(4, 5, &byte, 1, &answer) == BOOTIMG_WRONG_ARGUMENT && answer.reason == 0);
-    CHECK(bootimg_code_name(BOOTIMG_CODE_OS, 256, &byte, 1, &answer) == BOOTIMG_WRONG_ARGUMENT && answer.reason == 0);
-    CHECK(bootimg_code_number(4, (const uint8_t *)"linux", 5, &answer) == BOOTIMG_WRONG_ARGUMENT && answer.reason == 0);
-    CHECK(bootimg_cause_name(0, &byte, 1, &answer) == BOOTIMG_WRONG_ARGUMENT);
-    CHECK(bootimg_cause_name(27, &byte, 1, &answer) == BOOTIMG_WRONG_ARGUMENT);
-    CHECK(bootimg_explain(0, &byte, 1, &answer) == BOOTIMG_WRONG_ARGUMENT);
-    CHECK(bootimg_explain(27, &byte, 1, &answer) == BOOTIMG_WRONG_ARGUMENT);
+    names(bootimg_code_name(4, 256, &byte, 1, &answer), &answer, BOOTIMG_ARGUMENT_FIELD, 0);
+    names(bootimg_code_name(BOOTIMG_CODE_OS, 256, &byte, 1, &answer), &answer, BOOTIMG_ARGUMENT_CODE, 0);
+    names(bootimg_code_number(4, (const uint8_t *)"linux", 5, &answer), &answer, BOOTIMG_ARGUMENT_FIELD, 0);
+    names(bootimg_cause_name(0, &byte, 1, &answer), &answer, BOOTIMG_ARGUMENT_NUMBER, 0);
+    names(bootimg_cause_name(27, &byte, 1, &answer), &answer, BOOTIMG_ARGUMENT_NUMBER, 0);
+    names(bootimg_explain(0, &byte, 1, &answer), &answer, BOOTIMG_ARGUMENT_NUMBER, 0);
+    names(bootimg_explain(27, &byte, 1, &answer), &answer, BOOTIMG_ARGUMENT_NUMBER, 0);
     CHECK(byte == 0xa5);
     return 0;
 }

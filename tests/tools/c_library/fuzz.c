@@ -174,7 +174,8 @@ static void check_answer(uint32_t status, const bootimg_result *answer)
     CHECK((answer->cause != 0) == (status == BOOTIMG_REFUSED) && answer->cause <= BOOTIMG_CAUSE_UNSUPPORTED);
     CHECK((answer->file != 0) == (status == BOOTIMG_REFUSED) && answer->file <= 2);
     CHECK(answer->offset == 0 || status == BOOTIMG_REFUSED);
-    CHECK((answer->reason != 0) == (status == BOOTIMG_NOT_FOUND) && answer->reason <= BOOTIMG_FINDS_NOTHING);
+    CHECK((answer->reason != 0) == (status == BOOTIMG_NOT_FOUND || status == BOOTIMG_WRONG_ARGUMENT));
+    CHECK(answer->reason <= (status == BOOTIMG_NOT_FOUND ? (uint32_t)BOOTIMG_FINDS_NOTHING : (uint32_t)BOOTIMG_ARGUMENT_CONFIGURATIONS));
     CHECK(answer->size == 0 || status == BOOTIMG_OK || status == BOOTIMG_NO_ROOM);
 }
 

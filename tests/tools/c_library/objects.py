@@ -389,6 +389,26 @@ for field, names in bootimg.CODES.items():
     check(f"each code has its first name, if it has one: {field}", [bootimg.code_name(field, number) for number in range(256)] == firsts)
     check(f"the library finds each code by its names: {field}", all(bootimg.code_number(field, name) == names[name] for name in names))
 
+# A wrong argument is named, by the library or by the module.
+for named, call, arguments, options in (
+    ("limit", bootimg.describe, [small.file], {"limit": 63}),
+    ("limit", bootimg.describe, [small.file], {"limit": -1, "depth": 65}),
+    ("depth", bootimg.describe, [small.file], {"depth": 65}),
+    ("depth", bootimg.normalise, [small.file], {"external": True, "align": 12, "depth": 0}),
+    ("form", bootimg.normalise, [small.file], {"external": True, "align": 12}),
+    ("form", bootimg.normalise, [small.file], {"align": 4}),
+    ("kinds", bootimg.check, [small.file, ["none"]], {}),
+    ("place", bootimg.get, [small.file, "size"], {}),
+    ("number", bootimg.explain, [27], {}),
+    ("code", bootimg.code_name, ["os", 256], {}),
+    ("field", bootimg.code_name, ["load", 0], {}),
+):
+    try:
+        call(*arguments, **options)
+        check(f"a wrong argument: {named}", False)
+    except bootimg.WrongArgument as wrong:
+        check(f"a wrong argument is named: {named}", wrong.argument == named and named in bootimg.ARGUMENTS)
+
 # What is no header and no code.
 linux = {"os": "linux", "arch": "arm64", "type": "kernel"}
 check("the header of a FIT is none", raises(bootimg.WrongArgument, bootimg.build_legacy, [b""], header=image.header) is not None)

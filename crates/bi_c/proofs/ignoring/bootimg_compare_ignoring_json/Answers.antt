@@ -9,11 +9,18 @@ use Rattle.bi_c.specs.Calls.{failure_of_compare_error, flag}
 use Rattle.bi_c.specs.IgnoringCalls.{IsIgnoringFailure, IsWithoutWords, pieces_in}
 use Rattle.bi_c.proofs.CallAnswers.{not_so, is_so, made_fills}
 use Rattle.bi_c.proofs.IgnoringFiles.{words_failed, not_without_words, without_words}
+use Rattle.bi_c.specs.declared.argument.Argument.TheVariants.{Words}
+use Rattle.bi_c.specs.Checks.{LimitsCheck}
+use Rattle.bi_c.specs.PieceBuilding.{IsPieceInside}
+use Rattle.bi_c.proofs.CheckFacts.{before_array_is_wrong, limits_are_wrong}
 use Rattle.bi_c.proofs.ignoring.bootimg_compare_ignoring_json.Goals as goal
 
 pub returns-in_default : goal.returns-in_default
 returns-in_default c =
-    FilledNothing WrongArgument (λ has. not_so _ c.in_default.ensures.in_range has.limits) refl c.fail.ensures.answer c.fail.ensures.status
+    FilledNothing (WrongArgument c.wrong_limit.result 0)
+    (before_array_is_wrong (LimitsCheck c.args.limit c.args.depth) Words (IsPieceInside c.args.input.now) c.args.words.now _ 0
+    (limits_are_wrong c.args.limit c.args.depth _ c.wrong_limit.ensures (not_so _ c.in_default.ensures.in_range)))
+    refl c.fail.ensures.answer c.fail.ensures.status
 
 pub returns-in-Err : goal.returns-in-Err
 returns-in-Err c =
