@@ -7,9 +7,8 @@ use Rattle.bi_common.specs.declared.format.Format.TheVariants.{Lines}
 use Rattle.bi_common.specs.KnownWords.{lines}
 use Rattle.bi_common.specs.Lines.{text_of_lines}
 use Rattle.bi_describe.specs.DeepDescribing.{IsDeepDescription}
-use Rattle.bi_describe.specs.DeepLaws.{IsPlainlyDescribed, with_nothing_inside}
+use Rattle.bi_describe.specs.DeepLaws.{IsPlainlyDescribed, NothingInsideIsDescription, with_nothing_inside}
 use Rattle.bi_describe.specs.Describing.{IsDescription}
-use Rattle.bi_describe.proofs.DeepFacts.{nothing_inside_is_description}
 use Rattle.bi_describe.proofs.DescribedFileFacts.{described_files_are_known, only_smallest, tree_of_smallest_text}
 use Rattle.bi_fit.specs.KnownJudgements.{short_crc}
 use Rattle.bi_legacy.specs.KnownImages.{kernel_file}
@@ -54,10 +53,10 @@ abbrev smallest_lines : List ℕ
 smallest_lines = lines (codes "kind fit" ∷ codes "boot-cpu 0" ∷ codes "node /" ∷ codes "node /images" ∷ [])
 
 -- The smallest tree has no payloads, so nothing is inside.
-deep_smallest : OneLegacyMeaning → IsDeepDescription Lines widest smallest_text smallest_lines
-deep_smallest one_legacy =
+deep_smallest : OneLegacyMeaning → NothingInsideIsDescription → IsDeepDescription Lines widest smallest_text smallest_lines
+deep_smallest one_legacy nothing_inside =
     let described : IsDescription Lines widest smallest_text smallest_lines = (described_files_are_known one_legacy).text.is_text in
-    let plainly : IsPlainlyDescribed (OfFit tree_of_smallest_text) = nothing_inside_is_description (OfFit tree_of_smallest_text) in
+    let plainly : IsPlainlyDescribed (OfFit tree_of_smallest_text) = nothing_inside (OfFit tree_of_smallest_text) in
     record {
       deep = with_nothing_inside (OfFit tree_of_smallest_text);
       means = record {
@@ -118,8 +117,8 @@ get_failures_are_known one_legacy = record {
       ];
 }
 
-pub task_ends_are_known : OneLegacyMeaning → ScansAreKnown → PagesAreKnown → ObjectsAreKnown → TaskEndsAreKnown
-task_ends_are_known one_legacy scans pages objects =
+pub task_ends_are_known : OneLegacyMeaning → ScansAreKnown → PagesAreKnown → ObjectsAreKnown → NothingInsideIsDescription → TaskEndsAreKnown
+task_ends_are_known one_legacy scans pages objects nothing_inside =
     let verified = verify_outputs_are_known one_legacy in
     let checked = check_outputs_are_known one_legacy in
     let got = field_values_are_known one_legacy in
@@ -131,7 +130,7 @@ task_ends_are_known one_legacy scans pages objects =
       page_in_json = (objects.kernel, ends _);
       list = ((json_listings_are_known one_legacy).legacy, ends _);
       describe = ((described_files_are_known one_legacy).text.is_text, ends _);
-      deep = (deep_smallest one_legacy, ends _);
+      deep = (deep_smallest one_legacy nothing_inside, ends _);
       with_inside = λ format input output is. (is, ends _);
       verify = (_, verified.good, ends _);
       bad_hash = (_, verified.bad, ends _);
