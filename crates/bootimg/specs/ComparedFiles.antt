@@ -23,16 +23,14 @@ use Rattle.bootimg.specs.declared.failure.Failure.TheVariants.{Call}
 -- then: with what is inside their payloads if the flag is set.
 abbrev pub IsOutputWithout : (deep : Bool) → IgnoringOptionsModel → Limits → (one other : List ℕ)
     → (same : Bool) → (text : List ℕ) → Type 0
-IsOutputWithout false options limits one other same text =
-    AreComparedWithout options limits one other same text
-IsOutputWithout true options limits one other same text =
-    AreComparedDeepWithout options limits one other same text
+IsOutputWithout false options limits = AreComparedWithout options limits
+IsOutputWithout true options limits = AreComparedDeepWithout options limits
 
 -- Why they are not compared then.
 abbrev pub IsFailureWithout : (deep : Bool) → Limits → (one other : List ℕ) → CompareError
     → Type 0
-IsFailureWithout false limits one other error = IsIgnoringError limits one other error
-IsFailureWithout true limits one other error = IsDeepIgnoringError limits one other error
+IsFailureWithout false limits = IsIgnoringError limits
+IsFailureWithout true limits = IsDeepIgnoringError limits
 
 -- What `compare` writes for two files, in a form, and whether they mean the same. With `--quiet` it
 -- writes nothing, in any form. With `--ignore` there are words, which leave something out of both.

@@ -72,13 +72,13 @@ IsShownAs show_form.Json limits input output = IsShownObject limits input output
 
 -- The text is the description of an image, in a form: the deep one if the flag is set.
 abbrev pub IsDescribedAs : (deep : Bool) → Format → Limits → (input output : List ℕ) → Type 0
-IsDescribedAs false format limits input output = IsDescription format limits input output
-IsDescribedAs true format limits input output = IsDeepDescription format limits input output
+IsDescribedAs false format limits = IsDescription format limits
+IsDescribedAs true format limits = IsDeepDescription format limits
 
 -- The error that it can have.
 abbrev pub IsDescribeErrorAs : (deep : Bool) → Format → Limits → (input : List ℕ) → Error → Type 0
-IsDescribeErrorAs false format limits input error = IsDescribeError format limits input error
-IsDescribeErrorAs true format limits input error = IsDeepDescribeError format limits input error
+IsDescribeErrorAs false format limits input = IsDescribeError format limits input
+IsDescribeErrorAs true format limits input = IsDeepDescribeError format limits input
 
 -- The task makes this output of the input, and ends so. The answer of `verify` is good if no
 -- verdict is other than Good, that of `check` if it wrote no concern, and that of `scan` if it
