@@ -1156,8 +1156,8 @@ def opened_payloads(images, words):
     """What the lines of the payloads are about that are compared by the devicetrees inside: each is one in both images, and a word is for
     something inside it."""
     inside = {word[0] for word in words if isinstance(word, tuple) and len(word) == 3}
-    return [place for place in inside if all(
-        any(about == place and payload is not None and devicetree(payload) for _, about, payload in entries(image, False)) for image in images)]
+    trees = [{about for _, about, payload in entries(image, False) if payload is not None and devicetree(payload)} for image in images]
+    return inside & trees[0] & trees[1]
 
 
 def differences_text(lines, options):
