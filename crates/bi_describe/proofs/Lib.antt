@@ -12,6 +12,7 @@ pub mod SameLists
 pub mod PartLists
 pub mod KeptComparisons
 pub mod FurtherWords
+pub mod DeepFacts
 pub mod DescribedLines
 pub mod NothingLeftOut
 pub mod IgnoredFacts
@@ -21,6 +22,7 @@ pub mod EntryTokens
 pub mod PayloadSizes
 pub mod ShownNodes
 pub mod PrintedDescriptions
+pub mod InsideBlobs
 pub mod JsonReading
 pub mod JsonDescriptions
 pub mod DescriptionFacts
@@ -30,6 +32,7 @@ pub mod RefusalFacts
 pub mod LineSets
 pub mod KeptLines
 pub mod ComparedLines
+pub mod KnownDeepFacts
 pub mod LongNames
 pub mod ComparedImages
 pub mod ReadableDescriptions
@@ -38,3 +41,10 @@ pub mod NextNodes
 pub mod EntriesOfNodes
 pub mod DescribedFiles
 pub mod JsonComparisons
+pub mod OneInside
+pub mod NothingLeftOutDeep
+pub mod OpenedTrees
+pub mod DeepLines
+pub mod WithoutInside
+pub mod FurtherDeep
+pub mod DeepJsonDescriptions

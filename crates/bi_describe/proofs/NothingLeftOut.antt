@@ -53,8 +53,8 @@ nodes_stay above (node name own children later) =
     let after = nodes_stay above later in
     (λ i. node name (own_stays i) (below i) (after i))
 
-root_stays : (root : Root ComparedNode) → kept_root [] root ≡ Some root
-root_stays root = (λ i. Some (record {
+pub whole_root_stays : (root : Root ComparedNode) → kept_root [] root ≡ Some root
+whole_root_stays root = (λ i. Some (record {
   own = record { properties = properties_stay [] root.own.properties i; payload = root.own.payload };
   children = nodes_stay [] root.children i;
 }))
@@ -183,7 +183,7 @@ whole_tree tree =
 
 tree_stays : (tree : ImageTree) → meaning_without [] (OfFit tree) ≡ OfReducedTree (whole_tree tree)
 tree_stays tree =
-    ap (λ root. OfReducedTree (record (whole_tree tree) { root = root })) (root_stays (compared_root tree.root tree.payloads))
+    ap (λ root. OfReducedTree (record (whole_tree tree) { root = root })) (whole_root_stays (compared_root tree.root tree.payloads))
 
 -- The lines are those of the description.
 pub all_lines : (meaning : Meaning) → reduced_lines (meaning_without [] meaning) ≡ description_lines meaning

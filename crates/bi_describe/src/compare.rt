@@ -1,5 +1,6 @@
 //! Comparing what two boot images mean: whether it is the same, and what differs.
 
+mod deep;
 mod differences;
 mod ignoring;
 mod json;
@@ -21,6 +22,8 @@ ghost use Rattle.bi_describe.specs.Comparing.{IsReadingError, IsDescribingError,
 ghost use Rattle.bi_describe.specs.Comparing.{comparison_text};
 ghost use Rattle.bi_describe.specs.ComparingWithout.{AreComparedWithout, IsComparisonWithout};
 ghost use Rattle.bi_describe.specs.ComparingWithout.{IsIgnoringError};
+ghost use Rattle.bi_describe.specs.DeepComparing.{AreComparedDeepWithout, IsDeepComparison};
+ghost use Rattle.bi_describe.specs.DeepComparing.{IsDeepComparisonError, IsDeepIgnoringError};
 ghost use Rattle.bi_describe.specs.DescribedImages.{IsDescribed};
 ghost use Rattle.bi_describe.specs.Describing.{CanBeDescribed};
 ghost use Rattle.bi_describe.specs.Descriptions.{description_lines};
@@ -33,6 +36,7 @@ use crate::describe::{DescribedImage, describe_image, description_is_ascii};
 use bi_base::{Error, Fault, Limits};
 use bi_common::format::Format;
 use bi_norm::BootImage;
+use deep::{compare_deep_images, compare_deep_without};
 pub use ignoring::IgnoringOptions;
 use ignoring::compare_kept;
 use json::comparison_json;
@@ -159,6 +163,50 @@ pub fn compare_ignoring(
     let image = read_one(alloc, one, limits)?;
     let other_image = read_other(alloc, other, limits)?;
     Ok(compare_without(alloc, &image, &other_image, limits, options)?)
+}
+
+/// Returns what differs between what two boot images mean, in a form: the differences of their deep
+/// descriptions, which are empty if and only if both mean the same. No limit applies to them.
+///
+/// The errors are those of `compare`, but it is the deep descriptions that may be too long.
+pub fn compare_deep(
+    alloc: Global,
+    one: &[u8],
+    other: &[u8],
+    limits: Limits,
+    format: Format,
+) -> Result<Comparison, CompareError>
+    ensures compared { IfOk result (λ comparison. IsDeepComparison format limits one.now other.now
+        comparison.same (string_bytes comparison.differences)) }
+    ensures failed { IfErr result (IsDeepComparisonError limits one.now other.now) }
+{
+    let image = read_one(alloc, one, limits)?;
+    let other_image = read_other(alloc, other, limits)?;
+    compare_deep_images(alloc, &image, &other_image, limits, format)
+}
+
+/// Does what `compare_ignoring` does, with the devicetrees that are inside payloads or parts. A word
+/// for something inside a payload opens it, if it is a devicetree in both images: then it is
+/// compared by its boot processor, its memory reservations and its tree, without what the words
+/// leave out, and not by its bytes. The differences are those of the lines of the deep descriptions
+/// that stay, without the lines of the payloads that are opened.
+///
+/// The errors are those of `compare_ignoring`, but it is the deep descriptions that may be too long.
+pub fn compare_ignoring_deep(
+    alloc: Global,
+    one: &[u8],
+    other: &[u8],
+    limits: Limits,
+    options: IgnoringOptions,
+) -> Result<Comparison, CompareError>
+    ensures compared { IfOk result (λ comparison. AreComparedDeepWithout
+        (ignoring_model options.entry) limits one.now other.now comparison.same
+        (string_bytes comparison.differences)) }
+    ensures failed { IfErr result (IsDeepIgnoringError limits one.now other.now) }
+{
+    let image = read_one(alloc, one, limits)?;
+    let other_image = read_other(alloc, other, limits)?;
+    compare_deep_without(alloc, &image, &other_image, limits, options)
 }
 
 /// Compares what stays of two images. Requires: the images were read.

@@ -1,5 +1,6 @@
 //! What `compare` leaves out, and the words for it.
 
+mod inside;
 mod matching;
 mod path_words;
 
@@ -14,6 +15,9 @@ ghost use Rattle.bi_describe.specs.IgnoredErrors.{IsParseError};
 ghost use Rattle.bi_describe.specs.MadeWords.{ignored_word, ignored_words};
 
 use bi_base::Error;
+pub(crate) use inside::{
+    has_image, has_part, is_payload_ignored, is_payload_of_one, payload_of_word, words_inside,
+};
 pub(crate) use matching::{is_node_ignored, is_part_ignored, is_property_ignored, is_time_ignored};
 use path_words::path_word;
 use std::alloc::{AllocError, Global};

@@ -65,9 +65,11 @@ pub record DefaultsAreKnown : Type 0 where
   pub show : GivesValues (codes "show") (codes "show")
       (with_value (codes "layout") (codes "false") ∷ defaults_with_json)
   pub list : GivesValues (codes "list") (codes "list") defaults_with_json
-  pub describe : GivesValues (codes "describe") (codes "describe") defaults_with_json
+  pub describe : GivesValues (codes "describe") (codes "describe")
+      (with_value (codes "deep") (codes "false") ∷ defaults_with_json)
   pub compare : GivesValues (codes "compare a b") (codes "compare")
       (without_value (codes "ignore")
+      ∷ with_value (codes "deep") (codes "false")
       ∷ with_value (codes "quiet") (codes "false")
       ∷ with_value (codes "json") (codes "false")
       ∷ default_limit
@@ -163,13 +165,14 @@ pub record OptionsAreKnown : Type 0 where
       (with_value (codes "layout") (codes "true") ∷ json_and_others)
   pub list : GivesValues (codes "list --json --offset 7 --limit 64 --output out in") (codes "list")
       json_and_others
-  pub describe : GivesValues (codes "describe --json --offset=7 --limit=64 -o out in")
+  pub describe : GivesValues (codes "describe --deep --json --offset=7 --limit=64 -o out in")
       (codes "describe")
-      json_and_others
+      (with_value (codes "deep") (codes "true") ∷ json_and_others)
   pub compare : GivesValues
-      (codes "compare --ignore time --ignore /a --quiet --json --limit 64 -o out - in")
+      (codes "compare --ignore time --ignore /a --deep --quiet --json --limit 64 -o out - in")
       (codes "compare")
       ((codes "ignore", codes "time" ∷ codes "/a" ∷ [])
+      ∷ with_value (codes "deep") (codes "true")
       ∷ with_value (codes "quiet") (codes "true")
       ∷ with_value (codes "json") (codes "true")
       ∷ with_value (codes "limit") (codes "64")
@@ -298,6 +301,8 @@ pub record MistakesAreKnown : Type 0 where
   pub no_offset : fault_of program_app (words_of_line (codes "compare --offset 0 a b"))
       ≡ UnknownArgument ∷ []
   pub no_layout : fault_of program_app (words_of_line (codes "list --layout"))
+      ≡ UnknownArgument ∷ []
+  pub no_deep : fault_of program_app (words_of_line (codes "list --deep"))
       ≡ UnknownArgument ∷ []
   pub option_twice : fault_of program_app (words_of_line (codes "list --limit 64 --limit 65"))
       ≡ ArgumentConflict ∷ []

@@ -7,7 +7,9 @@ ghost use Rattle.bi_common.specs.LineTokens.{NextField, is_nothing, line_token_t
 ghost use Rattle.bi_common.specs.MadeFields.{field_of};
 ghost use Rattle.bi_describe.specs.Differences.{words_of_key as words_of, words_of_key_named};
 ghost use Rattle.bi_describe.specs.LineKeeping.{Keeping, Keeps, KeeperPuts, line_after_word};
-ghost use Rattle.bi_describe.specs.LineKeeping.{end_mark};
+ghost use Rattle.bi_describe.specs.Differences.{is_inside_word as is_inside_of};
+ghost use Rattle.bi_describe.specs.LineKeeping.{end_mark, is_in_key as is_part_in_key};
+ghost use Rattle.bi_describe.specs.LineKeeping.{part_after as next_part};
 ghost use Rattle.bi_describe.specs.LineKeeping.{keeper_puts_nothing, keeper_puts_in_turn};
 ghost use Rattle.bi_describe.specs.LineKeeping.{new_keeping, new_line, kept_length};
 
@@ -24,6 +26,19 @@ pub(super) struct Mark {
     pub(super) key: usize,
 }
 
+/// What the next word of a line is to its key.
+#[derive(Clone, Copy)]
+enum KeyPart {
+    /// The first word of the line, which says how many words the key has.
+    First,
+    /// The path of the payload that the line is inside of.
+    Payload,
+    /// The word after that, which says how many words the key still has.
+    Second,
+    /// A word of the key, if so many are still to come, or else a word after it.
+    Named(usize),
+}
+
 /// The line that is put.
 #[derive(Clone, Copy)]
 struct OpenLine {
@@ -31,8 +46,8 @@ struct OpenLine {
     start: usize,
     /// Where its key ends.
     key_end: usize,
-    /// How many words are still to come of its key, once the line has a word.
-    missing: Option<usize>,
+    /// What the next word is to its key.
+    next: KeyPart,
     /// Whether something was printed.
     has_word: bool,
 }
@@ -45,7 +60,7 @@ impl OpenLine {
         OpenLine {
             start,
             key_end: start,
-            missing: None,
+            next: KeyPart::First,
             has_word: false,
         }
     }
@@ -54,14 +69,14 @@ impl OpenLine {
     fn line_after_word(self, word: Field, end: usize) -> OpenLine
         ensures { result ≡ line_after_word self (field_of word.entry) end }
     {
-        let missing = match self.missing {
-            Some(missing) => missing,
-            None => words_of_key(word),
-        };
         OpenLine {
             start: self.start,
-            key_end: if missing == 0 { self.key_end } else { end },
-            missing: Some(missing.saturating_sub(1)),
+            key_end: if self.next.is_in_key() {
+                end
+            } else {
+                self.key_end
+            },
+            next: self.next.part_after(word),
             has_word: !is_empty_value(word) || self.has_word,
         }
     }
@@ -74,6 +89,42 @@ impl OpenLine {
             len: end.saturating_sub(self.start),
             key: self.key_end.saturating_sub(self.start),
         }
+    }
+}
+
+impl KeyPart {
+    /// Returns whether the word is in the key.
+    fn is_in_key(self) -> bool
+        ensures { result ≡ is_part_in_key self }
+    {
+        match self {
+            KeyPart::Named(missing) => missing != 0,
+            _ => true,
+        }
+    }
+
+    /// Returns what the next word is to the key, if this one is a word.
+    fn part_after(self, word: Field) -> KeyPart
+        ensures { result ≡ next_part self (field_of word.entry) }
+    {
+        match self {
+            KeyPart::First if is_inside_word(word) => KeyPart::Payload,
+            KeyPart::First | KeyPart::Second => {
+                KeyPart::Named(words_of_key(word).saturating_sub(1))
+            }
+            KeyPart::Payload => KeyPart::Second,
+            KeyPart::Named(missing) => KeyPart::Named(missing.saturating_sub(1)),
+        }
+    }
+}
+
+/// Returns whether a line is about what is inside a payload, by its first word.
+fn is_inside_word(first: Field) -> bool
+    ensures { result ≡ is_inside_of (field_of first.entry) }
+{
+    match first {
+        Field::Text(word) => word == b"inside".as_slice(),
+        _ => false,
     }
 }
 

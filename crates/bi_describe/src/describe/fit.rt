@@ -33,7 +33,7 @@ pub(crate) struct DescribedFit<'a, 'b> {
     pub(crate) blob: &'b Blob<'a>,
     pub(crate) entries: Vec<Entry<'a>>,
     /// Room for the names of all nodes that are open at once.
-    names: Vec<&'a [u8]>,
+    pub(super) names: Vec<&'a [u8]>,
     ghost room: { most_open 0 (map as_entry entries.items) ≤ length names.items },
 }
 
@@ -64,7 +64,7 @@ impl<'a, 'b> DescribedFit<'a, 'b> {
     {
         let bounded = BoundedFit::new(fit, limits)?;
         let order = fit.name_order(alloc, limits.file())?;
-        let entries = entries_of(alloc, bounded, &order)?;
+        let entries = entries_of(alloc, bounded, &order.properties)?;
         let names = vec![in alloc; b"".as_slice(); most_open(&entries)]?;
         Ok(DescribedFit {
             blob: fit.blob(),

@@ -68,6 +68,14 @@ pub const IGNORE: OptionText = OptionText {
     takes: Takes::Anything,
 };
 
+pub const DEEP: OptionText = OptionText {
+    name: "deep",
+    value_name: "",
+    help: "Also look inside each payload or part that is a devicetree: at its nodes and properties",
+    form: OptionForm::Flag,
+    takes: Takes::Anything,
+};
+
 pub const QUIET: OptionText = OptionText {
     name: "quiet",
     value_name: "",

@@ -21,3 +21,8 @@ pub returns-clause-tokens : goal.returns-clause-tokens
 returns-clause-tokens c =
     fit_tokens_are c.args.fit.now c.blob.result.now _ c.blob.ensures
     (c.in_ok-entries.ensures ∙ ap (λ (content : FitModel). tree_entries (tree_of content)) c.in_ok-bounded.ensures.same)
+
+pub entries_of-requires-clause-order : goal.entries_of-requires-clause-order
+entries_of-requires-clause-order c =
+    let order = c.in_ok-order.ensures.order in
+    record { names = c.in_ok-order.order.names; sorted = order.sorted; in_order = order.in_order }

@@ -1,0 +1,50 @@
+use Rattle.std.specs.Prelude.{◌≡◌, ◌≤◌, ℕ, List, ◌++◌, None, Option, Some, length, map}
+use Rattle.bi_base.specs.declared.fault.Error.{Error}
+use Rattle.bi_base.specs.Errors.{IsFaultOrNoMemory}
+use Rattle.bi_base.specs.Limits.{Limits}
+use Rattle.bi_base.specs.Reading.{too_large}
+use Rattle.bi_blob.specs.Blob.{IsBlob, IsWithin}
+use Rattle.bi_blob.specs.Lookups.{node_named}
+use Rattle.bi_blob.specs.Tree.{tree_without_order, tree_without_places, with_each}
+use Rattle.bi_fdt.specs.Content.{Blob, root_of}
+use Rattle.bi_fit.specs.LongNames.{HasLongerNames}
+use Rattle.bi_fit.specs.Names.{images_name}
+use Rattle.bi_describe.specs.ComparedNodes.{plain_compared}
+use Rattle.bi_describe.specs.Devicetrees.{Devicetree, IsDevicetree}
+use Rattle.bi_describe.specs.TreeEntries.{EntryModel, node_entries, property_entries}
+
+-- Devicetrees inside payloads, as the code has them.
+
+-- What a blob that is a devicetree means.
+abbrev pub devicetree_of : Blob → Devicetree
+devicetree_of blob = record {
+  cpu = blob.cpu;
+  reservations = blob.reservations;
+  root = tree_without_order (tree_without_places (root_of blob));
+}
+
+-- The entries of its tree: the properties of the root, and the nodes below it.
+abbrev pub devicetree_entries : Devicetree → List EntryModel
+devicetree_entries tree =
+    property_entries tree.root.own ++ node_entries (with_each plain_compared tree.root.children)
+
+-- The blob is a devicetree inside a payload.
+pub record IsBlobInside (limits : Limits) (payload : List ℕ) (blob : Blob) : Type 0 where
+  pub is_file : blob.file ≡ payload
+  pub is_blob : IsBlob payload blob.cpu blob.reservations (root_of blob)
+  pub within : IsWithin limits payload (root_of blob)
+  pub no_images : node_named (root_of blob).children images_name ≡ None
+
+-- The payload is a devicetree, of which different long names of properties have more bytes together
+-- than the limit.
+abbrev pub HasLongerNamesInside : Limits → (payload : List ℕ) → Type 0
+HasLongerNamesInside limits payload =
+    (tree : Devicetree) × (is : IsDevicetree limits payload tree)
+    × HasLongerNames limits.file is.root
+
+-- The error that looking inside a payload can have: TooLarge at the limit if names are too long, or
+-- that memory ran out.
+abbrev pub IsInsideError : Limits → (payload : List ℕ) → Error → Type 0
+IsInsideError limits payload =
+    IsFaultOrNoMemory
+    (λ fault. (fault ≡ too_large limits.file) × HasLongerNamesInside limits payload)

@@ -1,0 +1,15 @@
+use Rattle.std.specs.Prelude.{List}
+use Rattle.bi_describe.specs.declared.compare.deep.KeptDeep.{KeptDeep}
+use Rattle.bi_describe.specs.Devicetrees.{DeepMeaning}
+use Rattle.bi_describe.specs.Ignoring.{Ignored}
+use Rattle.bi_describe.specs.KeptImages.{IsKeptImage}
+use Rattle.bi_describe.specs.MadeInsides.{HoldInsides}
+use Rattle.bi_describe.specs.OpenedPayloads.{tree_at_without}
+use Rattle.bi_describe.specs.ReducedMeanings.{meaning_without}
+
+-- What stays of a boot image and of what is inside its payloads, as the code has it.
+
+-- This is what stays of a meaning once these words are left out.
+pub record KeepsDeep (words : List Ignored) (deep : DeepMeaning) (kept : KeptDeep) : Type 0 where
+  pub is_kept : IsKeptImage (meaning_without words deep.meaning) kept.image
+  pub are_held : HoldInsides (tree_at_without words deep.insides) kept.insides

@@ -1,0 +1,429 @@
+//! The devicetrees inside the payloads of a boot image.
+
+ghost use Rattle.std.specs.Prelude.{◌≡◌, ◌↔◌, IfErr, IfOk, IfSome, IsTrue, OnOk};
+ghost use Rattle.std.specs.Prelude.{Option, Some, is_some, map, option_map};
+ghost use Rattle.bi_base.specs.declared.fault.Error.TheVariants.{OutOfMemory};
+ghost use Rattle.bi_fit.specs.Content.{IsHeld, image_model, payloads_of_models, tree_of};
+ghost use Rattle.bi_norm.specs.Meaning.{OfFit, OfLegacy};
+ghost use Rattle.bi_norm.specs.Reading.{meaning_of};
+ghost use Rattle.bi_common.specs.declared.format.Format.{Format};
+ghost use Rattle.bi_common.specs.HeldImages.{IsHeldImage};
+ghost use Rattle.bi_common.specs.JsonTokens.{member_tokens};
+ghost use Rattle.bi_common.specs.LineTokens.{tokens_of_lines};
+ghost use Rattle.bi_common.specs.PayloadBounds.{IsOverPayloadBound};
+ghost use Rattle.bi_describe.specs.DeepDescribing.{IsDeepImageError};
+ghost use Rattle.bi_describe.specs.DeepDescriptions.{lines_at};
+ghost use Rattle.bi_describe.specs.DeepJson.{inside_members};
+ghost use Rattle.bi_describe.specs.Devicetrees.{Insides as Trees};
+ghost use Rattle.bi_describe.specs.IgnoredWords.{payload_path};
+ghost use Rattle.bi_describe.specs.Ignoring.{OfImageNamed, OfPart, PayloadPlace as Place};
+ghost use Rattle.bi_describe.specs.InsideTrees.{IsBlobInside, IsInsideError};
+ghost use Rattle.bi_describe.specs.MadeInsides.{AreBlobsInside, HoldInsides, HasBlob, HoldsBlob};
+ghost use Rattle.bi_describe.specs.MadeInsides.{IsReadInside, payload_index_in, with_tree_at};
+ghost use Rattle.bi_describe.specs.MadeInsides.{is_one_of_places, made_tree_at, tree_with_index};
+ghost use Rattle.bi_describe.specs.MadeInsides.{whole_devicetrees};
+ghost use Rattle.bi_describe.specs.MadeWords.{ignored_words, place_of_payload};
+ghost use Rattle.bi_describe.specs.OpenedPayloads.{tree_at_without};
+ghost use Rattle.bi_describe.specs.ReducedMeanings.{ReducedTree};
+
+use super::inside::{InsideTree, read_blob};
+use crate::ignored::{Ignored, PayloadPlace, is_payload_of_one, payload_of_word, words_inside};
+use bi_base::{Error, Limits, MemoryPen, Pen};
+use bi_common::fields::{Field, put_decimal, put_field};
+use bi_common::json_writer::JsonPen;
+use bi_common::lines::LinePen;
+use bi_common::payload_bounds::BoundedFit;
+use bi_fdt::Blob;
+use bi_fit::Image;
+use bi_legacy::Legacy;
+use bi_norm::BootImage;
+use std::alloc::{AllocError, Global};
+use std::collections::BTreeMap;
+
+/// Where the payloads are that trees are inside.
+#[derive(Drop)]
+enum PayloadIndex<'a> {
+    /// In a legacy image: the index of a part is that of its tree.
+    Parts,
+    /// In the images with these names, by which the index of its tree is found.
+    Images(BTreeMap<&'a [u8], usize>),
+}
+
+/// The devicetrees inside the payloads of a boot image.
+#[derive(Drop)]
+pub(crate) struct Insides<'a> {
+    /// What is inside each part, or inside the payload of each image.
+    trees: Vec<Option<InsideTree<'a>>>,
+    index: PayloadIndex<'a>,
+}
+
+impl<'a> Insides<'a> {
+    /// Reads the payloads of an image that are devicetrees. Requires: the image was read.
+    ///
+    /// Errors: TooLarge at the limit, if the payloads are longer, or if the deep description is, for
+    /// which the names of properties in a devicetree are enough; OutOfMemory.
+    pub(crate) fn read(
+        alloc: Global,
+        image: &BootImage<'a>,
+        limits: Limits,
+    ) -> Result<Insides<'a>, Error>
+        requires held { IsHeldImage image.now }
+        ensures within { OnOk result (¬ (IsOverPayloadBound limits (meaning_of image.now))) }
+        ensures read { IfOk result (IsReadInside limits (meaning_of image.now)) }
+        ensures failed { IfErr result (λ error. (format : Format)
+            → IsDeepImageError format limits (meaning_of image.now) error) }
+    {
+        match image {
+            BootImage::Legacy(image) => Insides::of_parts(alloc, image, limits),
+            BootImage::Fit(fit) => {
+                let bounded = BoundedFit::new(fit, limits)?;
+                Insides::of_images(alloc, bounded, limits)
+            }
+        }
+    }
+
+    /// Reads the parts of a legacy image that are devicetrees.
+    fn of_parts(alloc: Global, image: &Legacy<'a>, limits: Limits) -> Result<Insides<'a>, Error>
+        ensures read { IfOk result (IsReadInside limits (OfLegacy image.now.image)) }
+        ensures failed { IfErr result (λ error. (format : Format)
+            → IsDeepImageError format limits (OfLegacy image.now.image) error) }
+    {
+        let blobs = blobs_of_parts(alloc, image, limits)?;
+        let mut trees = Vec::with_capacity(alloc, image.part_count())?;
+        for blob in blobs {
+            let path = path_of_part(alloc, trees.len())?;
+            trees.push(tree_of(alloc, path, blob, limits)?)?;
+        }
+        Ok(Insides {
+            trees,
+            index: PayloadIndex::Parts,
+        })
+    }
+
+    /// Reads the payloads of images that are devicetrees. Requires: the tree was read.
+    fn of_images(
+        alloc: Global,
+        bounded: BoundedFit<'_, 'a>,
+        limits: Limits,
+    ) -> Result<Insides<'a>, Error>
+        requires held { IsHeld bounded.fit.now }
+        ensures read { IfOk result (IsReadInside limits (OfFit (tree_of bounded.fit.now))) }
+        ensures failed { IfErr result (λ error. (format : Format)
+            → IsDeepImageError format limits (OfFit (tree_of bounded.fit.now)) error) }
+    {
+        let images = bounded.fit().images();
+        let blobs = blobs_of_images(alloc, images, limits)?;
+        let mut trees = Vec::with_capacity(alloc, images.len())?;
+        let mut index = BTreeMap::new(alloc);
+        for blob in blobs {
+            let at = trees.len();
+            let name = images[at].name;
+            let path = path_of_image(alloc, name)?;
+            trees.push(tree_of(alloc, path, blob, limits)?)?;
+            index.insert(name, at)?;
+        }
+        Ok(Insides {
+            trees,
+            index: PayloadIndex::Images(index),
+        })
+    }
+
+    /// Returns the index of the payload of the image with this name, if there is such an image.
+    fn index_of_image(&self, name: &[u8]) -> Option<usize>
+        ensures { result ≡ payload_index_in self.now.index (OfImageNamed name.now) }
+    {
+        match &self.index {
+            PayloadIndex::Images(index) => index.get(name).copied(),
+            PayloadIndex::Parts => None,
+        }
+    }
+
+    /// Returns the index of a payload, if there is an image or a part at this place.
+    fn index_of(&self, place: &PayloadPlace) -> Option<usize>
+        ensures { tree_with_index self.now.trees.items result
+            ≡ made_tree_at self.now (place_of_payload place.now) }
+    {
+        match place {
+            PayloadPlace::Image(name) => self.index_of_image(name),
+            PayloadPlace::Part(part) => match usize::try_from(*part) {
+                Ok(part) => self.index_of_part(part),
+                Err(_) => None,
+            },
+        }
+    }
+
+    /// Returns the index of the payload that is the part with this index, if this is a legacy
+    /// image.
+    fn index_of_part(&self, part: usize) -> Option<usize>
+        ensures { result ≡ payload_index_in self.now.index (OfPart part) }
+    {
+        match self.index {
+            PayloadIndex::Parts => Some(part),
+            PayloadIndex::Images(_) => None,
+        }
+    }
+
+    /// Returns the devicetree inside the payload at a place, if there is one.
+    fn tree_at(&self, place: &PayloadPlace) -> Option<&InsideTree<'a>>
+        ensures { option_map (λ tree. tree.now) result
+            ≡ made_tree_at self.now (place_of_payload place.now) }
+    {
+        match self.index_of(place) {
+            Some(index) => self.tree(index),
+            None => None,
+        }
+    }
+
+    /// Returns the devicetree inside the payload with this index, if there is one.
+    fn tree(&self, index: usize) -> Option<&InsideTree<'a>>
+        ensures { option_map (λ tree. tree.now) result
+            ≡ tree_with_index self.now.trees.items (Some index) }
+    {
+        match self.trees.get(index) {
+            Some(tree) => tree.as_ref(),
+            None => None,
+        }
+    }
+
+    /// Returns whether the payload at a place is a devicetree.
+    pub(crate) fn has_tree_at(&self, place: &PayloadPlace) -> bool
+        ensures { result ≡ is_some (made_tree_at self.now (place_of_payload place.now)) }
+    {
+        self.tree_at(place).is_some()
+    }
+
+    /// Leaves these words out of the trees.
+    ///
+    /// Fails only if memory runs out.
+    pub(crate) fn leave_out(&mut self, alloc: Global, words: &[Ignored]) -> Result<(), AllocError>
+        ensures { OnOk result ((insides : Trees) → HoldInsides (whole_devicetrees insides) self.old
+            → HoldInsides (tree_at_without (ignored_words words.now) insides) self.new) }
+    {
+        for index in 0..words.len() {
+            if let Some(place) = payload_of_word(&words[index]) {
+                if !is_payload_of_one(&words[..index], place) {
+                    self.leave_out_at(alloc, place, words)?;
+                }
+            }
+        }
+        Ok(())
+    }
+
+    /// Leaves these words out of the tree inside the payload at a place, if there is one.
+    ///
+    /// Fails only if memory runs out.
+    fn leave_out_at(
+        &mut self,
+        alloc: Global,
+        place: &PayloadPlace,
+        words: &[Ignored],
+    ) -> Result<(), AllocError>
+        ensures { OnOk result ((insides : Trees) (trees : Place → Option ReducedTree)
+            → trees (place_of_payload place.now) ≡ whole_devicetrees insides (place_of_payload place.now)
+            → HoldInsides trees self.old → HoldInsides (with_tree_at (place_of_payload place.now)
+            (tree_at_without (ignored_words words.now) insides (place_of_payload place.now)) trees)
+            self.new) }
+    {
+        let Some(index) = self.index_of(place) else {
+            return Ok(());
+        };
+        if let Some(Some(tree)) = self.trees.get_mut(index) {
+            let inside = words_inside(alloc, place, words)?;
+            tree.leave_out(alloc, &inside)?;
+        }
+        Ok(())
+    }
+
+    /// Returns whether the trees inside the payloads at these places are the same.
+    pub(crate) fn are_same_at(&self, other: &Insides<'_>, opened: &[&PayloadPlace]) -> bool
+        ensures { (trees others : Place → Option ReducedTree) → HoldInsides trees self.now
+            → HoldInsides others other.now → IsTrue result
+            ↔ ((place : Place) → IsTrue (is_one_of_places opened.now place) → trees place ≡ others place) }
+    {
+        for place in opened {
+            if !self.is_same_at(other, place) {
+                return false;
+            }
+        }
+        true
+    }
+
+    /// Returns whether the trees inside the payloads at a place are the same, or there is none in
+    /// both.
+    fn is_same_at(&self, other: &Insides<'_>, place: &PayloadPlace) -> bool
+        ensures { (trees others : Place → Option ReducedTree) → HoldInsides trees self.now
+            → HoldInsides others other.now → IsTrue result
+            ↔ (trees (place_of_payload place.now) ≡ others (place_of_payload place.now)) }
+    {
+        match (self.tree_at(place), other.tree_at(place)) {
+            (Some(tree), Some(other)) => tree.is_same(other),
+            (None, None) => true,
+            _ => false,
+        }
+    }
+
+    /// Puts the lines of the devicetree inside the payload of the image with this name, if there is
+    /// one.
+    pub(crate) fn put_lines_of_image<L: LinePen>(&mut self, name: &[u8], pen: &mut L)
+        ensures put { (trees : Place → Option ReducedTree) → HoldInsides trees self.old
+            → L.puts pen.old (tokens_of_lines
+            (lines_at (OfImageNamed name.now) (trees (OfImageNamed name.now)))) pen.new }
+        ensures same { (trees : Place → Option ReducedTree) → HoldInsides trees self.old
+            → HoldInsides trees self.new }
+    {
+        if let Some(index) = self.index_of_image(name) {
+            self.put_lines(index, pen);
+        }
+    }
+
+    /// Puts the lines of the devicetree inside the payload with this index, if there is one.
+    fn put_lines<L: LinePen>(&mut self, index: usize, pen: &mut L)
+        ensures put { (trees : Place → Option ReducedTree) (place : Place) → HoldInsides trees self.old
+            → made_tree_at self.old place ≡ tree_with_index self.old.trees.items (Some index)
+            → L.puts pen.old (tokens_of_lines (lines_at place (trees place))) pen.new }
+        ensures same { (trees : Place → Option ReducedTree) → HoldInsides trees self.old
+            → HoldInsides trees self.new }
+    {
+        if let Some(Some(tree)) = self.trees.get_mut(index) {
+            tree.put_lines(pen);
+        }
+    }
+
+    /// Puts the member of the devicetree inside the payload of the image with this name, if there
+    /// is one.
+    pub(super) fn put_member_of_image<J: JsonPen>(&self, name: &[u8], json: &mut J)
+        ensures { (insides : Trees) → HoldInsides (whole_devicetrees insides) self.now → J.puts json.old
+            (member_tokens (inside_members (insides (OfImageNamed name.now)))) json.new }
+    {
+        if let Some(index) = self.index_of_image(name) {
+            self.put_member(index, json);
+        }
+    }
+
+    /// Puts the lines of the devicetree inside the part with this index, if there is one.
+    pub(crate) fn put_lines_of_part<L: LinePen>(&mut self, part: usize, pen: &mut L)
+        ensures put { (trees : Place → Option ReducedTree) → HoldInsides trees self.old
+            → L.puts pen.old (tokens_of_lines (lines_at (OfPart part) (trees (OfPart part))))
+            pen.new }
+        ensures same { (trees : Place → Option ReducedTree) → HoldInsides trees self.old
+            → HoldInsides trees self.new }
+    {
+        if let Some(index) = self.index_of_part(part) {
+            self.put_lines(index, pen);
+        }
+    }
+
+    /// Puts the member of the devicetree inside the part with this index, if there is one.
+    pub(super) fn put_member_of_part<J: JsonPen>(&self, part: usize, json: &mut J)
+        ensures { (insides : Trees) → HoldInsides (whole_devicetrees insides) self.now → J.puts json.old
+            (member_tokens (inside_members (insides (OfPart part)))) json.new }
+    {
+        if let Some(index) = self.index_of_part(part) {
+            self.put_member(index, json);
+        }
+    }
+
+    /// Puts the member of the devicetree inside the payload with this index, if there is one.
+    fn put_member<J: JsonPen>(&self, index: usize, json: &mut J)
+        ensures { (insides : Trees) (place : Place) → HoldInsides (whole_devicetrees insides) self.now
+            → made_tree_at self.now place ≡ tree_with_index self.now.trees.items (Some index)
+            → J.puts json.old (member_tokens (inside_members (insides place))) json.new }
+    {
+        if let Some(tree) = self.tree(index) {
+            tree.put_member(json);
+        }
+    }
+}
+
+/// Returns the blob in each part that is a devicetree.
+///
+/// Fails only if memory runs out.
+fn blobs_of_parts<'a>(
+    alloc: Global,
+    image: &Legacy<'a>,
+    limits: Limits,
+) -> Result<Vec<Option<Blob<'a>>>, AllocError>
+    ensures { IfOk result (λ blobs.
+        AreBlobsInside limits (map Some image.now.image.parts) blobs.items) }
+{
+    let mut blobs = Vec::with_capacity(alloc, image.part_count())?;
+    for part in image.parts() {
+        blobs.push(read_blob(alloc, part.bytes, limits)?)?;
+    }
+    Ok(blobs)
+}
+
+/// Returns the blob in the payload of each image, if it is a devicetree.
+///
+/// Fails only if memory runs out.
+fn blobs_of_images<'a>(
+    alloc: Global,
+    images: &[Image<'a>],
+    limits: Limits,
+) -> Result<Vec<Option<Blob<'a>>>, AllocError>
+    ensures { IfOk result (λ blobs. AreBlobsInside limits
+        (payloads_of_models (map image_model images.now)) blobs.items) }
+{
+    let mut blobs = Vec::with_capacity(alloc, images.len())?;
+    for image in images {
+        blobs.push(blob_of_image(alloc, image.payload, limits)?)?;
+    }
+    Ok(blobs)
+}
+
+/// Returns the blob in the payload of an image, if there is one that is a devicetree.
+///
+/// Fails only if memory runs out.
+fn blob_of_image<'a>(
+    alloc: Global,
+    payload: Option<&'a [u8]>,
+    limits: Limits,
+) -> Result<Option<Blob<'a>>, AllocError>
+    ensures { IfOk result (HasBlob limits (option_map (λ bytes. bytes.now) payload.entry)) }
+{
+    match payload {
+        Some(payload) => read_blob(alloc, payload, limits),
+        None => Ok(None),
+    }
+}
+
+/// Returns the devicetree that is this blob, if there is one, inside the payload with this path.
+///
+/// Errors: TooLarge at the limit, if the names of properties are longer than that; OutOfMemory.
+fn tree_of<'a>(
+    alloc: Global,
+    path: Vec<u8>,
+    blob: Option<Blob<'a>>,
+    limits: Limits,
+) -> Result<Option<InsideTree<'a>>, Error>
+    requires { IfSome blob (λ found. IsBlobInside limits found.file found) }
+    ensures held { IfOk result (HoldsBlob path.items blob) }
+    ensures failed { IfErr result (λ error. IfSome blob (λ found.
+        IsInsideError limits found.file error)) }
+{
+    match blob {
+        Some(blob) => Ok(Some(InsideTree::new(alloc, path, blob, limits)?)),
+        None => Ok(None),
+    }
+}
+
+/// Returns the path of the payload of the image with this name. Fails if memory runs out.
+fn path_of_image(alloc: Global, name: &[u8]) -> Result<Vec<u8>, Error>
+    ensures path { IfOk result (λ path. path.items ≡ payload_path (OfImageNamed name.now)) }
+    ensures failed { IfErr result (λ error. error ≡ OutOfMemory) }
+{
+    let mut pen = MemoryPen::new(alloc);
+    put_field(Field::Path(&[b"images".as_slice(), name]), &mut pen);
+    pen.into_vec()
+}
+
+/// Returns the path of the part with this index. Fails if memory runs out.
+fn path_of_part(alloc: Global, index: usize) -> Result<Vec<u8>, Error>
+    ensures path { IfOk result (λ path. path.items ≡ payload_path (OfPart index)) }
+    ensures failed { IfErr result (λ error. error ≡ OutOfMemory) }
+{
+    let mut pen = MemoryPen::new(alloc);
+    pen.put(b"part-");
+    put_decimal(index as u64, &mut pen);
+    pen.into_vec()
+}
