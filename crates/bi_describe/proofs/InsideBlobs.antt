@@ -31,13 +31,3 @@ no_node (Some found) is some = absurd cc
 pub none_found : (found : Option NodeRef) → is_some found ≡ false → option_map node_of found ≡ None
 none_found None is = refl
 none_found (Some found) is = absurd (true≢false is)
-
--- A blob inside a payload that has long names.
-pub names_refused : (limits : Limits) (payload : List ℕ) (blob : Blob) (names : List (List ℕ)) → IsBlobInside limits payload blob →
-    AreDistinct names → AreNamesIn names (root_of blob) → limits.file < length (flat_map name_if_long names) →
-    HasLongerNamesInside limits payload
-names_refused limits payload blob names is distinct are longer = (
-  devicetree_of blob,
-  record { root = root_of blob; blob = is.is_blob; within = is.within; no_images = is.no_images; is_root = refl },
-  (names, distinct, are, longer),
-)

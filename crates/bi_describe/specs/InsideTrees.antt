@@ -1,4 +1,4 @@
-use Rattle.std.specs.Prelude.{◌≡◌, ◌≤◌, ℕ, List, ◌++◌, None, Option, Some, length, map}
+use Rattle.std.specs.Prelude.{◌≡◌, ◌<◌, ℕ, List, ◌++◌, None, flat_map, length}
 use Rattle.bi_base.specs.declared.fault.Error.{Error}
 use Rattle.bi_base.specs.Errors.{IsFaultOrNoMemory}
 use Rattle.bi_base.specs.Limits.{Limits}
@@ -7,10 +7,11 @@ use Rattle.bi_blob.specs.Blob.{IsBlob, IsWithin}
 use Rattle.bi_blob.specs.Lookups.{node_named}
 use Rattle.bi_blob.specs.Tree.{tree_without_order, tree_without_places, with_each}
 use Rattle.bi_fdt.specs.Content.{Blob, root_of}
-use Rattle.bi_fit.specs.LongNames.{HasLongerNames}
+use Rattle.bi_fdt.specs.Numbers.{names_of_table}
+use Rattle.bi_fit.specs.LongNames.{name_if_long}
 use Rattle.bi_fit.specs.Names.{images_name}
 use Rattle.bi_describe.specs.ComparedNodes.{plain_compared}
-use Rattle.bi_describe.specs.Devicetrees.{Devicetree, IsDevicetree}
+use Rattle.bi_describe.specs.Devicetrees.{Devicetree}
 use Rattle.bi_describe.specs.TreeEntries.{EntryModel, node_entries, property_entries}
 
 -- Devicetrees inside payloads, as the code has them.
@@ -35,16 +36,13 @@ pub record IsBlobInside (limits : Limits) (payload : List ℕ) (blob : Blob) : T
   pub within : IsWithin limits payload (root_of blob)
   pub no_images : node_named (root_of blob).children images_name ≡ None
 
--- The payload is a devicetree, of which different long names of properties have more bytes together
--- than the limit.
-abbrev pub HasLongerNamesInside : Limits → (payload : List ℕ) → Type 0
-HasLongerNamesInside limits payload =
-    (tree : Devicetree) × (is : IsDevicetree limits payload tree)
-    × HasLongerNames limits.file is.root
+-- How many bytes the different names of the properties of a blob have together, as far as they are
+-- long.
+abbrev pub long_names_of : Blob → ℕ
+long_names_of blob = length (flat_map name_if_long (names_of_table blob.table))
 
--- The error that looking inside a payload can have: TooLarge at the limit if names are too long, or
--- that memory ran out.
-abbrev pub IsInsideError : Limits → (payload : List ℕ) → Error → Type 0
-IsInsideError limits payload =
-    IsFaultOrNoMemory
-    (λ fault. (fault ≡ too_large limits.file) × HasLongerNamesInside limits payload)
+-- The error that counting long names can have, if there is room for so many bytes of them: TooLarge
+-- at the limit if they have more, or that memory ran out.
+abbrev pub IsNamesError : (limit room : ℕ) → (long : ℕ) → Error → Type 0
+IsNamesError limit room long =
+    IsFaultOrNoMemory (λ fault. (fault ≡ too_large limit) × (room < long))

@@ -1,14 +1,14 @@
-use Rattle.std.specs.Prelude.{◌≡◌, ◌≤◌, ⊤, Bool, false, ℕ, List, [], None, Option, Some}
-use Rattle.std.specs.Prelude.{if◌then◌else◌, length, map, slice_get}
+use Rattle.std.specs.Prelude.{◌≡◌, ⊤, Bool, false, ℕ, ◌+◌, List, [], ◌∷◌, IfSome, None, Option}
+use Rattle.std.specs.Prelude.{Some, if◌then◌else◌, map, slice_get, sum, unwrap_or}
 use Rattle.std.specs.Borrow.{Bor}
-use Rattle.std.specs.BTreeMap.{get_by}
-use Rattle.std.specs.Cmp.Lexicographic.{slice_cmp}
 use Rattle.std.specs.List.{AllZip, list_any}
 use Rattle.std.specs.Option.{option_map}
-use Rattle.std.specs.Ordering.{nat_cmp}
 use Rattle.bi_base.specs.Limits.{Limits}
 use Rattle.bi_fdt.specs.Content.{Blob}
-use Rattle.bi_norm.specs.Meaning.{Meaning}
+use Rattle.bi_fit.specs.Content.{ImageModel, index_of}
+use Rattle.bi_norm.specs.declared.image.BootImage.{BootImage}
+use Rattle.bi_norm.specs.declared.image.BootImage.TheVariants as image
+use Rattle.bi_norm.specs.Meaning.{Meaning, OfFit, OfLegacy}
 use Rattle.bi_describe.specs.declared.describe.deep.DeepImage.{DeepImage}
 use Rattle.bi_describe.specs.declared.describe.inside.InsideNodes.{InsideNodes}
 use Rattle.bi_describe.specs.declared.describe.inside.InsideTree.{InsideTree}
@@ -25,7 +25,7 @@ use Rattle.bi_describe.specs.Devicetrees.{AreInside, DeepMeaning, HasInside, Ins
 use Rattle.bi_describe.specs.IgnoredWords.{payload_path}
 use Rattle.bi_describe.specs.Ignoring.{Ignored, PayloadPlace, OfImageNamed, OfPart}
 use Rattle.bi_describe.specs.Ignoring.{is_node_ignored}
-use Rattle.bi_describe.specs.InsideTrees.{IsBlobInside, devicetree_of}
+use Rattle.bi_describe.specs.InsideTrees.{IsBlobInside, devicetree_of, long_names_of}
 use Rattle.bi_describe.specs.KeptEntries.{kept_entries, root_entries}
 use Rattle.bi_describe.specs.KeptImages.{numbered_part}
 use Rattle.bi_describe.specs.MadeWords.{place_of_payload}
@@ -55,9 +55,29 @@ pub record HoldsInside (payload : List ℕ) (tree : ReducedTree) (made : InsideT
 -- The index of the payload at a place, if there can be one.
 abbrev pub payload_index_in : PayloadIndex → PayloadPlace → Option ℕ
 payload_index_in by.Parts (OfPart index) = Some index
-payload_index_in (by.Images images) (OfImageNamed name) =
-    get_by (λ other. slice_cmp nat_cmp name other.now) images
+payload_index_in (by.Images fit) (OfImageNamed name) = index_of name fit.now.images
 payload_index_in index place = None
+
+-- The name of the image with this index: no bytes if there is none.
+abbrev pub name_at : List ImageModel → ℕ → List ℕ
+name_at images index =
+    unwrap_or (option_map (λ (image : ImageModel). image.name) (slice_get images index)) []
+
+-- The place of the payload with this index.
+abbrev pub place_at : PayloadIndex → ℕ → PayloadPlace
+place_at by.Parts index = OfPart index
+place_at (by.Images fit) index = OfImageNamed (name_at fit.now.images index)
+
+-- This is where the payloads of an image are.
+abbrev pub IsIndexOf : BootImage → PayloadIndex → Type 0
+IsIndexOf (image.Legacy legacy) by.Parts = ⊤
+IsIndexOf (image.Fit fit) (by.Images other) = other.now ≡ fit
+IsIndexOf image index = ⊥
+
+-- The payloads of a meaning, by their index. Not every image has one.
+abbrev pub payloads_in : Meaning → List (Option (List ℕ))
+payloads_in (OfLegacy image) = map Some image.parts
+payloads_in (OfFit tree) = tree.payloads
 
 -- A tree, if there is one.
 abbrev pub tree_or_none : Option (Option InsideTree) → Option InsideTree
@@ -114,6 +134,28 @@ HoldsBlob payload None None = ⊤
 HoldsBlob payload (Some blob) (Some made) =
     HoldsInside payload (whole_devicetree (devicetree_of blob)) made
 HoldsBlob payload blob made = ⊥
+
+-- The trees of blobs, the first of which is in the payload with this index.
+abbrev pub HoldBlobs : PayloadIndex → (first : ℕ) → List (Option Blob) → List (Option InsideTree)
+    → Type 0
+HoldBlobs index first [] [] = ⊤
+HoldBlobs index first (blob ∷ blobs) (tree ∷ trees) =
+    HoldsBlob (payload_path (place_at index first)) blob tree
+    × HoldBlobs index (first + 1) blobs trees
+HoldBlobs index first blobs trees = ⊥
+
+-- A blob is a devicetree, if there is one.
+abbrev pub IsBlobOrNone : Limits → Option Blob → Type 0
+IsBlobOrNone limits blob = IfSome blob (λ found. IsBlobInside limits found.file found)
+
+-- How many bytes the long names of properties have together: in a blob, if there is one, and in
+-- each of these.
+abbrev pub long_names_or_none : Option Blob → ℕ
+long_names_or_none None = 0
+long_names_or_none (Some blob) = long_names_of blob
+
+abbrev pub long_names_in : List (Option Blob) → ℕ
+long_names_in blobs = sum (map long_names_or_none blobs)
 
 -- The code has a meaning, with what is inside.
 pub record HoldsDeep (deep : DeepMeaning) (made : DeepImage) : Type 0 where

@@ -124,7 +124,7 @@ pub(super) fn compare_deep_without(
 #[derive(Drop)]
 struct KeptDeep<'a, 'b> {
     image: KeptImage<'a, 'b>,
-    insides: Insides<'a>,
+    insides: Insides<'a, 'b>,
 }
 
 impl<'a, 'b> KeptDeep<'a, 'b> {

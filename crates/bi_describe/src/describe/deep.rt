@@ -48,7 +48,7 @@ use bi_common::json_writer::{JsonPen, JsonToken, JsonValue, JsonWriter, put_valu
 #[derive(Drop)]
 pub(crate) struct DeepImage<'a, 'b> {
     pub(crate) described: DescribedImage<'a, 'b>,
-    pub(crate) insides: Insides<'a>,
+    pub(crate) insides: Insides<'a, 'b>,
 }
 
 impl<'a, 'b> DeepImage<'a, 'b> {

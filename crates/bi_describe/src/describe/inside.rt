@@ -16,7 +16,8 @@ ghost use Rattle.bi_describe.specs.DeepDescriptions.{inside_cpu_line, inside_lin
 ghost use Rattle.bi_describe.specs.DeepDescriptions.{inside_reservation_line, whole_devicetree};
 ghost use Rattle.bi_describe.specs.DeepJson.{inside_members};
 ghost use Rattle.bi_describe.specs.Devicetrees.{Devicetree};
-ghost use Rattle.bi_describe.specs.InsideTrees.{IsBlobInside, IsInsideError, devicetree_of};
+ghost use Rattle.bi_describe.specs.InsideTrees.{IsBlobInside, IsNamesError, devicetree_of};
+ghost use Rattle.bi_describe.specs.InsideTrees.{long_names_of};
 ghost use Rattle.bi_describe.specs.MadeWords.{ignored_words};
 ghost use Rattle.bi_describe.specs.ReadDescription.{root_lines};
 ghost use Rattle.bi_describe.specs.ReducedMeanings.{ReducedTree, kept_root as kept_root_of};
@@ -34,7 +35,7 @@ use bi_common::json_writer::{JsonPen, JsonToken};
 use bi_common::lines::{LinePen, put_line};
 use bi_fdt::Blob;
 pub(super) use blobs::read_blob;
-use blobs::{check_names, entries_of_blob};
+use blobs::{count_names, entries_of_blob};
 use paths::InsidePen;
 use std::alloc::{AllocError, Global};
 use that_stay::{have_same_nodes, nodes_that_stay};
@@ -86,20 +87,23 @@ pub(crate) struct InsideTree<'a> {
 impl<'a> InsideTree<'a> {
     ghost use Rattle.bi_describe.specs.MadeInsides.{HoldsInside};
 
-    /// Returns the devicetree that is this blob, inside the payload with this path.
+    /// Returns the devicetree that is this blob, inside the payload with this path. There is room
+    /// for so many bytes of long names of properties, and less after the call.
     ///
-    /// Errors: TooLarge at the limit, if the names of properties are longer than that; OutOfMemory.
+    /// Errors: TooLarge at the limit, if they are longer; OutOfMemory.
     pub(super) fn new(
         alloc: Global,
         path: Vec<u8>,
         blob: Blob<'a>,
+        room: &mut usize,
         limits: Limits,
     ) -> Result<InsideTree<'a>, Error>
         requires inside { IsBlobInside limits blob.file blob }
         ensures holds { IfOk result (HoldsInside path.items (whole_devicetree (devicetree_of blob))) }
-        ensures failed { IfErr result (IsInsideError limits blob.file) }
+        ensures room { OnOk result (room.new + long_names_of blob ≡ room.old) }
+        ensures failed { IfErr result (IsNamesError limits.file room.old (long_names_of blob)) }
     {
-        check_names(blob.names(), limits.file())?;
+        count_names(blob.names(), room, limits.file())?;
         let entries = entries_of_blob(alloc, &blob)?;
         let nodes = Some(InsideNodes::new(alloc, entries)?);
         Ok(InsideTree { path, blob, nodes })
