@@ -1,15 +1,10 @@
 use Rattle.std.proofs.Common.{◌≡◌, ◌<◌, length, flat_map, ℕ, true, false, List, Option, Some, None, option_map, is_some, sym, ◌∙◌, true≢false, refl, ap}
-use Rattle.bi_base.specs.Limits.{Limits}
 use Rattle.bi_blob.specs.Blob.{IsBlob, Reservation}
 use Rattle.bi_blob.specs.Tree.{Nodes, none, node, AreDistinct, AreNodes, AreProperties, EachOwn, FileNode, Root, properties_of, with_each}
 use Rattle.bi_blob.proofs.Texts.TextContent.{blob_has_content}
 use Rattle.bi_fdt.specs.declared.node.NodeRef.{NodeRef}
-use Rattle.bi_fdt.specs.Content.{Blob, root_of}
-use Rattle.bi_fdt.specs.TreeNames.{AreNamesIn}
 use Rattle.bi_fdt.specs.Views.{node_of}
-use Rattle.bi_fit.specs.LongNames.{name_if_long}
 use Rattle.bi_fit.specs.NormalNodes.{HasDistinctNames}
-use Rattle.bi_describe.specs.InsideTrees.{HasLongerNamesInside, IsBlobInside, devicetree_of}
 
 -- Blobs inside payloads.
 

@@ -21,8 +21,10 @@ pub mod ValueWords
 pub mod EntryTokens
 pub mod PayloadSizes
 pub mod ShownNodes
+pub mod PathWords
 pub mod PrintedDescriptions
 pub mod InsideBlobs
+pub mod InsideLengths
 pub mod JsonReading
 pub mod JsonDescriptions
 pub mod DescriptionFacts
@@ -35,6 +37,7 @@ pub mod ComparedLines
 pub mod KnownDeepFacts
 pub mod LongNames
 pub mod ComparedImages
+pub mod ReadInsides
 pub mod ReadableDescriptions
 pub mod KeptProperties
 pub mod NextNodes

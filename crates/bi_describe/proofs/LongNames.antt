@@ -51,7 +51,7 @@ pub shown_as_long : (name : List ℕ) → length name ≤ length (shown_text nam
 shown_as_long name = search (rules, bytes_eq-Decides, bytes_shown)
 
 -- A line is at least as long as its third word.
-third_word : (first second third : List ℕ) (later : Words) → length third ≤ length (line (first ∷ second ∷ third ∷ later))
+pub third_word : (first second third : List ℕ) (later : Words) → length third ≤ length (line (first ∷ second ∷ third ∷ later))
 third_word first second third [] = search (rules, length-append)
 third_word first second third (word ∷ later) = search (rules, length-append)
 
@@ -116,7 +116,7 @@ same_node name own children others later more below after =
     ap (λ nodes. node name own nodes later) below ∙ ap (λ nodes. node name own others nodes) after
 
 -- The described nodes have the properties of the nodes of the tree: those that are not image nodes,
-plain_properties : (nodes : Nodes PropertyMap) → properties_by_node (with_each plain_node nodes) ≡ nodes
+pub plain_properties : (nodes : Nodes PropertyMap) → properties_by_node (with_each plain_node nodes) ≡ nodes
 plain_properties none = refl
 plain_properties (node name own children later) =
     same_node name own _ _ _ _ (plain_properties children) (plain_properties later)
@@ -192,17 +192,17 @@ lines_long tree is = search (rules, length-append, flat_map-append, tree_long)
 
 -- How long the strings of a value are together, without the names of members.
 abbrev mutual
-  strings_length : Json → ℕ
+  pub strings_length : Json → ℕ
   strings_length (json_string bytes) = length bytes
   strings_length (array_of values) = values_length values
   strings_length (object_of members) = members_length members
   strings_length value = 0
 
-  values_length : JsonValues → ℕ
+  pub values_length : JsonValues → ℕ
   values_length no_value = 0
   values_length (next_value value later) = strings_length value + values_length later
 
-  members_length : JsonMembers → ℕ
+  pub members_length : JsonMembers → ℕ
   members_length no_member = 0
   members_length (next_member name value later) = strings_length value + members_length later
 
@@ -214,7 +214,7 @@ string_long [] = omega arith
 string_long (byte ∷ later) = search (rules, length-append, string_byte_long, string_long later)
 
 mutual
-  value_long : (value : Json) → strings_length value ≤ length (json_text value)
+  pub value_long : (value : Json) → strings_length value ≤ length (json_text value)
   value_long json_null = omega arith
   value_long (json_bool value) = omega arith
   value_long (json_number number) = omega arith
@@ -230,7 +230,7 @@ mutual
   members_long is_later no_member = omega arith
   members_long is_later (next_member name value later) = search (rules, length-append, value_long value, members_long true later)
 
-properties_in_json : (properties : List Property) →
+pub properties_in_json : (properties : List Property) →
     long_bytes (map (λ property. property.0) properties) ≤ values_length (json_values (map property_object properties))
 properties_in_json [] = omega arith
 properties_in_json (property ∷ later) =
@@ -240,7 +240,7 @@ properties_in_json (property ∷ later) =
     let rest = properties_in_json later in
     omega (arith, names, short, shown, rest)
 
-own_in_json : (own : DescribedNode) (children : List Json) →
+pub own_in_json : (own : DescribedNode) (children : List Json) →
     values_length (json_values (map property_object (entries own.properties))) + values_length (json_values children)
     ≤ members_length (json_members (node_members own children))
 own_in_json own children = by own.payload
@@ -251,7 +251,7 @@ own_in_json own children = by own.payload
     by NotAnImage = omega arith
     by (OfImage payload) = omega arith
 
-nodes_in_json : (nodes : Nodes DescribedNode) →
+pub nodes_in_json : (nodes : Nodes DescribedNode) →
     long_bytes (names_of_nodes (properties_by_node nodes)) ≤ values_length (json_values (node_objects nodes))
 nodes_in_json none = omega arith
 nodes_in_json (node name own children later) =

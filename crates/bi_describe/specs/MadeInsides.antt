@@ -1,5 +1,5 @@
 use Rattle.std.specs.Prelude.{◌≡◌, ⊤, Bool, false, ℕ, ◌+◌, List, [], ◌∷◌, IfSome, None, Option}
-use Rattle.std.specs.Prelude.{Some, if◌then◌else◌, map, slice_get, sum, unwrap_or}
+use Rattle.std.specs.Prelude.{Some, if◌then◌else◌, map, slice_get, unwrap_or}
 use Rattle.std.specs.Borrow.{Bor}
 use Rattle.std.specs.List.{AllZip, list_any}
 use Rattle.std.specs.Option.{option_map}
@@ -7,7 +7,7 @@ use Rattle.bi_base.specs.Limits.{Limits}
 use Rattle.bi_fdt.specs.Content.{Blob}
 use Rattle.bi_fit.specs.Content.{ImageModel, index_of}
 use Rattle.bi_norm.specs.declared.image.BootImage.{BootImage}
-use Rattle.bi_norm.specs.declared.image.BootImage.TheVariants as image
+use Rattle.bi_norm.specs.declared.image.BootImage.TheVariants as boot
 use Rattle.bi_norm.specs.Meaning.{Meaning, OfFit, OfLegacy}
 use Rattle.bi_describe.specs.declared.describe.deep.DeepImage.{DeepImage}
 use Rattle.bi_describe.specs.declared.describe.inside.InsideNodes.{InsideNodes}
@@ -25,7 +25,7 @@ use Rattle.bi_describe.specs.Devicetrees.{AreInside, DeepMeaning, HasInside, Ins
 use Rattle.bi_describe.specs.IgnoredWords.{payload_path}
 use Rattle.bi_describe.specs.Ignoring.{Ignored, PayloadPlace, OfImageNamed, OfPart}
 use Rattle.bi_describe.specs.Ignoring.{is_node_ignored}
-use Rattle.bi_describe.specs.InsideTrees.{IsBlobInside, devicetree_of, long_names_of}
+use Rattle.bi_describe.specs.InsideTrees.{IsBlobInside, devicetree_of, long_names}
 use Rattle.bi_describe.specs.KeptEntries.{kept_entries, root_entries}
 use Rattle.bi_describe.specs.KeptImages.{numbered_part}
 use Rattle.bi_describe.specs.MadeWords.{place_of_payload}
@@ -70,8 +70,8 @@ place_at (by.Images fit) index = OfImageNamed (name_at fit.now.images index)
 
 -- This is where the payloads of an image are.
 abbrev pub IsIndexOf : BootImage → PayloadIndex → Type 0
-IsIndexOf (image.Legacy legacy) by.Parts = ⊤
-IsIndexOf (image.Fit fit) (by.Images other) = other.now ≡ fit
+IsIndexOf (boot.Legacy legacy) by.Parts = ⊤
+IsIndexOf (boot.Fit fit) (by.Images other) = other.now ≡ fit
 IsIndexOf image index = ⊥
 
 -- The payloads of a meaning, by their index. Not every image has one.
@@ -148,14 +148,11 @@ HoldBlobs index first blobs trees = ⊥
 abbrev pub IsBlobOrNone : Limits → Option Blob → Type 0
 IsBlobOrNone limits blob = IfSome blob (λ found. IsBlobInside limits found.file found)
 
--- How many bytes the long names of properties have together: in a blob, if there is one, and in
--- each of these.
-abbrev pub long_names_or_none : Option Blob → ℕ
-long_names_or_none None = 0
-long_names_or_none (Some blob) = long_names_of blob
-
+-- How many bytes the long names of properties in these blobs have together.
 abbrev pub long_names_in : List (Option Blob) → ℕ
-long_names_in blobs = sum (map long_names_or_none blobs)
+long_names_in [] = 0
+long_names_in (blob ∷ later) =
+    long_names (option_map devicetree_of blob) + long_names_in later
 
 -- The code has a meaning, with what is inside.
 pub record HoldsDeep (deep : DeepMeaning) (made : DeepImage) : Type 0 where

@@ -1,6 +1,6 @@
 //! What a deep description is made from.
 
-ghost use Rattle.std.specs.Prelude.{◌≡◌, ◌≤◌, [], Option, Some, length, map};
+ghost use Rattle.std.specs.Prelude.{◌≡◌, ◌≤◌, ◌∷◌, [], Option, Some, if◌then◌else◌, length, map};
 ghost use Rattle.bi_legacy.specs.Meaning.{image_of};
 ghost use Rattle.bi_fit.specs.ImageTree.{ImageTree};
 ghost use Rattle.bi_norm.specs.Meaning.{OfFit, OfLegacy};
@@ -18,9 +18,10 @@ ghost use Rattle.bi_describe.specs.DescriptionJson.{digest_object_with};
 ghost use Rattle.bi_describe.specs.DescribedImages.{HoldsDescribedTree};
 ghost use Rattle.bi_describe.specs.Descriptions.{description_lines, part_line, part_lines};
 ghost use Rattle.bi_describe.specs.Devicetrees.{DeepMeaning, Insides as Trees};
-ghost use Rattle.bi_describe.specs.Ignoring.{OfPart, PayloadPlace as Place};
+ghost use Rattle.bi_describe.specs.Ignoring.{OfImageNamed, OfPart, PayloadPlace as Place};
 ghost use Rattle.bi_describe.specs.DeepDescriptions.{insides_shown};
-ghost use Rattle.bi_describe.specs.MadeInsides.{HoldInsides, HoldsDeep, shown_by, whole_devicetrees};
+ghost use Rattle.bi_describe.specs.MadeInsides.{HoldInsides, HoldsDeep, is_one_of_places};
+ghost use Rattle.bi_describe.specs.MadeInsides.{shown_by, whole_devicetrees};
 ghost use Rattle.bi_describe.specs.MadeParts.{bytes_of_parts, digest_of_part};
 ghost use Rattle.bi_describe.specs.ReadDescription.{root_lines};
 ghost use Rattle.bi_describe.specs.ReducedMeanings.{ReducedTree};
@@ -132,10 +133,23 @@ pub(super) fn put_part_with_inside<L: DeepPen>(
     ensures same { (trees : Place → Option ReducedTree) → HoldInsides trees insides.old
         → HoldInsides trees insides.new }
 {
+    put_part_unless_opened(index, part, opened, pen);
+    insides.put_lines_of_part(index, pen);
+}
+
+/// Puts the line of a part, unless it is one of these.
+fn put_part_unless_opened<L: DeepPen>(
+    index: usize,
+    part: DescribedPart,
+    opened: &[&PayloadPlace],
+    pen: &mut L,
+)
+    ensures { L.puts pen.old (tokens_of_lines (if is_one_of_places opened.now (OfPart index) then []
+        else part_line index (digest_of_part part.entry) ∷ [])) pen.new }
+{
     if !has_part(opened, index) {
         put_part(index, part, pen);
     }
-    insides.put_lines_of_part(index, pen);
 }
 
 /// Puts the lines of a flattened image tree.
@@ -216,13 +230,26 @@ fn put_entry_with_inside<'a, L: DeepPen>(
 {
     match entry {
         Entry::Payload(_) => {
-            let name = last_name(names);
-            if !has_image(opened, name) {
-                put_entry(entry, names, pen);
-            }
-            insides.put_lines_of_image(name, pen);
+            put_entry_unless_opened(entry, names, opened, pen);
+            insides.put_lines_of_image(last_name(names), pen);
         }
         _ => put_entry(entry, names, pen),
+    }
+}
+
+/// Puts the line of an entry, unless the innermost of these nodes has one of these payloads.
+fn put_entry_unless_opened<'a, L: DeepPen>(
+    entry: Entry<'a>,
+    names: &[&'a [u8]],
+    opened: &[&PayloadPlace],
+    pen: &mut L,
+)
+    ensures { let names_are = bytes_of_names names.now in L.puts pen.old (tokens_of_lines
+        (if is_one_of_places opened.now (OfImageNamed (name_of_last names_are)) then []
+        else lines_of_entry names_are (as_entry entry.entry))) pen.new }
+{
+    if !has_image(opened, last_name(names)) {
+        put_entry(entry, names, pen);
     }
 }
 

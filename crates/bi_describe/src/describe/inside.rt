@@ -4,9 +4,9 @@ mod blobs;
 mod paths;
 mod that_stay;
 
-ghost use Rattle.std.specs.Prelude.{◌≡◌, ◌∷◌, ◌≤◌, ◌↔◌, ⊤, [], IfErr, IfOk, IsTrue, List};
-ghost use Rattle.std.specs.Prelude.{None, OnOk, Option, Some, if◌then◌else◌, length, map, ℕ};
-ghost use Rattle.std.specs.Option.{option_map};
+ghost use Rattle.std.specs.Prelude.{◌≡◌, ◌+◌, ◌∷◌, ◌<◌, ◌≤◌, ◌↔◌, IfErr, IfOk, IsTrue, List};
+ghost use Rattle.std.specs.Prelude.{OnOk, Some, get_or, length, map};
+ghost use Rattle.bi_blob.specs.Blob.{end_pair};
 ghost use Rattle.bi_blob.specs.Tree.{with_each_node};
 ghost use Rattle.bi_common.specs.CommonLines.{reservation_of};
 ghost use Rattle.bi_common.specs.JsonTokens.{member_tokens};
@@ -17,7 +17,7 @@ ghost use Rattle.bi_describe.specs.DeepDescriptions.{inside_reservation_line, wh
 ghost use Rattle.bi_describe.specs.DeepJson.{inside_members};
 ghost use Rattle.bi_describe.specs.Devicetrees.{Devicetree};
 ghost use Rattle.bi_describe.specs.InsideTrees.{IsBlobInside, IsNamesError, devicetree_of};
-ghost use Rattle.bi_describe.specs.InsideTrees.{long_names_of};
+ghost use Rattle.bi_describe.specs.InsideTrees.{long_names};
 ghost use Rattle.bi_describe.specs.MadeWords.{ignored_words};
 ghost use Rattle.bi_describe.specs.ReadDescription.{root_lines};
 ghost use Rattle.bi_describe.specs.ReducedMeanings.{ReducedTree, kept_root as kept_root_of};
@@ -56,7 +56,7 @@ impl<'a> InsideNodes<'a> {
     /// Fails only if memory runs out.
     fn new(alloc: Global, entries: Vec<Entry<'a>>) -> Result<InsideNodes<'a>, AllocError>
         ensures { IfOk result (λ nodes. map as_entry nodes.entries.items
-            ≡ map as_entry entries.items) }
+            ≡ map as_entry entries.entry.items) }
     {
         let names = vec![in alloc; b"".as_slice(); most_open(&entries)]?;
         Ok(InsideNodes { entries, names })
@@ -100,8 +100,10 @@ impl<'a> InsideTree<'a> {
     ) -> Result<InsideTree<'a>, Error>
         requires inside { IsBlobInside limits blob.file blob }
         ensures holds { IfOk result (HoldsInside path.items (whole_devicetree (devicetree_of blob))) }
-        ensures room { OnOk result (room.new + long_names_of blob ≡ room.old) }
-        ensures failed { IfErr result (IsNamesError limits.file room.old (long_names_of blob)) }
+        ensures room { OnOk result
+            (room.old ≤ room.new + long_names (Some (devicetree_of blob))) }
+        ensures failed { IfErr result
+            (IsNamesError limits.file room.old (long_names (Some (devicetree_of blob)))) }
     {
         count_names(blob.names(), room, limits.file())?;
         let entries = entries_of_blob(alloc, &blob)?;
@@ -178,9 +180,25 @@ fn put_head<L: LinePen>(payload: &[u8], blob: &Blob, pen: &mut L)
         ],
         pen,
     );
+    put_reservations(payload, blob, pen);
+}
+
+/// Puts a line for each memory reservation. The payload has this path.
+fn put_reservations<L: LinePen>(payload: &[u8], blob: &Blob, pen: &mut L)
+    ensures { L.puts pen.old (tokens_of_lines
+        (map (inside_reservation_line payload.now) blob.now.reservations)) pen.new }
+{
     for index in 0..blob.reservation_count() {
-        put_reservation(payload, blob.reservation(index).unwrap_or_default(), pen);
+        put_reservation(payload, reservation_at(blob, index), pen);
     }
+}
+
+/// Returns the address and the size of a memory reservation. Requires: there is one at this index.
+fn reservation_at(blob: &Blob, index: usize) -> (u64, u64)
+    requires { index < length blob.now.reservations }
+    ensures { reservation_of result ≡ get_or blob.now.reservations index end_pair }
+{
+    blob.reservation(index).unwrap_or_default()
 }
 
 /// Puts the line of a memory reservation. The payload has this path.

@@ -1,6 +1,6 @@
 //! The devicetrees inside the payloads of a boot image.
 
-ghost use Rattle.std.specs.Prelude.{◌≡◌, ◌↔◌, ◌+◌, IfErr, IfOk, IsTrue, OnOk};
+ghost use Rattle.std.specs.Prelude.{◌≡◌, ◌↔◌, ◌+◌, ◌≤◌, IfErr, IfOk, IsTrue, OnOk};
 ghost use Rattle.std.specs.Prelude.{Option, Some, is_some, map, option_map};
 ghost use Rattle.std.specs.List.{AllByRecursion};
 ghost use Rattle.bi_base.specs.declared.fault.Error.TheVariants.{OutOfMemory};
@@ -18,10 +18,10 @@ ghost use Rattle.bi_describe.specs.DeepJson.{inside_members};
 ghost use Rattle.bi_describe.specs.Devicetrees.{Insides as Trees};
 ghost use Rattle.bi_describe.specs.IgnoredWords.{payload_path};
 ghost use Rattle.bi_describe.specs.Ignoring.{OfImageNamed, OfPart, PayloadPlace as Place};
-ghost use Rattle.bi_describe.specs.InsideTrees.{IsNamesError};
+ghost use Rattle.bi_describe.specs.InsideTrees.{IsNamesError, devicetree_of, long_names};
 ghost use Rattle.bi_describe.specs.MadeInsides.{AreBlobsInside, HasBlob, HoldBlobs, HoldInsides};
 ghost use Rattle.bi_describe.specs.MadeInsides.{HoldsBlob, IsBlobOrNone, IsReadInside};
-ghost use Rattle.bi_describe.specs.MadeInsides.{long_names_in, long_names_or_none, payloads_in};
+ghost use Rattle.bi_describe.specs.MadeInsides.{long_names_in, payloads_in};
 ghost use Rattle.bi_describe.specs.MadeInsides.{payload_index_in, with_tree_at};
 ghost use Rattle.bi_describe.specs.MadeInsides.{is_one_of_places, made_tree_at, tree_with_index};
 ghost use Rattle.bi_describe.specs.MadeInsides.{whole_devicetrees};
@@ -430,9 +430,10 @@ fn tree_of<'a>(
 ) -> Result<Option<InsideTree<'a>>, Error>
     requires { IsBlobOrNone limits blob }
     ensures held { IfOk result (HoldsBlob path.items blob) }
-    ensures room { OnOk result (room.new + long_names_or_none blob ≡ room.old) }
+    ensures room { OnOk result
+        (room.old ≤ room.new + long_names (option_map devicetree_of blob)) }
     ensures failed { IfErr result
-        (IsNamesError limits.file room.old (long_names_or_none blob)) }
+        (IsNamesError limits.file room.old (long_names (option_map devicetree_of blob))) }
 {
     match blob {
         Some(blob) => Ok(Some(InsideTree::new(alloc, path, blob, room, limits)?)),

@@ -1,0 +1,11 @@
+use Rattle.std.proofs.Common.{refl}
+use Rattle.bi_common.specs.LineTokens.{one_field}
+use Rattle.bi_describe.proofs.describe.inside.paths.InsidePenLinePen.put_word.Goals as goal
+
+pub returns-in-Path : goal.returns-in-Path
+unfolding one_field
+returns-in-Path g c = rw c.in-Path.is (record { payload = refl; same_borrow = refl; put = c.put_path_inside.ensures })
+
+pub returns-in_default : goal.returns-in_default
+unfolding one_field
+returns-in_default g c = ?
