@@ -48,3 +48,6 @@ pub mod DeepLines
 pub mod WithoutInside
 pub mod FurtherDeep
 pub mod DeepJsonDescriptions
+pub mod ShownDevicetrees
+pub mod PrintedInside
+pub mod DeepComparisons
