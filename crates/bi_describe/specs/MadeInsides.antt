@@ -30,15 +30,10 @@ use Rattle.bi_describe.specs.KeptEntries.{kept_entries, root_entries}
 use Rattle.bi_describe.specs.KeptImages.{numbered_part}
 use Rattle.bi_describe.specs.MadeWords.{place_of_payload}
 use Rattle.bi_describe.specs.OpenedPayloads.{is_same_payload, part_unless_opened}
-use Rattle.bi_describe.specs.PathRooms.{HasRoomForPaths}
 use Rattle.bi_describe.specs.ReducedMeanings.{ReducedTree}
 use Rattle.bi_describe.specs.TreeEntries.{EntryModel, as_entry}
 
 -- What is inside payloads, as the code has it.
-
--- The nodes have room for the longest path, inside the payload with this path.
-abbrev pub HasPathRoom : (payload : List ℕ) → InsideNodes → Type 0
-HasPathRoom payload nodes = HasRoomForPaths payload nodes.entries.items nodes.text.items
 
 -- The entries of nodes, if there are nodes.
 abbrev pub entries_inside : Option InsideNodes → Option (List EntryModel)

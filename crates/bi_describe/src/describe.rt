@@ -22,6 +22,7 @@ ghost use Rattle.bi_describe.specs.Describing.{describe_promise, describe_laws};
 
 mod bounded_pen;
 pub(crate) mod deep;
+pub(crate) mod deep_pen;
 mod digests;
 mod entries;
 mod fit;

@@ -29,6 +29,7 @@ ghost use Rattle.bi_describe.specs.TreeEntries.{PayloadEntry, as_entry, entry_li
 ghost use Rattle.bi_describe.specs.TreeEntries.{most_open as most_open_of};
 
 use super::DescribedImage;
+use super::deep_pen::{DeepPen, DeepWriter};
 use super::entries::Entry;
 use super::fit::{DescribedFit, put_head};
 use super::image_payload::ImagePayload;
@@ -42,7 +43,6 @@ use bi_base::Pen;
 use bi_common::common_lines::{put_header_lines, put_header_members, put_reservation_lines};
 use bi_common::format::Format;
 use bi_common::json_writer::{JsonPen, JsonToken, JsonValue, JsonWriter, put_value};
-use bi_common::lines::{LinePen, LineWriter};
 
 /// What a deep description is made from.
 #[derive(Drop)]
@@ -53,7 +53,7 @@ pub(crate) struct DeepImage<'a, 'b> {
 
 impl<'a, 'b> DeepImage<'a, 'b> {
     /// Puts the lines.
-    pub(crate) fn put_lines<L: LinePen>(&mut self, pen: &mut L)
+    pub(crate) fn put_lines<L: DeepPen>(&mut self, pen: &mut L)
         ensures put { (deep : DeepMeaning) → HoldsDeep deep self.old
             → L.puts pen.old (tokens_of_lines (deep_lines deep)) pen.new }
         ensures same { (deep : DeepMeaning) → HoldsDeep deep self.old → HoldsDeep deep self.new }
@@ -82,7 +82,7 @@ impl<'a, 'b> DeepImage<'a, 'b> {
         ensures same { (deep : DeepMeaning) → HoldsDeep deep self.old → HoldsDeep deep self.new }
     {
         match format {
-            Format::Lines => self.put_lines(&mut LineWriter::new(pen)),
+            Format::Lines => self.put_lines(&mut DeepWriter::new(pen)),
             Format::Json => {
                 self.put_object(&mut JsonWriter::new(pen));
                 pen.put(b"\n");
@@ -94,7 +94,7 @@ impl<'a, 'b> DeepImage<'a, 'b> {
 // ---- lines
 
 /// Puts the lines of a legacy image.
-fn put_legacy_lines<L: LinePen>(image: &DescribedLegacy, insides: &mut Insides, pen: &mut L)
+fn put_legacy_lines<L: DeepPen>(image: &DescribedLegacy, insides: &mut Insides, pen: &mut L)
     ensures put { (trees : Trees) → HoldInsides (whole_devicetrees trees) insides.old → L.puts pen.old
         (tokens_of_lines (lines_with_inside (insides_shown trees) (description_lines
         (OfLegacy (image_of image.now.fields (bytes_of_parts image.now.parts.items)))))) pen.new }
@@ -106,7 +106,7 @@ fn put_legacy_lines<L: LinePen>(image: &DescribedLegacy, insides: &mut Insides, 
 }
 
 /// Puts the lines of parts, and of what is inside them.
-fn put_parts<L: LinePen>(parts: &[DescribedPart], insides: &mut Insides, pen: &mut L)
+fn put_parts<L: DeepPen>(parts: &[DescribedPart], insides: &mut Insides, pen: &mut L)
     ensures put { (trees : Trees) → HoldInsides (whole_devicetrees trees) insides.old → L.puts pen.old
         (tokens_of_lines (lines_with_inside (insides_shown trees)
         (part_lines 0 (map digest_of_part parts.now)))) pen.new }
@@ -119,7 +119,7 @@ fn put_parts<L: LinePen>(parts: &[DescribedPart], insides: &mut Insides, pen: &m
 }
 
 /// Puts the line of a part, unless it is one of these, and the lines of what is inside it.
-pub(super) fn put_part_with_inside<L: LinePen>(
+pub(super) fn put_part_with_inside<L: DeepPen>(
     index: usize,
     part: DescribedPart,
     insides: &mut Insides,
@@ -139,7 +139,7 @@ pub(super) fn put_part_with_inside<L: LinePen>(
 }
 
 /// Puts the lines of a flattened image tree.
-fn put_fit_lines<L: LinePen>(fit: &mut DescribedFit, insides: &mut Insides, pen: &mut L)
+fn put_fit_lines<L: DeepPen>(fit: &mut DescribedFit, insides: &mut Insides, pen: &mut L)
     ensures put { (tree : ImageTree) (trees : Trees) → HoldsDescribedTree tree fit.old
         → HoldInsides (whole_devicetrees trees) insides.old → L.puts pen.old (tokens_of_lines
         (lines_with_inside (insides_shown trees) (description_lines (OfFit tree)))) pen.new }
@@ -156,7 +156,7 @@ fn put_fit_lines<L: LinePen>(fit: &mut DescribedFit, insides: &mut Insides, pen:
 /// Puts the lines of a tree with these entries, but for those of these payloads, and those of what
 /// is inside the payloads. Requires: `names` has room for the names of all nodes that are open at
 /// once.
-pub(super) fn put_tree_with_inside<'a, L: LinePen>(
+pub(super) fn put_tree_with_inside<'a, L: DeepPen>(
     entries: &[Entry<'a>],
     names: &mut [&'a [u8]],
     insides: &mut Insides,
@@ -177,7 +177,7 @@ pub(super) fn put_tree_with_inside<'a, L: LinePen>(
 
 /// Puts the lines of these entries, but for those of these payloads, and those of what is inside
 /// the payloads. Requires: `names` has room for the names of all nodes that are open at once.
-fn put_entries_with_inside<'a, L: LinePen>(
+fn put_entries_with_inside<'a, L: DeepPen>(
     entries: &[Entry<'a>],
     names: &mut [&'a [u8]],
     insides: &mut Insides,
@@ -201,7 +201,7 @@ fn put_entries_with_inside<'a, L: LinePen>(
 
 /// Puts the line of an entry, if it has one and is not one of these payloads, and the lines of what
 /// is inside if it is a payload. These are the names of the open nodes.
-fn put_entry_with_inside<'a, L: LinePen>(
+fn put_entry_with_inside<'a, L: DeepPen>(
     entry: Entry<'a>,
     names: &[&'a [u8]],
     insides: &mut Insides,

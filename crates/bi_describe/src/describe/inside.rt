@@ -4,7 +4,7 @@ mod blobs;
 mod paths;
 mod that_stay;
 
-ghost use Rattle.std.specs.Prelude.{◌≡◌, ◌∷◌, ◌≤◌, ◌↔◌, ⊤, [], IfErr, IfOk, IfSome, IsTrue, List};
+ghost use Rattle.std.specs.Prelude.{◌≡◌, ◌∷◌, ◌≤◌, ◌↔◌, ⊤, [], IfErr, IfOk, IsTrue, List};
 ghost use Rattle.std.specs.Prelude.{None, OnOk, Option, Some, if◌then◌else◌, length, map, ℕ};
 ghost use Rattle.std.specs.Option.{option_map};
 ghost use Rattle.bi_blob.specs.Tree.{with_each_node};
@@ -18,11 +18,11 @@ ghost use Rattle.bi_describe.specs.DeepJson.{inside_members};
 ghost use Rattle.bi_describe.specs.Devicetrees.{Devicetree};
 ghost use Rattle.bi_describe.specs.InsideTrees.{IsBlobInside, IsInsideError, devicetree_of};
 ghost use Rattle.bi_describe.specs.MadeWords.{ignored_words};
-ghost use Rattle.bi_describe.specs.PathRooms.{HasRoomForPaths};
 ghost use Rattle.bi_describe.specs.ReadDescription.{root_lines};
 ghost use Rattle.bi_describe.specs.ReducedMeanings.{ReducedTree, kept_root as kept_root_of};
 ghost use Rattle.bi_describe.specs.TreeEntries.{as_entry, most_open as most_open_of};
 
+use super::deep_pen::DeepPen;
 use super::entries::Entry;
 use super::json::{put_members_of_blob, put_root};
 use super::kept::have_same_heads;
@@ -35,7 +35,7 @@ use bi_common::lines::{LinePen, put_line};
 use bi_fdt::Blob;
 pub(super) use blobs::read_blob;
 use blobs::{check_names, entries_of_blob};
-use paths::{InsidePen, longest_path};
+use paths::InsidePen;
 use std::alloc::{AllocError, Global};
 use that_stay::{have_same_nodes, nodes_that_stay};
 
@@ -46,45 +46,29 @@ struct InsideNodes<'a> {
     entries: Vec<Entry<'a>>,
     /// Room for the names of all nodes that are open at once.
     names: Vec<&'a [u8]>,
-    /// Room for the longest path of a node.
-    text: Vec<u8>,
     ghost room: { most_open_of 0 (map as_entry entries.items) ≤ length names.items },
 }
 
 impl<'a> InsideNodes<'a> {
-    ghost use Rattle.bi_describe.specs.MadeInsides.{HasPathRoom};
-
-    /// Returns the nodes with these entries, inside the payload with this path.
+    /// Returns the nodes with these entries.
     ///
     /// Fails only if memory runs out.
-    fn new(
-        alloc: Global,
-        payload: &[u8],
-        entries: Vec<Entry<'a>>,
-    ) -> Result<InsideNodes<'a>, AllocError>
-        ensures room { IfOk result (HasPathRoom payload.now) }
-        ensures entries { IfOk result (λ nodes. map as_entry nodes.entries.items
+    fn new(alloc: Global, entries: Vec<Entry<'a>>) -> Result<InsideNodes<'a>, AllocError>
+        ensures { IfOk result (λ nodes. map as_entry nodes.entries.items
             ≡ map as_entry entries.items) }
     {
-        let mut names = vec![in alloc; b"".as_slice(); most_open(&entries)]?;
-        let longest = longest_path(payload, &entries, &mut names);
-        let text = vec![in alloc; 0; longest]?;
-        Ok(InsideNodes {
-            entries,
-            names,
-            text,
-        })
+        let names = vec![in alloc; b"".as_slice(); most_open(&entries)]?;
+        Ok(InsideNodes { entries, names })
     }
 
     /// Puts the lines of the nodes and of their properties. The payload has this path.
-    fn put_lines<L: LinePen>(&mut self, payload: &[u8], pen: &mut L)
-        ensures put { HasPathRoom payload.now self.old → L.puts pen.old (tokens_of_lines
+    fn put_lines<L: DeepPen>(&mut self, payload: &[u8], pen: &mut L)
+        ensures put { L.puts pen.old (tokens_of_lines
             (map (line_inside payload.now) (root_lines (map as_entry self.old.entries.items))))
             pen.new }
         ensures same { self.new.entries ≡ self.old.entries }
-        ensures room { HasPathRoom payload.now self.old → HasPathRoom payload.now self.new }
     {
-        let mut inside = InsidePen::new(payload, &mut self.text, pen);
+        let mut inside = InsidePen::new(payload, pen);
         put_tree(&self.entries, &mut self.names, &mut inside);
     }
 }
@@ -97,8 +81,6 @@ pub(crate) struct InsideTree<'a> {
     blob: Blob<'a>,
     /// The nodes, unless the root is left out.
     nodes: Option<InsideNodes<'a>>,
-    ghost room: { IfSome nodes (λ nodes.
-        HasRoomForPaths path.items nodes.entries.items nodes.text.items) },
 }
 
 impl<'a> InsideTree<'a> {
@@ -119,7 +101,7 @@ impl<'a> InsideTree<'a> {
     {
         check_names(blob.names(), limits.file())?;
         let entries = entries_of_blob(alloc, &blob)?;
-        let nodes = Some(InsideNodes::new(alloc, &path, entries)?);
+        let nodes = Some(InsideNodes::new(alloc, entries)?);
         Ok(InsideTree { path, blob, nodes })
     }
 
@@ -136,7 +118,7 @@ impl<'a> InsideTree<'a> {
                   (with_each_node plain_compared tree.root);
             }) self.new) }
     {
-        self.nodes = nodes_that_stay(alloc, &self.path, &self.nodes, words)?;
+        self.nodes = nodes_that_stay(alloc, &self.nodes, words)?;
         Ok(())
     }
 
@@ -150,7 +132,7 @@ impl<'a> InsideTree<'a> {
     }
 
     /// Puts the lines.
-    pub(super) fn put_lines<L: LinePen>(&mut self, pen: &mut L)
+    pub(super) fn put_lines<L: DeepPen>(&mut self, pen: &mut L)
         ensures put { (payload : List ℕ) (tree : ReducedTree) → HoldsInside payload tree self.old
             → L.puts pen.old (tokens_of_lines (inside_lines payload tree)) pen.new }
         ensures same { (payload : List ℕ) (tree : ReducedTree) → HoldsInside payload tree self.old

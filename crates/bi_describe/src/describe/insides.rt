@@ -26,12 +26,12 @@ ghost use Rattle.bi_describe.specs.MadeWords.{ignored_words, place_of_payload};
 ghost use Rattle.bi_describe.specs.OpenedPayloads.{tree_at_without};
 ghost use Rattle.bi_describe.specs.ReducedMeanings.{ReducedTree};
 
+use super::deep_pen::DeepPen;
 use super::inside::{InsideTree, read_blob};
 use crate::ignored::{Ignored, PayloadPlace, is_payload_of_one, payload_of_word, words_inside};
 use bi_base::{Error, Limits, MemoryPen, Pen};
 use bi_common::fields::{Field, put_decimal, put_field};
 use bi_common::json_writer::JsonPen;
-use bi_common::lines::LinePen;
 use bi_common::payload_bounds::BoundedFit;
 use bi_fdt::Blob;
 use bi_fit::Image;
@@ -264,7 +264,7 @@ impl<'a> Insides<'a> {
 
     /// Puts the lines of the devicetree inside the payload of the image with this name, if there is
     /// one.
-    pub(crate) fn put_lines_of_image<L: LinePen>(&mut self, name: &[u8], pen: &mut L)
+    pub(crate) fn put_lines_of_image<L: DeepPen>(&mut self, name: &[u8], pen: &mut L)
         ensures put { (trees : Place → Option ReducedTree) → HoldInsides trees self.old
             → L.puts pen.old (tokens_of_lines
             (lines_at (OfImageNamed name.now) (trees (OfImageNamed name.now)))) pen.new }
@@ -277,7 +277,7 @@ impl<'a> Insides<'a> {
     }
 
     /// Puts the lines of the devicetree inside the payload with this index, if there is one.
-    fn put_lines<L: LinePen>(&mut self, index: usize, pen: &mut L)
+    fn put_lines<L: DeepPen>(&mut self, index: usize, pen: &mut L)
         ensures put { (trees : Place → Option ReducedTree) (place : Place) → HoldInsides trees self.old
             → made_tree_at self.old place ≡ tree_with_index self.old.trees.items (Some index)
             → L.puts pen.old (tokens_of_lines (lines_at place (trees place))) pen.new }
@@ -301,7 +301,7 @@ impl<'a> Insides<'a> {
     }
 
     /// Puts the lines of the devicetree inside the part with this index, if there is one.
-    pub(crate) fn put_lines_of_part<L: LinePen>(&mut self, part: usize, pen: &mut L)
+    pub(crate) fn put_lines_of_part<L: DeepPen>(&mut self, part: usize, pen: &mut L)
         ensures put { (trees : Place → Option ReducedTree) → HoldInsides trees self.old
             → L.puts pen.old (tokens_of_lines (lines_at (OfPart part) (trees (OfPart part))))
             pen.new }

@@ -23,6 +23,7 @@ mod legacy;
 mod tree;
 
 use super::DescribedImage;
+use super::deep_pen::DeepPen;
 use super::insides::Insides;
 use crate::ignored::{Ignored, PayloadPlace};
 use bi_base::{Limits, are_bytes};
@@ -82,7 +83,7 @@ impl<'a, 'b> KeptImage<'a, 'b> {
     /// Puts the lines, but for those of these payloads, and those of what is inside the payloads.
     ///
     /// Fails only if memory runs out.
-    pub(crate) fn put_deep_lines<L: LinePen>(
+    pub(crate) fn put_deep_lines<L: DeepPen>(
         &self,
         alloc: Global,
         insides: &mut Insides,

@@ -22,6 +22,7 @@ ghost use Rattle.bi_describe.specs.ReducedMeanings.{reduced_header_lines, reduce
 ghost use Rattle.bi_describe.specs.ReducedMeanings.{reduced_legacy_lines, time_lines};
 
 use crate::describe::deep::put_part_with_inside;
+use crate::describe::deep_pen::DeepPen;
 use crate::describe::insides::Insides;
 use crate::describe::legacy::{DescribedLegacy, put_part};
 use crate::describe::part::DescribedPart;
@@ -79,7 +80,7 @@ impl<'a> KeptLegacy<'a> {
     }
 
     /// Puts the lines, but for those of these parts, and those of what is inside the parts.
-    pub(super) fn put_deep_lines<L: LinePen>(
+    pub(super) fn put_deep_lines<L: DeepPen>(
         &self,
         insides: &mut Insides,
         opened: &[&PayloadPlace],
@@ -244,7 +245,7 @@ fn put_parts<L: LinePen>(parts: &[KeptPart], pen: &mut L)
 }
 
 /// Puts the lines of parts, but for those of these, and those of what is inside them.
-fn put_deep_parts<L: LinePen>(
+fn put_deep_parts<L: DeepPen>(
     parts: &[KeptPart],
     insides: &mut Insides,
     opened: &[&PayloadPlace],

@@ -22,6 +22,7 @@ ghost use Rattle.bi_describe.specs.TreeEntries.{as_entry};
 
 use super::entries::{are_same_entries, are_same_unless_opened, kept_entries};
 use crate::describe::deep::put_tree_with_inside;
+use crate::describe::deep_pen::DeepPen;
 use crate::describe::entries::Entry;
 use crate::describe::fit::{DescribedFit, put_head};
 use crate::describe::insides::Insides;
@@ -80,7 +81,7 @@ impl<'a, 'b> KeptFit<'a, 'b> {
     /// Puts the lines, but for those of these payloads, and those of what is inside the payloads.
     ///
     /// Fails only if memory runs out.
-    pub(super) fn put_deep_lines<L: LinePen>(
+    pub(super) fn put_deep_lines<L: DeepPen>(
         &self,
         alloc: Global,
         insides: &mut Insides,
