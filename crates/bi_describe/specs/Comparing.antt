@@ -59,8 +59,8 @@ kinds_differ kind other_kind =
     record { sign = sign.Removed; text = kind } ∷ record { sign = sign.Added; text = other_kind }
     ∷ []
 
--- What differs between two meanings that are not the same, of which these lines are compared. If they
--- are of different kinds, that is all.
+-- What differs between two meanings that are not the same, of which these lines are compared. If
+-- they are of different kinds, that is all.
 abbrev pub comparison_by_lines : (one other : Meaning) → (lines other_lines : List Line)
     → List SignedLine
 comparison_by_lines (OfLegacy one) (OfFit other) lines other_lines =

@@ -73,9 +73,9 @@ pub record IsDeepComparison (format : Format) (limits : Limits) (one other : Lis
 
 -- ---- if something is left out
 
--- What differs between two meanings that are not the same without what the words leave out, if these
--- payloads are opened. If the meanings are of different kinds, that is all, and nothing is left out;
--- or else it is what differs between the lines that stay of both.
+-- What differs between two meanings that are not the same without what the words leave out, if
+-- these payloads are opened. If the meanings are of different kinds, that is all, and nothing is
+-- left out; or else it is what differs between the lines that stay of both.
 abbrev pub deep_comparison_by : List Ignored → (is_opened : PayloadPlace → Bool)
     → (one other : DeepMeaning) → List SignedLine
 deep_comparison_by words is_opened one other =
@@ -92,8 +92,8 @@ abbrev pub deep_differences_without : List Ignored → (one other : DeepMeaning)
 deep_differences_without words one other same =
     if same then [] else deep_comparison_without words one other
 
--- `same` is whether two meanings are the same with what is inside, without what is left out, and the
--- text is what differs. There are differences if and only if they are not the same.
+-- `same` is whether two meanings are the same with what is inside, without what is left out, and
+-- the text is what differs. There are differences if and only if they are not the same.
 pub record IsDeepDifference (options : IgnoringOptionsModel) (one other : DeepMeaning) (same : Bool)
     (text : List ℕ) : Type 0
   where

@@ -194,13 +194,14 @@ pub fn compare_deep(
     Ok(Comparison { same, differences })
 }
 
-/// Does what `compare_ignoring` does, with the devicetrees that are inside payloads or parts. A word
-/// for something inside a payload opens it, if it is a devicetree in both images: then it is
+/// Does what `compare_ignoring` does, with the devicetrees that are inside payloads or parts. A
+/// word for something inside a payload opens it, if it is a devicetree in both images: then it is
 /// compared by its boot processor, its memory reservations and its tree, without what the words
 /// leave out, and not by its bytes. The differences are those of the lines of the deep descriptions
 /// that stay, without the lines of the payloads that are opened.
 ///
-/// The errors are those of `compare_ignoring`, but it is the deep descriptions that may be too long.
+/// The errors are those of `compare_ignoring`, but it is the deep descriptions that may be too
+/// long.
 pub fn compare_ignoring_deep(
     alloc: Global,
     one: &[u8],

@@ -159,11 +159,11 @@ fn put_entries<L: LinePen>(alloc: Global, entries: &[Entry], pen: &mut L) -> Res
     Ok(())
 }
 
-/// Puts the lines of a tree with these entries, the root first, but for those of these payloads, and
-/// those of what is inside the payloads.
+/// Puts the lines of a tree with these entries, the root first, but for those of these payloads,
+/// and those of what is inside the payloads.
 ///
 /// Fails only if memory runs out.
-fn put_deep_entries<L: LinePen>(
+fn put_deep_entries<L: DeepPen>(
     alloc: Global,
     entries: &[Entry],
     insides: &mut Insides,
