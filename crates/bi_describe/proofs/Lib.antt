@@ -51,3 +51,6 @@ pub mod DeepJsonDescriptions
 pub mod ShownDevicetrees
 pub mod PrintedInside
 pub mod DeepComparisons
+pub mod OpenedPlaces
+pub mod InsideWords
+pub mod PlainDigits

@@ -18,9 +18,9 @@ ghost use Rattle.bi_describe.specs.KeptLines.{KeepsLines};
 ghost use Rattle.bi_describe.specs.MadeInsides.{HoldInsides, HoldsDeep, IsDeepOf, has_place};
 ghost use Rattle.bi_describe.specs.MadeInsides.{is_one_of_places, whole_devicetrees};
 ghost use Rattle.bi_describe.specs.MadeOptions.{ignoring_model};
-ghost use Rattle.bi_describe.specs.MadeWords.{ignored_word, ignored_words};
-ghost use Rattle.bi_describe.specs.OpenedPayloads.{AreSameDeep, can_open, deep_lines_without};
-ghost use Rattle.bi_describe.specs.OpenedPayloads.{is_opened, is_word_inside};
+ghost use Rattle.bi_describe.specs.MadeWords.{ignored_word, ignored_words, place_of_payload};
+ghost use Rattle.bi_describe.specs.OpenedPayloads.{AreSameDeep, can_open as can_open_at};
+ghost use Rattle.bi_describe.specs.OpenedPayloads.{deep_lines_without, is_opened, is_word_inside};
 
 use super::ignoring::{IgnoringOptions, lines_of_kept};
 use super::kept_lines::KeptLines;
@@ -224,7 +224,8 @@ fn opened_payloads<'w>(
     Ok(places)
 }
 
-/// Returns the payload that a word is for something inside of, if it is compared by its devicetree.
+/// Returns the payload that a word is for something inside of, if it is compared by the devicetree
+/// inside it.
 fn opened_by<'w>(
     word: &'w Ignored,
     words: &[Ignored],
@@ -234,16 +235,22 @@ fn opened_by<'w>(
     ensures { (trees others : Trees) → HoldInsides (whole_devicetrees trees) insides.now
         → HoldInsides (whole_devicetrees others) other.now → (place : Place)
         → has_place place result ≡ (is_word_inside place (ignored_word word.now)
-        && can_open (ignored_words words.now) trees others place) }
+        && can_open_at (ignored_words words.now) trees others place) }
 {
     let place = payload_of_word(word)?;
-    if insides.has_tree_at(place)
-        && other.has_tree_at(place)
-        && !is_payload_ignored(words, place)
-    {
+    if can_open(place, words, insides, other) {
         return Some(place);
     }
     None
+}
+
+/// Returns whether a payload stays, and is a devicetree in both images.
+fn can_open(place: &PayloadPlace, words: &[Ignored], insides: &Insides, other: &Insides) -> bool
+    ensures { (trees others : Trees) → HoldInsides (whole_devicetrees trees) insides.now
+        → HoldInsides (whole_devicetrees others) other.now
+        → result ≡ can_open_at (ignored_words words.now) trees others (place_of_payload place.now) }
+{
+    !is_payload_ignored(words, place) && insides.has_tree_at(place) && other.has_tree_at(place)
 }
 
 /// Returns what the deep description of the first image is made from. Requires: the image was read.
