@@ -48,7 +48,8 @@ all_printable (byte ∷ later) are =
 steps : (names : List (List ℕ)) → AllByRecursion AreBytes names → ArePrinted (flat_map (λ other. 47 ∷ shown_text other) names)
 steps [] are = tt
 steps (name ∷ names) are =
-    printed-append (47 ∷ shown_text name) _ ((omega arith, omega arith), name_printed name are.0) (steps names are.1)
+    printed-append (47 ∷ shown_text name) (flat_map (λ other. 47 ∷ shown_text other) names)
+    ((omega arith, omega arith), name_printed name are.0) (steps names are.1)
 
 path_printed : (names : List (List ℕ)) → AllByRecursion AreBytes names → ArePrinted (path names)
 path_printed [] are = known_printed (codes "/") refl
@@ -61,13 +62,15 @@ HasByteName (OfPart index) = ⊤
 
 place_printed : (place : PayloadPlace) → HasByteName place → ArePrinted (payload_path place)
 place_printed (OfImageNamed name) bytes =
-    printed-append (47 ∷ shown_text images_name) _ (known_printed (47 ∷ shown_text images_name) refl) (steps (name ∷ []) (bytes, tt))
-place_printed (OfPart index) bytes = printed-append (codes "part-") (decimal index) (known_printed (codes "part-") refl) (decimal_printed index)
+    printed-append (47 ∷ shown_text images_name) (flat_map (λ other. 47 ∷ shown_text other) (name ∷ []))
+    (known_printed (47 ∷ shown_text images_name) refl) (steps (name ∷ []) (bytes, tt))
+place_printed (OfPart index) bytes =
+    printed-append (codes "part-") (decimal index) (known_printed (codes "part-") refl) (decimal_printed index)
 
 inside_printed : (payload : List ℕ) → ArePrinted payload → (names : List (List ℕ)) → AllByRecursion AreBytes names →
     ArePrinted (inside_path payload names)
 inside_printed payload printed names are =
-    printed-append payload _ printed (printed-append (codes "/") (path names) (known_printed (codes "/") refl) (path_printed names are))
+    printed-append payload (codes "/" ++ path names) printed (printed-append (codes "/") (path names) (known_printed (codes "/") refl) (path_printed names are))
 
 -- ---- lines inside
 
