@@ -1,5 +1,5 @@
 use Rattle.std.proofs.Common.{◌≡◌, ◌≤◌, ◌++◌, ◌∷◌, ℕ, [], List, Bool, true, false, IsTrue, Option, None, Some, codes, refl, sym, ap, ap₂}
-use Rattle.std.proofs.Common.{subst, ◌∙◌, arith, rules, true≢false}
+use Rattle.std.proofs.Common.{append_assoc, subst, ◌∙◌, arith, rules, true≢false}
 use Rattle.std.specs.Fmt.{digits}
 use Rattle.std.specs.FinMap.{entries, from_sorted, retain_keys, same_entries_map}
 use Rattle.std.specs.Option.{option_map}
@@ -32,6 +32,7 @@ use Rattle.bi_describe.proofs.DescriptionFacts.{sorted_entries}
 use Rattle.bi_describe.proofs.IgnoredFacts.{first_payload, same_image_bytes}
 use Rattle.bi_describe.proofs.KeptProperties.{entries_kept}
 use Rattle.bi_describe.proofs.OneInside.{same_place}
+use Rattle.bi_describe.proofs.PlainDigits.{digest_written}
 
 -- Small boot images with devicetrees inside are described and compared as is known.
 
@@ -40,7 +41,8 @@ unfolding digits cell cell8
 deep_descriptions_are_known = record {
   image = simp (no_entries, sorted_entries only_load_address tt, sorted_entries (only_model (codes "m")) tt) refl;
   part = rw (sorted_entries (only_model (codes "m")) tt, no_entries) refl;
-  json = ?;
+  json = simp (no_entries, sorted_entries only_load_address tt, sorted_entries (only_model (codes "m")) tt, digest_written (codes "m"),
+      append_assoc) refl;
 }
 
 pub inside_keys_are_known : InsideKeysAreKnown

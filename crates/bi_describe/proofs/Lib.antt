@@ -51,3 +51,9 @@ pub mod DeepLines
 pub mod WithoutInside
 pub mod FurtherDeep
 pub mod DeepJsonDescriptions
+pub mod ShownDevicetrees
+pub mod PrintedInside
+pub mod DeepComparisons
+pub mod OpenedPlaces
+pub mod InsideWords
+pub mod PlainDigits

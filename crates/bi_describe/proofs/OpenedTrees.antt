@@ -1,4 +1,5 @@
-use Rattle.std.proofs.Common.{◌≡◌, ◌↔◌, ◌∙◌, Bool, true, false, ℕ, List, [], ◌∷◌, ◌++◌, Option, None, Some, map, refl, sym, ap, ap₂}
+use Rattle.std.proofs.Common.{◌≡◌, ◌↔◌, ◌∙◌, Bool, true, false, ℕ, List, [], ◌∷◌, ◌++◌, Option, None, Some, drop, get_or, map, refl, sym, ap, ap₂}
+use Rattle.std.specs.Prelude.{if◌then◌else◌}
 use Rattle.std.specs.FinMap.{entries}
 use Rattle.std.specs.Option.{option_map}
 use Rattle.std.specs.Borrow.{Bor}
@@ -52,6 +53,38 @@ module _ (is_opened : PayloadPlace → Bool) where
       ≡ payload_entries (payload_unless (is_opened (OfImageNamed name)) (ImageWith payload))
   payload_less true name payload is = rw is refl
   payload_less false name payload is = rw is refl
+
+  -- The name of the last node that began does not depend on what is opened.
+  begun_less : (last : List ℕ) (entry : EntryModel) → last_begun last entry ≡ last_begun last (entry_unless_opened is_opened last entry)
+  begun_less last (PayloadEntry payload) = by (is_opened (OfImageNamed last))
+    where
+      by : (b : Bool) → last ≡ last_begun last (if b then PayloadEntry None else PayloadEntry payload)
+      by true = refl
+      by false = refl
+  begun_less last (NodeBegins name) = refl
+  begun_less last NodeEnds = refl
+  begun_less last PropertiesBegin = refl
+  begun_less last (PropertyEntry property) = refl
+  begun_less last ChildrenBegin = refl
+
+  -- After two entries that are the same, the later ones decide.
+  pub same_after : (last : List ℕ) (a b : EntryModel) (xs ys : List EntryModel) →
+      entry_unless_opened is_opened last a ≡ entry_unless_opened is_opened last b →
+      (entries_unless_opened is_opened (last_begun last a) xs ≡ entries_unless_opened is_opened (last_begun last a) ys)
+      ↔ (entries_unless_opened is_opened last (a ∷ xs) ≡ entries_unless_opened is_opened last (b ∷ ys))
+  same_after last a b xs ys same =
+      let begun : last_begun last a ≡ last_begun last b =
+      begun_less last a ∙ ap (last_begun last) same ∙ sym (begun_less last b) in
+      let there = ap (λ (last : List ℕ). entries_unless_opened is_opened last ys) begun in (
+        (λ rest. ap₂ (λ (first : EntryModel) (later : List EntryModel). first ∷ later) same (rest ∙ there)),
+        (λ all. ap (drop 1) all ∙ sym there),
+      )
+
+  -- Two lists that are the same have the same first entry.
+  pub same_first : (last : List ℕ) (a b : EntryModel) (xs ys : List EntryModel) →
+      entries_unless_opened is_opened last (a ∷ xs) ≡ entries_unless_opened is_opened last (b ∷ ys) →
+      entry_unless_opened is_opened last a ≡ entry_unless_opened is_opened last b
+  same_first last a b xs ys all = ap (λ (entries : List EntryModel). get_or entries 0 a) all
 
   own_less : (name : List ℕ) (own : ComparedNode) →
       entries_unless_opened is_opened name (own_entries own) ≡ own_entries (own_unless_opened is_opened name own)

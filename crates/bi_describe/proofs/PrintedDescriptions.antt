@@ -59,7 +59,7 @@ properties_can names are [] good = tt
 properties_can names are (property ∷ later) good =
     ((refl, (are, (good.0.name_bytes, (good.0.value_bytes, tt)))), properties_can names are later good.1)
 
-own_can : (names : List (List ℕ)) → AllByRecursion AreBytes names → (own : DescribedNode) → AreBlobProperties (entries own.properties) →
+pub own_can : (names : List (List ℕ)) → AllByRecursion AreBytes names → (own : DescribedNode) → AreBlobProperties (entries own.properties) →
     IsShownPayload own.payload → CanPrintLines (own_lines names own)
 own_can names are own properties payload = (
   (refl, (are, tt)),
@@ -67,7 +67,7 @@ own_can names are own properties payload = (
       (payload_can names are own.payload payload) (properties_can names are (entries own.properties) properties),
 )
 
-nodes_can : (above : List (List ℕ)) → AllByRecursion AreBytes above → (nodes : Nodes DescribedNode) → AreShown nodes →
+pub nodes_can : (above : List (List ℕ)) → AllByRecursion AreBytes above → (nodes : Nodes DescribedNode) → AreShown nodes →
     CanPrintLines (node_lines above nodes)
 nodes_can above are none shown = tt
 nodes_can above are (node name own children later) shown =

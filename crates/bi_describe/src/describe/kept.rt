@@ -153,8 +153,8 @@ pub(crate) fn kept_is_ascii(image: &BootImage)
     }
 }
 
-/// Does nothing. Its contract states that the lines of what stays of an image, and of what is inside
-/// its payloads, are ASCII, whatever is left out. Requires: the image was read.
+/// Does nothing. Its contract states that the lines of what stays of an image, and of what is
+/// inside its payloads, are ASCII, whatever is left out. Requires: the image was read.
 pub(crate) fn kept_deep_is_ascii(image: &BootImage, limits: Limits)
     requires held { IsHeldImage image.now }
     ensures { (words : List Word) (insides : Trees) (is_opened : Place → Bool)
