@@ -21,7 +21,6 @@ pub mod ValueWords
 pub mod EntryTokens
 pub mod PayloadSizes
 pub mod ShownNodes
-pub mod PathWords
 pub mod PrintedDescriptions
 pub mod InsideBlobs
 pub mod InsideLengths
