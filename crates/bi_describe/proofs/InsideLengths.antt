@@ -1,19 +1,23 @@
 use Rattle.std.proofs.Common.{◌≡◌, ℕ, suc, ◌+◌, ◌≤◌, ◌<◌, Bool, true, false, List, [], ◌∷◌, ◌++◌, Option, None, Some, bytes_eq, length, map}
-use Rattle.std.proofs.Common.{arith, codes, flat_map, length-append, option_map, refl, sym, ap, subst, ◌∙◌}
+use Rattle.std.proofs.Common.{arith, codes, inr, flat_map, length-append, option_map, refl, sym, ap, subst, ◌∙◌}
 use Rattle.std.specs.Prelude.{⊤}
 use Rattle.std.specs.FinMap.{entries}
 use Rattle.std.specs.List.{AllZip}
 use Rattle.std.proofs.lemmas.Grind.{flat_map-append}
 use Rattle.std.proofs.lemmas.Slice.Eq.{bytes_eq-Decides}
+use Rattle.bi_base.specs.declared.fault.Error.{Error}
+use Rattle.bi_base.specs.declared.fault.Error.TheVariants as error
+use Rattle.bi_base.specs.Errors.{IsFaultOrNoMemory}
 use Rattle.bi_base.specs.Limits.{Limits}
+use Rattle.bi_base.specs.Reading.{too_large}
 use Rattle.bi_blob.specs.Tree.{AreDistinct, Nodes, none, node, Property, PropertyMap, names, with_each}
-use Rattle.bi_fdt.specs.Content.{Blob}
-use Rattle.bi_fit.specs.Content.{FitModel, ImageModel, index_from, index_of, tree_of}
+use Rattle.bi_fdt.specs.Content.{Blob, root_of}
+use Rattle.bi_fit.specs.Content.{FitModel, ImageModel, IsHeld, index_from, index_of, tree_of}
 use Rattle.bi_fit.specs.ImageTree.{ImageTree, IsApart, IsImageTree, children_of, each_own, image_nodes, nodes_or_none}
-use Rattle.bi_fit.specs.LongNames.{name_if_long}
+use Rattle.bi_fit.specs.LongNames.{HasLongerNames, name_if_long}
 use Rattle.bi_fit.specs.Names.{images_name}
 use Rattle.bi_fit.proofs.FileTrees.{is_image_tree}
-use Rattle.bi_fit.proofs.LongNames.{length-name_if_long, names_of_nodes}
+use Rattle.bi_fit.proofs.LongNames.{length-name_if_long, long_names_of_tree, names_of_nodes}
 use Rattle.bi_fit.proofs.Meanings.{same_in_some}
 use Rattle.bi_fit.proofs.NormalTrees.{held_means}
 use Rattle.bi_legacy.specs.Meaning.{LegacyImage}
@@ -32,7 +36,7 @@ use Rattle.bi_common.specs.ValueTexts.{value_words}
 use Rattle.bi_describe.specs.declared.describe.insides.PayloadIndex.{PayloadIndex}
 use Rattle.bi_describe.specs.declared.describe.insides.PayloadIndex.TheVariants as by
 use Rattle.bi_describe.specs.ComparedNodes.{described_node, plain_compared}
-use Rattle.bi_describe.specs.DeepDescribing.{HasLongDeepText, deep_text}
+use Rattle.bi_describe.specs.DeepDescribing.{HasLongDeepText, IsDeepImageError, deep_text}
 use Rattle.bi_describe.specs.DeepDescriptions.{inside_cpu_line, inside_lines, inside_reservation_line, insides_shown, line_at, line_inside}
 use Rattle.bi_describe.specs.DeepDescriptions.{lines_at, lines_with_inside, name_of_last, place_of_line, whole_devicetree}
 use Rattle.bi_describe.specs.DeepJson.{deep_part_objects, devicetree_object, inside_members, object_with_inside}
@@ -40,12 +44,13 @@ use Rattle.bi_describe.specs.DescriptionJson.{node_members_with, node_objects, n
 use Rattle.bi_describe.specs.Descriptions.{DescribedNode, OfImage, described_images, described_nodes, digest_of_payload, fit_lines}
 use Rattle.bi_describe.specs.Descriptions.{head_lines, node_line, node_lines, own_lines, part_line, part_lines, payload_words, plain_node}
 use Rattle.bi_describe.specs.Descriptions.{property_line, tree_lines}
-use Rattle.bi_describe.specs.Devicetrees.{Devicetree, Insides}
+use Rattle.bi_describe.specs.Devicetrees.{AreInside, Devicetree, Insides}
 use Rattle.bi_describe.specs.IgnoredWords.{inside_path, payload_path}
 use Rattle.bi_describe.specs.Ignoring.{OfImageNamed, OfPart, PayloadPlace}
-use Rattle.bi_describe.specs.InsideTrees.{devicetree_of, long_names, long_names_below, long_names_own}
+use Rattle.bi_describe.specs.InsideTrees.{IsNamesError, devicetree_of, long_names, long_names_below, long_names_own}
 use Rattle.bi_describe.specs.MadeInsides.{AreBlobsInside, HasBlob, IsIndexOf, long_names_in, payload_index_in, payloads_in}
-use Rattle.bi_describe.proofs.LongNames.{long_bytes, long_bytes_of_node, members_length, nodes_in_json, own_in_json, plain_properties}
+use Rattle.bi_describe.proofs.LongNames.{json_long_with, lines_long, long_bytes, long_bytes_of, long_bytes_of_node, members_length}
+use Rattle.bi_describe.proofs.LongNames.{nodes_in_json, own_in_json, plain_properties}
 use Rattle.bi_describe.proofs.LongNames.{properties_in_json, shown_as_long, strings_length, third_word, value_long, values_length}
 use Rattle.bi_describe.proofs.ReadInsides.{blobs_are_inside, image_names_are, image_names_distinct, image_says_where, index_after, inside_with}
 use Rattle.bi_describe.proofs.ReadInsides.{insides_of}
@@ -414,3 +419,51 @@ names_too_long format limits image index blobs held is are longer = record {
   are_inside = blobs_are_inside limits index (meaning_of image) blobs (image_says_where image index held is) are;
   is_long = omega (arith, longer, image_deep_long format limits image index blobs held is are);
 }
+
+-- ---- names of the image itself
+
+line_stays : (insides : Insides) (place : Option PayloadPlace) (line : Line) →
+    text_length (line ∷ []) ≤ text_length (line_at (insides_shown insides) place line)
+line_stays insides None line = omega arith
+line_stays insides (Some place) line =
+    omega (arith, text_length-append (line ∷ []) (lines_at place ((insides_shown insides).tree_at place)))
+
+lines_stay : (insides : Insides) (lines : List Line) → text_length lines ≤ deep_length insides lines
+lines_stay insides [] = omega arith
+lines_stay insides (line ∷ later) =
+    let shown = insides_shown insides in
+    let alone = text_length-append (line ∷ []) later in
+    let both = text_length-append (line_at shown (place_of_line line) line) (lines_with_inside shown later) in
+    omega (arith, alone, both, line_stays insides (place_of_line line) line, lines_stay insides later)
+
+-- An image with different long names that are together longer than the limit is too long to describe with what is inside.
+pub deep_refused_names : (format : Format) (limits : Limits) (content : FitModel) (limit : ℕ) (e : Error) → IsHeld content →
+    limit ≡ limits.file → IsFaultOrNoMemory (λ fault. (fault ≡ too_large limit) × HasLongerNames limit (root_of content.blob)) e →
+    (insides : Insides) → AreInside limits (OfFit (tree_of content)) insides → IsDeepImageError format limits (OfFit (tree_of content)) e
+deep_refused_names format limits content limit (error.Refused fault) held is (is_fault, (names, distinct, are, longer)) insides inside =
+    let of_file = long_names_of_tree content names distinct are in
+    let good = is_image_tree content.blob.file (tree_of content) (held_means content held) in
+    let described = by format good in
+    (
+      inr (record { insides = insides; are_inside = inside; is_long = omega (arith, is, longer, of_file, described) }),
+      is_fault ∙ ap too_large is,
+    )
+  where
+    by : (form : Format) → IsImageTree (tree_of content) →
+        long_bytes_of (tree_of content) ≤ length (deep_text form (record { meaning = OfFit (tree_of content); insides = insides }))
+    by forms.Lines good =
+        omega (arith, lines_long (tree_of content) good, lines_stay insides (fit_lines (tree_of content)))
+    by forms.Json good = json_long_with (λ name. inside_members (insides (OfImageNamed name))) (tree_of content) good
+deep_refused_names format limits content limit error.OutOfMemory held is failed insides inside = tt
+deep_refused_names format limits content limit error.ReadFailed held is failed insides inside = absurd failed
+deep_refused_names format limits content limit error.WriteFailed held is failed insides inside = absurd failed
+
+-- The error that counting long names has is one of the deep description.
+pub names_error : (format : Format) (limits : Limits) (image : BootImage) (index : PayloadIndex) (blobs : List (Option Blob)) (e : Error) →
+    IsHeldImage image → IsIndexOf image index → AreBlobsInside limits (payloads_in (meaning_of image)) blobs →
+    IsNamesError limits.file limits.file (long_names_in blobs) e → IsDeepImageError format limits (meaning_of image) e
+names_error format limits image index blobs (error.Refused fault) held is are failed =
+    (inr (names_too_long format limits image index blobs held is are failed.1), failed.0)
+names_error format limits image index blobs error.OutOfMemory held is are failed = tt
+names_error format limits image index blobs error.ReadFailed held is are failed = absurd failed
+names_error format limits image index blobs error.WriteFailed held is are failed = absurd failed

@@ -47,6 +47,9 @@ pub mod OneInside
 pub mod NothingLeftOutDeep
 pub mod OpenedTrees
 pub mod DeepLines
+pub mod HeldDeep
+pub mod DeepFiles
+pub mod DeepTokens
 pub mod WithoutInside
 pub mod FurtherDeep
 pub mod DeepJsonDescriptions

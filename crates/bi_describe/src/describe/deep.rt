@@ -1,6 +1,7 @@
 //! What a deep description is made from.
 
 ghost use Rattle.std.specs.Prelude.{◌≡◌, ◌≤◌, ◌∷◌, [], Option, Some, if◌then◌else◌, length, map};
+ghost use Rattle.std.specs.Option.{option_map};
 ghost use Rattle.bi_legacy.specs.Meaning.{image_of};
 ghost use Rattle.bi_fit.specs.ImageTree.{ImageTree};
 ghost use Rattle.bi_norm.specs.Meaning.{OfFit, OfLegacy};
@@ -14,7 +15,7 @@ ghost use Rattle.bi_describe.specs.DeepEntries.{deep_entry_tokens, entry_tokens_
 ghost use Rattle.bi_describe.specs.DeepEntries.{last_begun};
 ghost use Rattle.bi_describe.specs.DeepJson.{deep_object, deep_part_objects, inside_members};
 ghost use Rattle.bi_describe.specs.DeepJson.{object_with_inside};
-ghost use Rattle.bi_describe.specs.DescriptionJson.{digest_object_with};
+ghost use Rattle.bi_describe.specs.DescriptionJson.{digest_object_with, payload_or_null_with};
 ghost use Rattle.bi_describe.specs.DescribedImages.{HoldsDescribedTree};
 ghost use Rattle.bi_describe.specs.Descriptions.{description_lines, part_line, part_lines};
 ghost use Rattle.bi_describe.specs.Devicetrees.{DeepMeaning, Insides as Trees};
@@ -22,6 +23,7 @@ ghost use Rattle.bi_describe.specs.Ignoring.{OfImageNamed, OfPart, PayloadPlace 
 ghost use Rattle.bi_describe.specs.DeepDescriptions.{insides_shown};
 ghost use Rattle.bi_describe.specs.MadeInsides.{HoldInsides, HoldsDeep, is_one_of_places};
 ghost use Rattle.bi_describe.specs.MadeInsides.{shown_by, whole_devicetrees};
+ghost use Rattle.bi_describe.specs.MadeDigests.{digest_made};
 ghost use Rattle.bi_describe.specs.MadeParts.{bytes_of_parts, digest_of_part};
 ghost use Rattle.bi_describe.specs.ReadDescription.{root_lines};
 ghost use Rattle.bi_describe.specs.ReducedMeanings.{ReducedTree};
@@ -31,7 +33,7 @@ ghost use Rattle.bi_describe.specs.TreeEntries.{most_open as most_open_of};
 
 use super::DescribedImage;
 use super::deep_pen::{DeepPen, DeepWriter};
-use super::entries::Entry;
+use super::entries::{Entry, PayloadDigest};
 use super::fit::{DescribedFit, put_head};
 use super::image_payload::ImagePayload;
 use super::insides::Insides;
@@ -364,13 +366,39 @@ fn put_payload<J: JsonPen>(payload: ImagePayload, name: &[u8], insides: &Insides
         json.new }
 {
     json.put(JsonToken::Name("payload"));
-    match payload.digest {
-        Some(digest) => {
-            json.put(JsonToken::BeginObject);
-            put_digest_members(digest, json);
-            insides.put_member_of_image(name, json);
-            json.put(JsonToken::EndObject);
-        }
+    put_payload_value(payload.digest, name, insides, json);
+}
+
+/// Puts the object of the payload of the image with this name, or `null` if it has none.
+fn put_payload_value<J: JsonPen>(
+    digest: Option<PayloadDigest>,
+    name: &[u8],
+    insides: &Insides,
+    json: &mut J,
+)
+    ensures { (trees : Trees) → HoldInsides (whole_devicetrees trees) insides.now → J.puts json.old
+        (json_tokens (payload_or_null_with (inside_members (trees (OfImageNamed name.now)))
+        (option_map digest_made digest))) json.new }
+{
+    match digest {
+        Some(digest) => put_payload_object(digest, name, insides, json),
         None => put_value(JsonValue::Null, json),
     }
+}
+
+/// Puts the object of the payload of the image with this name.
+fn put_payload_object<J: JsonPen>(
+    digest: PayloadDigest,
+    name: &[u8],
+    insides: &Insides,
+    json: &mut J,
+)
+    ensures { (trees : Trees) → HoldInsides (whole_devicetrees trees) insides.now → J.puts json.old
+        (json_tokens (digest_object_with (inside_members (trees (OfImageNamed name.now)))
+        (digest_made digest))) json.new }
+{
+    json.put(JsonToken::BeginObject);
+    put_digest_members(digest, json);
+    insides.put_member_of_image(name, json);
+    json.put(JsonToken::EndObject);
 }

@@ -5,7 +5,7 @@ mod paths;
 mod that_stay;
 
 ghost use Rattle.std.specs.Prelude.{◌≡◌, ◌+◌, ◌∷◌, ◌<◌, ◌≤◌, ◌↔◌, IfErr, IfOk, IsTrue, List};
-ghost use Rattle.std.specs.Prelude.{OnOk, Some, get_or, length, map};
+ghost use Rattle.std.specs.Prelude.{OnOk, Some, get_or, length, map, ℕ};
 ghost use Rattle.bi_blob.specs.Blob.{end_pair};
 ghost use Rattle.bi_blob.specs.Tree.{with_each_node};
 ghost use Rattle.bi_common.specs.CommonLines.{reservation_of};
@@ -99,11 +99,13 @@ impl<'a> InsideTree<'a> {
         limits: Limits,
     ) -> Result<InsideTree<'a>, Error>
         requires inside { IsBlobInside limits blob.file blob }
-        ensures holds { IfOk result (HoldsInside path.items (whole_devicetree (devicetree_of blob))) }
+        ensures holds { IfOk result
+            (HoldsInside path.items (whole_devicetree (devicetree_of blob.entry))) }
         ensures room { OnOk result
-            (room.old ≤ room.new + long_names (Some (devicetree_of blob))) }
+            (room.old ≤ room.new + long_names (Some (devicetree_of blob.entry))) }
         ensures failed { IfErr result
-            (IsNamesError limits.file room.old (long_names (Some (devicetree_of blob)))) }
+            (IsNamesError limits.file room.old
+            (long_names (Some (devicetree_of blob.entry)))) }
     {
         count_names(blob.names(), room, limits.file())?;
         let entries = entries_of_blob(alloc, &blob)?;

@@ -404,9 +404,10 @@ fn trees_of_blobs<'a>(
     limits: Limits,
 ) -> Result<Vec<Option<InsideTree<'a>>>, Error>
     requires { AllByRecursion (IsBlobOrNone limits) blobs.items }
-    ensures held { IfOk result (λ trees. HoldBlobs index.now 0 blobs.items trees.items) }
+    ensures held { IfOk result (λ trees.
+        HoldBlobs index.now 0 blobs.entry.items trees.items) }
     ensures failed { IfErr result
-        (IsNamesError limits.file limits.file (long_names_in blobs.items)) }
+        (IsNamesError limits.file limits.file (long_names_in blobs.entry.items)) }
 {
     let mut trees = Vec::with_capacity(alloc, blobs.len())?;
     let mut room = limits.file() as usize;
@@ -429,11 +430,12 @@ fn tree_of<'a>(
     limits: Limits,
 ) -> Result<Option<InsideTree<'a>>, Error>
     requires { IsBlobOrNone limits blob }
-    ensures held { IfOk result (HoldsBlob path.items blob) }
+    ensures held { IfOk result (HoldsBlob path.items blob.entry) }
     ensures room { OnOk result
-        (room.old ≤ room.new + long_names (option_map devicetree_of blob)) }
+        (room.old ≤ room.new + long_names (option_map devicetree_of blob.entry)) }
     ensures failed { IfErr result
-        (IsNamesError limits.file room.old (long_names (option_map devicetree_of blob))) }
+        (IsNamesError limits.file room.old
+        (long_names (option_map devicetree_of blob.entry))) }
 {
     match blob {
         Some(blob) => Ok(Some(InsideTree::new(alloc, path, blob, room, limits)?)),
