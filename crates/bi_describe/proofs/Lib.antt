@@ -23,7 +23,12 @@ pub mod PayloadSizes
 pub mod ShownNodes
 pub mod PrintedDescriptions
 pub mod InsideBlobs
+pub mod BlobLists
 pub mod InsideLengths
+pub mod InsideLines
+pub mod SameInsides
+pub mod WordsLeftOut
+pub mod HeldInsides
 pub mod JsonReading
 pub mod JsonDescriptions
 pub mod DescriptionFacts

@@ -240,6 +240,12 @@ place_of_image images name number is =
     let found = numbered 0 images name number is in
     ap (name_at images) (let e : number ≡ found.number = omega (arith, found.is_number) in e) ∙ found.is_name
 
+pub index_at_place : (index : PayloadIndex) (place : PayloadPlace) (number : ℕ) → payload_index_in index place ≡ Some number →
+    place_at index number ≡ place
+index_at_place by.Parts place number is = index_of_part place number is
+index_at_place (by.Images fit) (OfPart part) number is = absurd cc
+index_at_place (by.Images fit) (OfImageNamed name) number is = ap OfImageNamed (place_of_image fit.now.images name number is)
+
 pub images_say_where : (images : List ImageModel) (index : PayloadIndex) → AreDistinct (names_of images) →
     ((name : List ℕ) → payload_index_in index (OfImageNamed name) ≡ index_of name images) →
     ((number : ℕ) → payload_index_in index (OfPart number) ≡ None) →

@@ -29,7 +29,8 @@ use Rattle.bi_describe.specs.InsideTrees.{IsBlobInside, devicetree_of, long_name
 use Rattle.bi_describe.specs.KeptEntries.{kept_entries, root_entries}
 use Rattle.bi_describe.specs.KeptImages.{numbered_part}
 use Rattle.bi_describe.specs.MadeWords.{place_of_payload}
-use Rattle.bi_describe.specs.OpenedPayloads.{is_same_payload, part_unless_opened}
+use Rattle.bi_describe.specs.OpenedPayloads.{is_same_payload, is_word_inside, part_unless_opened}
+use Rattle.bi_describe.specs.OpenedPayloads.{tree_at_without}
 use Rattle.bi_describe.specs.ReducedMeanings.{ReducedTree}
 use Rattle.bi_describe.specs.TreeEntries.{EntryModel, as_entry}
 
@@ -116,6 +117,14 @@ pub record IsReadInside (limits : Limits) (meaning : Meaning) (made : MadeInside
 abbrev pub with_tree_at : PayloadPlace → Option ReducedTree
     → (tree_at : PayloadPlace → Option ReducedTree) → PayloadPlace → Option ReducedTree
 with_tree_at place tree tree_at other = if is_same_payload place other then tree else tree_at other
+
+-- The trees once these words are left out of those that one of the first words is for something
+-- inside of.
+abbrev pub trees_after : (words first : List Ignored) → Insides → PayloadPlace
+    → Option ReducedTree
+trees_after words first insides place =
+    if list_any (is_word_inside place) first then tree_at_without words insides place
+    else whole_devicetrees insides place
 
 -- The blob in a payload, if that is a devicetree.
 abbrev pub HasBlob : Limits → (payload : Option (List ℕ)) → Option Blob → Type 0

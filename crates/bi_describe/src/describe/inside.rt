@@ -18,10 +18,12 @@ ghost use Rattle.bi_describe.specs.DeepJson.{inside_members};
 ghost use Rattle.bi_describe.specs.Devicetrees.{Devicetree};
 ghost use Rattle.bi_describe.specs.InsideTrees.{IsBlobInside, IsNamesError, devicetree_of};
 ghost use Rattle.bi_describe.specs.InsideTrees.{long_names};
+ghost use Rattle.bi_describe.specs.EntryTokens.{root_tokens};
+ghost use Rattle.bi_describe.specs.MadeInsides.{entries_inside};
 ghost use Rattle.bi_describe.specs.MadeWords.{ignored_words};
 ghost use Rattle.bi_describe.specs.ReadDescription.{root_lines};
 ghost use Rattle.bi_describe.specs.ReducedMeanings.{ReducedTree, kept_root as kept_root_of};
-ghost use Rattle.bi_describe.specs.TreeEntries.{as_entry, most_open as most_open_of};
+ghost use Rattle.bi_describe.specs.TreeEntries.{EntryModel, as_entry, most_open as most_open_of};
 
 use super::deep_pen::DeepPen;
 use super::entries::Entry;
@@ -161,10 +163,18 @@ impl<'a> InsideTree<'a> {
         json.put(JsonToken::Name("devicetree"));
         json.put(JsonToken::BeginObject);
         put_members_of_blob(&self.blob, json);
-        if let Some(nodes) = &self.nodes {
-            put_root(&nodes.entries, json);
-        }
+        put_root_of(&self.nodes, json);
         json.put(JsonToken::EndObject);
+    }
+}
+
+/// Puts the member of the root, if that is not left out.
+fn put_root_of<J: JsonPen>(nodes: &Option<InsideNodes>, json: &mut J)
+    ensures { (entries : List EntryModel) → entries_inside nodes.now ≡ Some entries
+        → J.puts json.old (root_tokens entries) json.new }
+{
+    if let Some(nodes) = nodes {
+        put_root(&nodes.entries, json);
     }
 }
 

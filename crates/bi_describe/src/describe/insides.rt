@@ -1,7 +1,7 @@
 //! The devicetrees inside the payloads of a boot image.
 
-ghost use Rattle.std.specs.Prelude.{◌≡◌, ◌↔◌, ◌+◌, ◌≤◌, IfErr, IfOk, IsTrue, OnOk};
-ghost use Rattle.std.specs.Prelude.{Option, Some, is_some, map, option_map};
+ghost use Rattle.std.specs.Prelude.{◌≡◌, ◌↔◌, ◌+◌, ◌<◌, ◌≤◌, IfErr, IfOk, IsTrue, OnOk};
+ghost use Rattle.std.specs.Prelude.{Option, Some, is_some, length, map, option_map, take};
 ghost use Rattle.std.specs.List.{AllByRecursion};
 ghost use Rattle.bi_base.specs.declared.fault.Error.TheVariants.{OutOfMemory};
 ghost use Rattle.bi_base.specs.Reading.{too_large};
@@ -13,20 +13,20 @@ ghost use Rattle.bi_common.specs.JsonTokens.{member_tokens};
 ghost use Rattle.bi_common.specs.LineTokens.{tokens_of_lines};
 ghost use Rattle.bi_common.specs.PayloadBounds.{IsOverPayloadBound};
 ghost use Rattle.bi_describe.specs.DeepDescribing.{IsDeepImageError};
-ghost use Rattle.bi_describe.specs.DeepDescriptions.{lines_at};
+ghost use Rattle.bi_describe.specs.DeepDescriptions.{lines_at, whole_devicetree};
 ghost use Rattle.bi_describe.specs.DeepJson.{inside_members};
-ghost use Rattle.bi_describe.specs.Devicetrees.{Insides as Trees};
+ghost use Rattle.bi_describe.specs.Devicetrees.{Devicetree, Insides as Trees};
 ghost use Rattle.bi_describe.specs.IgnoredWords.{payload_path};
 ghost use Rattle.bi_describe.specs.Ignoring.{OfImageNamed, OfPart, PayloadPlace as Place};
 ghost use Rattle.bi_describe.specs.InsideTrees.{IsNamesError, devicetree_of, long_names};
 ghost use Rattle.bi_describe.specs.MadeInsides.{AreBlobsInside, HasBlob, HoldBlobs, HoldInsides};
-ghost use Rattle.bi_describe.specs.MadeInsides.{HoldsBlob, IsBlobOrNone, IsReadInside};
+ghost use Rattle.bi_describe.specs.MadeInsides.{HoldsAt, HoldsBlob, IsBlobOrNone, IsReadInside};
 ghost use Rattle.bi_describe.specs.MadeInsides.{long_names_in, payloads_in};
-ghost use Rattle.bi_describe.specs.MadeInsides.{payload_index_in, with_tree_at};
+ghost use Rattle.bi_describe.specs.MadeInsides.{payload_index_in, trees_after, with_tree_at};
 ghost use Rattle.bi_describe.specs.MadeInsides.{is_one_of_places, made_tree_at, tree_with_index};
 ghost use Rattle.bi_describe.specs.MadeInsides.{whole_devicetrees};
 ghost use Rattle.bi_describe.specs.MadeWords.{ignored_words, place_of_payload};
-ghost use Rattle.bi_describe.specs.OpenedPayloads.{tree_at_without};
+ghost use Rattle.bi_describe.specs.OpenedPayloads.{tree_at_without, tree_without};
 ghost use Rattle.bi_describe.specs.ReducedMeanings.{ReducedTree};
 
 use super::deep_pen::DeepPen;
@@ -140,8 +140,7 @@ impl<'a, 'b> Insides<'a, 'b> {
 
     /// Returns the index of a payload, if there is an image or a part at this place.
     fn index_of(&self, place: &PayloadPlace) -> Option<usize>
-        ensures { tree_with_index self.now.trees.items result
-            ≡ made_tree_at self.now (place_of_payload place.now) }
+        ensures { result ≡ payload_index_in self.now.index (place_of_payload place.now) }
     {
         match place {
             PayloadPlace::Image(name) => self.index.of_image(name),
@@ -189,13 +188,33 @@ impl<'a, 'b> Insides<'a, 'b> {
             → HoldInsides (tree_at_without (ignored_words words.now) insides) self.new) }
     {
         for index in 0..words.len() {
-            if let Some(place) = payload_of_word(&words[index]) {
-                if !is_payload_of_one(&words[..index], place) {
-                    self.leave_out_at(alloc, place, words)?;
-                }
-            }
+            self.leave_out_word(alloc, words, index)?;
         }
         Ok(())
+    }
+
+    /// Leaves these words out of the tree that the word with this index is for something inside of,
+    /// unless a word before it is. Requires: there is such a word.
+    ///
+    /// Fails only if memory runs out.
+    fn leave_out_word(
+        &mut self,
+        alloc: Global,
+        words: &[Ignored],
+        index: usize,
+    ) -> Result<(), AllocError>
+        requires { index < length words.now }
+        ensures { let words_are = ignored_words words.now in OnOk result ((insides : Trees)
+            → HoldInsides (trees_after words_are (take index words_are) insides) self.old
+            → HoldInsides (trees_after words_are (take (index + 1) words_are) insides) self.new) }
+    {
+        let Some(place) = payload_of_word(&words[index]) else {
+            return Ok(());
+        };
+        if is_payload_of_one(&words[..index], place) {
+            return Ok(());
+        }
+        self.leave_out_at(alloc, place, words)
     }
 
     /// Leaves these words out of the tree inside the payload at a place, if there is one.
@@ -216,9 +235,8 @@ impl<'a, 'b> Insides<'a, 'b> {
         let Some(index) = self.index_of(place) else {
             return Ok(());
         };
-        if let Some(Some(tree)) = self.trees.get_mut(index) {
-            let inside = words_inside(alloc, place, words)?;
-            tree.leave_out(alloc, &inside)?;
+        if index < self.trees.len() {
+            leave_out_of(alloc, &mut self.trees[index], place, words)?;
         }
         Ok(())
     }
@@ -273,8 +291,8 @@ impl<'a, 'b> Insides<'a, 'b> {
         ensures same { (trees : Place → Option ReducedTree) → HoldInsides trees self.old
             → HoldInsides trees self.new }
     {
-        if let Some(Some(tree)) = self.trees.get_mut(index) {
-            tree.put_lines(pen);
+        if index < self.trees.len() {
+            put_lines_of_tree(&mut self.trees[index], pen);
         }
     }
 
@@ -321,6 +339,38 @@ impl<'a, 'b> Insides<'a, 'b> {
         if let Some(tree) = self.tree(index) {
             tree.put_member(json);
         }
+    }
+}
+
+/// Leaves these words out of the tree inside the payload at a place, if there is one.
+///
+/// Fails only if memory runs out.
+fn leave_out_of(
+    alloc: Global,
+    tree: &mut Option<InsideTree<'_>>,
+    place: &PayloadPlace,
+    words: &[Ignored],
+) -> Result<(), AllocError>
+    ensures { let place_is = place_of_payload place.now in OnOk result ((found : Option Devicetree)
+        → HoldsAt place_is (option_map whole_devicetree found) tree.old → HoldsAt place_is
+        (option_map (tree_without (ignored_words words.now) place_is) found) tree.new) }
+{
+    if let Some(tree) = tree {
+        let inside = words_inside(alloc, place, words)?;
+        tree.leave_out(alloc, &inside)?;
+    }
+    Ok(())
+}
+
+/// Puts the lines of a devicetree, if there is one.
+fn put_lines_of_tree<L: DeepPen>(tree: &mut Option<InsideTree<'_>>, pen: &mut L)
+    ensures put { (place : Place) (found : Option ReducedTree) → HoldsAt place found tree.old
+        → L.puts pen.old (tokens_of_lines (lines_at place found)) pen.new }
+    ensures same { (place : Place) (found : Option ReducedTree) → HoldsAt place found tree.old
+        → HoldsAt place found tree.new }
+{
+    if let Some(tree) = tree {
+        tree.put_lines(pen);
     }
 }
 
