@@ -1,10 +1,15 @@
 use Rattle.std.proofs.Common.{◌≡◌, ℕ, zero, suc, ◌+◌, ◌<◌, ◌≤◌, List, [], ◌∷◌, ◌++◌, Option, None, Some, get_or, length, take, map, arith}
-use Rattle.std.proofs.Common.{option_map, refl, sym, ap, subst}
+use Rattle.std.proofs.Common.{append_assoc, option_map, refl, sym, ap, subst, ◌∙◌}
+use Rattle.std.specs.Prelude.{IfNone, IfSome}
 use Rattle.std.specs.List.{AllByRecursion, AllZip}
+use Rattle.std.proofs.lemmas.List.{map-append, take_more}
 use Rattle.bi_base.specs.Limits.{Limits}
 use Rattle.bi_fdt.specs.Content.{Blob}
+use Rattle.bi_fit.specs.declared.image.Image.{Image}
+use Rattle.bi_fit.specs.Content.{ImageModel, image_model, payloads_of_models}
 use Rattle.bi_describe.specs.declared.describe.inside.InsideTree.{InsideTree}
 use Rattle.bi_describe.specs.declared.describe.insides.PayloadIndex.{PayloadIndex}
+use Rattle.bi_describe.specs.Devicetrees.{HasInside}
 use Rattle.bi_describe.specs.IgnoredWords.{payload_path}
 use Rattle.bi_describe.specs.InsideTrees.{IsBlobInside, devicetree_of, long_names}
 use Rattle.bi_describe.specs.MadeInsides.{AreBlobsInside, HasBlob, HoldBlobs, HoldsBlob, IsBlobOrNone, long_names_in, place_at}
@@ -71,3 +76,32 @@ blobs_or_none limits (payload ∷ payloads) (blob ∷ blobs) are = (one payload 
     one payload None is = tt
     one None (Some blob) is = absurd is
     one (Some payload) (Some blob) is = subst (λ file. IsBlobInside limits file blob) (sym is.is_file) is
+
+-- One more image.
+pub image_more : (limits : Limits) (images : List Image) (index : ℕ) (image : Image) (blobs : List (Option Blob)) (blob : Option Blob) →
+    image ≡ get_or images index image → index < length images →
+    AreBlobsInside limits (payloads_of_models (map image_model (take index images))) blobs →
+    HasBlob limits (image_model image).payload blob →
+    AreBlobsInside limits (payloads_of_models (map image_model (take (index + 1) images))) (blobs ++ blob ∷ [])
+image_more limits images index image blobs blob is within are has =
+    let first = take index images in
+    subst (λ payloads. AreBlobsInside limits payloads (blobs ++ blob ∷ []))
+    (sym (ap (λ images. payloads_of_models (map image_model images))
+    (take_more images index image within ∙ ap (λ item. first ++ item ∷ []) (sym is))
+    ∙ ap payloads_of_models (map-append image_model first (image ∷ []))
+    ∙ map-append (λ (image : ImageModel). image.payload) (map image_model first) (image_model image ∷ [])))
+    (zip_more (HasBlob limits) (payloads_of_models (map image_model first)) blobs (image_model image).payload blob are has)
+
+-- One more part.
+pub part_more : (limits : Limits) (all rest : List (Option (List ℕ))) (payload : List ℕ) (blobs : List (Option Blob)) (blob : Option Blob) →
+    HasBlob limits (Some payload) blob →
+    ((later : List (Option Blob)) → AreBlobsInside limits (Some payload ∷ rest) later → AreBlobsInside limits all (blobs ++ later)) →
+    (later : List (Option Blob)) → AreBlobsInside limits rest later → AreBlobsInside limits all ((blobs ++ blob ∷ []) ++ later)
+part_more limits all rest payload blobs blob has before later are =
+    subst (AreBlobsInside limits all) (sym (append_assoc blobs (blob ∷ []) later)) (before (blob ∷ later) (has, are))
+
+-- A payload's blob, as it was read.
+pub has_blob : (limits : Limits) (payload : List ℕ) (blob : Option Blob) → IfSome blob (IsBlobInside limits payload) →
+    IfNone blob (HasInside limits payload None) → HasBlob limits (Some payload) blob
+has_blob limits payload None some none = none
+has_blob limits payload (Some blob) some none = some

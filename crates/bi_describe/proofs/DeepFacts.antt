@@ -1,4 +1,4 @@
-use Rattle.std.proofs.Common.{◌≡◌, ℕ, ◌+◌, List, [], ◌∷◌, ◌++◌, Option, None, Some, map, refl, ap, ◌∙◌}
+use Rattle.std.proofs.Common.{◌≡◌, ℕ, ◌+◌, List, [], ◌∷◌, ◌++◌, Option, None, Some, map, refl, sym, ap, subst, ◌∙◌}
 use Rattle.std.proofs.Common.{flat_map}
 use Rattle.std.proofs.lemmas.Grind.{flat_map-append}
 use Rattle.std.proofs.lemmas.List.{map-append}
@@ -87,3 +87,12 @@ tokens_inside payload (words ∷ later) =
     map-append (token_inside payload) (line_tokens words) (tokens_of_lines later)
     ∙ ap (λ (first : List LineToken). first ++ map (token_inside payload) (tokens_of_lines later)) (tokens_of_line payload words)
     ∙ ap (λ (rest : List LineToken). line_tokens (line_inside payload words) ++ rest) (tokens_inside payload later)
+
+-- The lines of a tree were put with its paths inside a payload.
+pub inside_put : {L : Type 0} (puts : L → List LineToken → L → Type 0) (old new begin end : L) (own payload : List ℕ) (lines : List Line) →
+    own ≡ payload → old ≡ begin → new ≡ end → puts old (map (token_inside own) (tokens_of_lines lines)) new →
+    puts begin (tokens_of_lines (map (line_inside payload) lines)) end
+inside_put puts old new begin end own payload lines same begins ends put =
+    rw (sym begins, sym ends)
+    (subst (λ (tokens : List LineToken). puts old tokens new)
+    (ap (λ payload. map (token_inside payload) (tokens_of_lines lines)) same ∙ tokens_inside payload lines) put)

@@ -13,8 +13,10 @@ use Rattle.bi_describe.specs.MadeParts.{bytes_of_parts}
 
 pub legacy_held : (meaning : Meaning) (made : DescribedImage) (image : DescribedLegacy) → made ≡ Legacy image → HoldsMeaning meaning made →
     OfLegacy (image_of image.fields (bytes_of_parts image.parts.items)) ≡ meaning
-legacy_held (OfLegacy whole) made image is holds = let own : HoldsMeaning (OfLegacy whole) (Legacy image) = rw is at holds in ap OfLegacy own
-legacy_held (OfFit tree) made image is holds = let own : HoldsMeaning (OfFit tree) (Legacy image) = rw is at holds in absurd own
+legacy_held (OfLegacy whole) made image is holds =
+    let own : HoldsMeaning (OfLegacy whole) (Legacy image) = rw is at holds in ap OfLegacy own
+legacy_held (OfFit tree) made image is holds =
+    let own : HoldsMeaning (OfFit tree) (Legacy image) = rw is at holds in absurd own
 
 pub record HeldTree (meaning : Meaning) (fit : DescribedFit) : Type 0 where
   pub tree : ImageTree

@@ -12,7 +12,8 @@ use Rattle.bi_describe.specs.DeepDescriptions.{whole_devicetree}
 use Rattle.bi_describe.specs.Devicetrees.{Devicetree, Insides}
 use Rattle.bi_describe.specs.IgnoredWords.{payload_path}
 use Rattle.bi_describe.specs.Ignoring.{Ignored, PayloadPlace}
-use Rattle.bi_describe.specs.MadeInsides.{HoldInsides, HoldsAt, HoldsInside, is_one_of_places, made_tree_at, payload_index_in, tree_or_none}
+use Rattle.bi_describe.specs.MadeInsides.{HoldInsides, HoldsAt, HoldsInside, is_one_of_places, made_tree_at, payload_index_in}
+use Rattle.bi_describe.specs.MadeInsides.{tree_or_none}
 use Rattle.bi_describe.specs.MadeInsides.{tree_with_index, whole_devicetrees, with_tree_at}
 use Rattle.bi_describe.specs.MadeWords.{place_of_payload}
 use Rattle.bi_describe.specs.OpenedPayloads.{is_same_payload, tree_at_without, tree_without}

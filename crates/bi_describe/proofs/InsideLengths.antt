@@ -34,7 +34,7 @@ use Rattle.bi_common.specs.Lines.{Line, Path, Text, line_text, text_of_lines}
 use Rattle.bi_common.specs.Shown.{shown_text}
 use Rattle.bi_common.specs.ValueTexts.{value_words}
 use Rattle.bi_describe.specs.declared.describe.insides.PayloadIndex.{PayloadIndex}
-use Rattle.bi_describe.specs.declared.describe.insides.PayloadIndex.TheVariants as by
+use Rattle.bi_describe.specs.declared.describe.insides.PayloadIndex.TheVariants as kind
 use Rattle.bi_describe.specs.ComparedNodes.{described_node, plain_compared}
 use Rattle.bi_describe.specs.DeepDescribing.{HasLongDeepText, IsDeepImageError, deep_text}
 use Rattle.bi_describe.specs.DeepDescriptions.{inside_cpu_line, inside_lines, inside_reservation_line, insides_shown, line_at, line_inside}
@@ -86,7 +86,8 @@ properties_inside payload names (property ∷ later) =
     let lines = length-append written (text_of_lines (map (line_inside payload) (map (property_line names) later))) in
     let short = length-name_if_long property.0 in
     let shown = shown_as_long property.0 in
-    let one = third_word (codes "property") (inside_path payload names) (shown_text property.0) (value_words property.1 ++ []) in
+    let one =
+    third_word (codes "property") (inside_path payload names) (shown_text property.0) (value_words property.1 ++ []) in
     let rest = properties_inside payload names later in
     omega (arith, of_names, lines, short, shown, one, rest)
 
@@ -94,8 +95,8 @@ own_inside : (payload : List ℕ) (names : List (List ℕ)) (own : PropertyMap) 
     long_names_own own ≤ length_inside payload (own_lines names (described_node (plain_compared own)))
 own_inside payload names own =
     let rest = properties_inside payload names (entries own) in
-    let node : Line = Text (codes "node") ∷ Path names ∷ [] in
-    let line = length-append (line_text (line_inside payload node))
+    let first : Line = Text (codes "node") ∷ Path names ∷ [] in
+    let line = length-append (line_text (line_inside payload first))
     (text_of_lines (map (line_inside payload) (map (property_line names) (entries own)))) in
     omega (arith, rest, line)
 
@@ -397,16 +398,16 @@ module _ (insides : Insides) where
 image_deep_long : (format : Format) (limits : Limits) (image : BootImage) (index : PayloadIndex) (blobs : List (Option Blob)) →
     IsHeldImage image → IsIndexOf image index → AreBlobsInside limits (payloads_in (meaning_of image)) blobs →
     long_names_in blobs ≤ length (deep_text format (record { meaning = meaning_of image; insides = insides_of index blobs }))
-image_deep_long format limits (boot.Legacy legacy) by.Parts blobs held is are =
-    legacy_deep_long (insides_of by.Parts blobs) format limits legacy.image blobs are
-    (λ number. ap (λ n. inside_with blobs (payload_index_in by.Parts (OfPart n))) (omega arith))
-image_deep_long format limits (boot.Legacy legacy) (by.Images fit) blobs held is are = absurd is
-image_deep_long format limits (boot.Fit content) by.Parts blobs held is are = absurd is
-image_deep_long format limits (boot.Fit content) (by.Images fit) blobs held is are =
-    fit_deep_long (insides_of (by.Images fit) blobs) format limits (tree_of content) blobs
+image_deep_long format limits (boot.Legacy legacy) kind.Parts blobs held is are =
+    legacy_deep_long (insides_of kind.Parts blobs) format limits legacy.image blobs are
+    (λ number. ap (λ n. inside_with blobs (payload_index_in kind.Parts (OfPart n))) (omega arith))
+image_deep_long format limits (boot.Legacy legacy) (kind.Images fit) blobs held is are = absurd is
+image_deep_long format limits (boot.Fit content) kind.Parts blobs held is are = absurd is
+image_deep_long format limits (boot.Fit content) (kind.Images fit) blobs held is are =
+    fit_deep_long (insides_of (kind.Images fit) blobs) format limits (tree_of content) blobs
     (is_image_tree content.blob.file (tree_of content) (held_means content held)) are
-    (subst (λ names. AreAtNames (insides_of (by.Images fit) blobs) names blobs) (sym (image_names_are content held))
-    (at_names (insides_of (by.Images fit) blobs) 0 content.images blobs (image_names_distinct content held)
+    (subst (λ names. AreAtNames (insides_of (kind.Images fit) blobs) names blobs) (sym (image_names_are content held))
+    (at_names (insides_of (kind.Images fit) blobs) 0 content.images blobs (image_names_distinct content held)
     (λ name number there. ap (λ (content : FitModel). inside_with blobs (index_of name content.images)) is
     ∙ ap (inside_with blobs) (there ∙ ap Some (omega arith)))))
 

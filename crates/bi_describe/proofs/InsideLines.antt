@@ -62,7 +62,8 @@ pub member_in_parts : (tree : Devicetree) (blob : Blob) (entries : List EntryMod
     ++ (one BeginObject ++ (member_tokens (blob_members blob) ++ (root_tokens entries ++ one EndObject)))
     ≡ member_tokens (inside_members (Some tree))
 member_in_parts tree blob entries is also has =
-    let are : entries ≡ own_entries (plain_compared tree.root.own) ++ node_entries (with_each_node plain_compared tree.root).children = cc in
+    let are : entries ≡ own_entries (plain_compared tree.root.own) ++ node_entries (with_each_node plain_compared tree.root).children =
+    cc in
     (λ i. one (MemberName (codes "devicetree"))
     ++ (one BeginObject ++ (member_tokens (blob_members (record blob { cpu = is i; reservations = also i }))
     ++ (root_tokens (are i) ++ one EndObject))))

@@ -26,9 +26,10 @@ use Rattle.bi_common.specs.HeldImages.{IsHeldImage}
 use Rattle.bi_describe.specs.declared.describe.inside.InsideTree.{InsideTree}
 use Rattle.bi_describe.specs.declared.describe.insides.Insides.{Insides as MadeInsides}
 use Rattle.bi_describe.specs.declared.describe.insides.PayloadIndex.{PayloadIndex}
-use Rattle.bi_describe.specs.declared.describe.insides.PayloadIndex.TheVariants as by
+use Rattle.bi_describe.specs.declared.describe.insides.PayloadIndex.TheVariants as kind
 use Rattle.bi_describe.specs.DeepDescriptions.{whole_devicetree}
-use Rattle.bi_describe.specs.Devicetrees.{AreInside, Devicetree, HasInside, Insides, image_payloads_at, payloads_at_places, payloads_of_parts}
+use Rattle.bi_describe.specs.Devicetrees.{AreInside, Devicetree, HasInside, Insides, image_payloads_at, payloads_at_places}
+use Rattle.bi_describe.specs.Devicetrees.{payloads_of_parts}
 use Rattle.bi_describe.specs.Ignoring.{OfImageNamed, OfPart, PayloadPlace}
 use Rattle.bi_describe.specs.IgnoredWords.{payload_path}
 use Rattle.bi_describe.specs.InsideTrees.{devicetree_of}
@@ -101,15 +102,15 @@ part_back first (suc number) (part ∷ later) payload is =
     (subst (λ n. Contains (payloads_of_parts (first + 1) later) (OfPart n, payload)) (omega arith)
     (part_back (first + 1) number later payload is))
 
-index_of_part : (place : PayloadPlace) (number : ℕ) → payload_index_in by.Parts place ≡ Some number → OfPart number ≡ place
+index_of_part : (place : PayloadPlace) (number : ℕ) → payload_index_in kind.Parts place ≡ Some number → OfPart number ≡ place
 index_of_part (OfPart index) number is = ap OfPart (sym (same_in_some index number is))
 index_of_part (OfImageNamed name) number is = absurd cc
 
-pub parts_say_where : (parts : List (List ℕ)) → SaysWhere by.Parts (map Some parts) (payloads_of_parts 0 parts)
+pub parts_say_where : (parts : List (List ℕ)) → SaysWhere kind.Parts (map Some parts) (payloads_of_parts 0 parts)
 parts_say_where parts = record {
   there = λ place payload has.
       let found = part_at 0 parts place payload has in
-      record { number = found.number; is_index = rw found.is_place refl; is_payload = found.is_payload };
+      record { number = found.number; is_index = rw found.is_place (ap Some (omega arith)); is_payload = found.is_payload };
   back = λ place payload there.
       subst (λ place. Contains (payloads_of_parts 0 parts) (place, payload)) (index_of_part place there.number there.is_index)
       (part_back 0 there.number parts payload there.is_payload);
@@ -122,6 +123,9 @@ names_of images = map (λ (image : ImageModel). image.name) images
 
 abbrev payloads_of : List ImageModel → List (Option (List ℕ))
 payloads_of images = map (λ (image : ImageModel). image.payload) images
+
+abbrev places_of : List ImageModel → List (PayloadPlace × List ℕ)
+places_of images = image_payloads_at (names_of images) (payloads_of images)
 
 -- A name that is found is none of those that are not there.
 pub found_other : (first number : ℕ) (images : List ImageModel) (name other : List ℕ) → IsNew other (names_of images) →
@@ -152,14 +156,11 @@ pub index_after : (first number : ℕ) (image : ImageModel) (later : List ImageM
 index_after first number image later name new is = rw (found_other (first + 1) number later name image.name new is) is
 
 image_at : (first : ℕ) (images : List ImageModel) (place : PayloadPlace) (payload : List ℕ) → AreDistinct (names_of images) →
-    Contains (image_payloads_at (names_of images) (payloads_of images)) (place, payload) → IsImageAt first images place payload
+    Contains (places_of images) (place, payload) → IsImageAt first images place payload
 image_at first [] place payload distinct has = absurd (Contains-none (place, payload) has)
 image_at first (image ∷ later) place payload distinct has =
     by image.payload refl has (λ has. image_at (first + 1) later place payload distinct.1 has)
   where
-    abbrev others : List (PayloadPlace × List ℕ)
-    others = image_payloads_at (names_of later) (payloads_of later)
-
     after : IsImageAt (first + 1) later place payload → IsImageAt first (image ∷ later) place payload
     after found = record {
       name = found.name;
@@ -171,8 +172,9 @@ image_at first (image ∷ later) place payload distinct has =
     }
 
     here : (own : List ℕ) → image.payload ≡ Some own →
-        ((OfImageNamed image.name, own) ≡ (place, payload)) ⊎ Contains others (place, payload) →
-        (Contains others (place, payload) → IsImageAt (first + 1) later place payload) → IsImageAt first (image ∷ later) place payload
+        ((OfImageNamed image.name, own) ≡ (place, payload)) ⊎ Contains (places_of later) (place, payload) →
+        (Contains (places_of later) (place, payload) → IsImageAt (first + 1) later place payload) →
+        IsImageAt first (image ∷ later) place payload
     here own is (inl same) rest = record {
       name = image.name;
       number = 0;
@@ -183,10 +185,12 @@ image_at first (image ∷ later) place payload distinct has =
     here own is (inr has) rest = after (rest has)
 
     by : (own : Option (List ℕ)) → image.payload ≡ own →
-        Contains (image_payloads_at (names_of (image ∷ later)) (payloads_of (image ∷ later))) (place, payload) →
-        (Contains others (place, payload) → IsImageAt (first + 1) later place payload) → IsImageAt first (image ∷ later) place payload
+        Contains (places_of (image ∷ later)) (place, payload) →
+        (Contains (places_of later) (place, payload) → IsImageAt (first + 1) later place payload) →
+        IsImageAt first (image ∷ later) place payload
     by None is has rest = after (rest (rw is at has))
-    by (Some own) is has rest = here own is (Contains-cases (OfImageNamed image.name, own) others (place, payload) (rw is at has)) rest
+    by (Some own) is has rest =
+        here own is (Contains-cases (OfImageNamed image.name, own) (places_of later) (place, payload) (rw is at has)) rest
 
 -- The image with an index.
 record IsNumbered (first : ℕ) (images : List ImageModel) (name : List ℕ) (index : ℕ) : Type 0 where
@@ -194,7 +198,7 @@ record IsNumbered (first : ℕ) (images : List ImageModel) (name : List ℕ) (in
   pub is_number : index ≡ first + number
   pub is_name : name_at images number ≡ name
   pub back : (payload : List ℕ) → slice_get (payloads_of images) number ≡ Some (Some payload) →
-      Contains (image_payloads_at (names_of images) (payloads_of images)) (OfImageNamed name, payload)
+      Contains (places_of images) (OfImageNamed name, payload)
 
 numbered : (first : ℕ) (images : List ImageModel) (name : List ℕ) (index : ℕ) → index_from first name images ≡ Some index →
     IsNumbered first images name index
@@ -202,20 +206,17 @@ numbered first [] name index is = absurd cc
 numbered first (image ∷ later) name index is =
     by (bytes_eq image.name name) refl (λ is. numbered (first + 1) later name index is)
   where
-    abbrev others : List (PayloadPlace × List ℕ)
-    others = image_payloads_at (names_of later) (payloads_of later)
-
     here : image.name ≡ name → (payload : List ℕ) → Some image.payload ≡ Some (Some payload) →
-        Contains (image_payloads_at (names_of (image ∷ later)) (payloads_of (image ∷ later))) (OfImageNamed name, payload)
+        Contains (places_of (image ∷ later)) (OfImageNamed name, payload)
     here same payload is =
         let own : image.payload ≡ Some payload = same_in_some image.payload (Some payload) is in
-        rw own (subst (λ name. Contains ((OfImageNamed image.name, payload) ∷ others) (OfImageNamed name, payload)) same
-        (Contains-first (OfImageNamed image.name, payload) others))
+        rw own (subst (λ name. Contains ((OfImageNamed image.name, payload) ∷ (places_of later)) (OfImageNamed name, payload)) same
+        (Contains-first (OfImageNamed image.name, payload) (places_of later)))
 
-    after : (pair : PayloadPlace × List ℕ) → Contains others pair → (own : Option (List ℕ)) → image.payload ≡ own →
-        Contains (image_payloads_at (names_of (image ∷ later)) (payloads_of (image ∷ later))) pair
+    after : (pair : PayloadPlace × List ℕ) → Contains (places_of later) pair → (own : Option (List ℕ)) → image.payload ≡ own →
+        Contains (places_of (image ∷ later)) pair
     after pair has None own = rw own has
-    after pair has (Some payload) own = rw own (Contains-others (OfImageNamed image.name, payload) others pair has)
+    after pair has (Some payload) own = rw own (Contains-others (OfImageNamed image.name, payload) (places_of later) pair has)
 
     by : (b : Bool) → bytes_eq image.name name ≡ b →
         (index_from (first + 1) name later ≡ Some index → IsNumbered (first + 1) later name index) →
@@ -242,9 +243,9 @@ place_of_image images name number is =
 
 pub index_at_place : (index : PayloadIndex) (place : PayloadPlace) (number : ℕ) → payload_index_in index place ≡ Some number →
     place_at index number ≡ place
-index_at_place by.Parts place number is = index_of_part place number is
-index_at_place (by.Images fit) (OfPart part) number is = absurd cc
-index_at_place (by.Images fit) (OfImageNamed name) number is = ap OfImageNamed (place_of_image fit.now.images name number is)
+index_at_place kind.Parts place number is = index_of_part place number is
+index_at_place (kind.Images fit) (OfPart part) number is = absurd cc
+index_at_place (kind.Images fit) (OfImageNamed name) number is = ap OfImageNamed (place_of_image fit.now.images name number is)
 
 pub images_say_where : (images : List ImageModel) (index : PayloadIndex) → AreDistinct (names_of images) →
     ((name : List ℕ) → payload_index_in index (OfImageNamed name) ≡ index_of name images) →
@@ -315,21 +316,19 @@ blob_is_inside limits payload (Some blob) is =
 pub blobs_are_inside : (limits : Limits) (index : PayloadIndex) (meaning : Meaning) (blobs : List (Option Blob)) →
     SaysWhere index (payloads_in meaning) (payloads_at_places meaning) → AreBlobsInside limits (payloads_in meaning) blobs →
     AreInside limits meaning (insides_of index blobs)
-blobs_are_inside limits index meaning blobs says are = record { each = each; other = λ place nothing. other place nothing _ refl }
+blobs_are_inside limits index meaning blobs says are =
+    record { each = each; other = λ place nothing. other place nothing (payload_index_in index place) refl }
   where
-    abbrev payloads : List (Option (List ℕ))
-    payloads = payloads_in meaning
-
     each : (place : PayloadPlace) (payload : List ℕ) → Contains (payloads_at_places meaning) (place, payload) →
         HasInside limits payload (insides_of index blobs place)
     each place payload has =
         let there = says.there place payload has in
-        let found = zip_there (HasBlob limits) payloads blobs there.number (Some payload) are there.is_payload in
+        let found = zip_there (HasBlob limits) (payloads_in meaning) blobs there.number (Some payload) are there.is_payload in
         rw (there.is_index, found.is_other) (blob_is_inside limits payload found.other found.is)
 
     none_there : (place : PayloadPlace) → ((payload : List ℕ) → ¬ (Contains (payloads_at_places meaning) (place, payload))) →
         (number : ℕ) → payload_index_in index place ≡ Some number → (payload : Option (List ℕ)) →
-        slice_get payloads number ≡ Some payload → (blob : Option Blob) → HasBlob limits payload blob →
+        slice_get (payloads_in meaning) number ≡ Some payload → (blob : Option Blob) → HasBlob limits payload blob →
         option_map devicetree_of blob ≡ None
     none_there place nothing number is_index payload is_payload None has = refl
     none_there place nothing number is_index None is_payload (Some blob) has = absurd has
@@ -341,7 +340,7 @@ blobs_are_inside limits index meaning blobs says are = record { each = each; oth
         option_map devicetree_of (blob_or_none found) ≡ None
     at_number place nothing number is_index None is = refl
     at_number place nothing number is_index (Some blob) is =
-        let found = zip_back (HasBlob limits) payloads blobs number blob are is in
+        let found = zip_back (HasBlob limits) (payloads_in meaning) blobs number blob are is in
         none_there place nothing number is_index found.other found.is_other blob found.is
 
     other : (place : PayloadPlace) → ((payload : List ℕ) → ¬ (Contains (payloads_at_places meaning) (place, payload))) →
@@ -433,13 +432,13 @@ image_names_distinct content held =
 
 pub image_says_where : (image : BootImage) (index : PayloadIndex) → IsHeldImage image → IsIndexOf image index →
     SaysWhere index (payloads_in (meaning_of image)) (payloads_at_places (meaning_of image))
-image_says_where (boot.Legacy legacy) by.Parts held is = parts_say_where legacy.image.parts
-image_says_where (boot.Legacy legacy) (by.Images fit) held is = absurd is
-image_says_where (boot.Fit content) by.Parts held is = absurd is
-image_says_where (boot.Fit content) (by.Images fit) held is =
-    subst (λ names. SaysWhere (by.Images fit) (payloads_of content.images) (image_payloads_at names (payloads_of content.images)))
+image_says_where (boot.Legacy legacy) kind.Parts held is = parts_say_where legacy.image.parts
+image_says_where (boot.Legacy legacy) (kind.Images fit) held is = absurd is
+image_says_where (boot.Fit content) kind.Parts held is = absurd is
+image_says_where (boot.Fit content) (kind.Images fit) held is =
+    subst (λ names. SaysWhere (kind.Images fit) (payloads_of content.images) (image_payloads_at names (payloads_of content.images)))
     (sym (image_names_are content held))
-    (images_say_where content.images (by.Images fit) (image_names_distinct content held)
+    (images_say_where content.images (kind.Images fit) (image_names_distinct content held)
     (λ name. ap (λ (content : FitModel). index_of name content.images) is) (λ number. refl)
     (λ number. ap (λ (content : FitModel). OfImageNamed (name_at content.images number)) is))
 

@@ -1,5 +1,5 @@
 use Rattle.std.proofs.Common.{◌≡◌, ℕ, ◌+◌, ◌<◌, Bool, true, false, List, [], ◌∷◌, ◌++◌, Option, None, Some, get_or, length, map, take}
-use Rattle.std.proofs.Common.{◌≤◌, refl, sym, ap, subst, take_all, ◌∙◌, true≢false}
+use Rattle.std.proofs.Common.{◌≤◌, refl, sym, ap, ap₂, subst, take_all, ◌∙◌, true≢false}
 use Rattle.std.specs.Prelude.{◌||◌, if◌then◌else◌}
 use Rattle.std.specs.List.{list_any}
 use Rattle.std.specs.Option.{option_map}
@@ -35,11 +35,13 @@ word_next : (p : Ignored → Bool) (words : List MadeWord) (index : ℕ) (word :
     index < length words →
     list_any p (take (index + 1) (ignored_words words)) ≡ (list_any p (take index (ignored_words words)) || p (ignored_word word))
 word_next p words index word is within =
-    ap (list_any p) (sym (take-map ignored_word (index + 1) words)
-    ∙ ap (map ignored_word) (take_more words index word within))
-    ∙ ap (list_any p) (map-append ignored_word (take index words) (get_or words index word ∷ []))
-    ∙ list_any-append p (map ignored_word (take index words)) (ignored_word (get_or words index word) ∷ [])
-    ∙ (λ i. list_any p (take-map ignored_word index words i) || or_false (p (ignored_word (sym is i))) i)
+    let item = get_or words index word in
+    ap (list_any p) (take-map ignored_word (index + 1) words
+    ∙ ap (map ignored_word) (take_more words index word within)
+    ∙ map-append ignored_word (take index words) (item ∷ []))
+    ∙ list_any-append p (map ignored_word (take index words)) (ignored_word item ∷ [])
+    ∙ ap₂ (λ (one other : Bool). one || other) (ap (list_any p) (sym (take-map ignored_word index words)))
+    (or_false (p (ignored_word item)) ∙ ap (λ word. p (ignored_word word)) (sym is))
 
 abbrev trees_by : List Ignored → Insides → PayloadPlace → Bool → Option ReducedTree
 trees_by words insides place b = if b then tree_at_without words insides place else whole_devicetrees insides place
@@ -61,7 +63,8 @@ module _ (words : List MadeWord) (index : ℕ) (word : MadeWord) (is : word ≡ 
       ∙ ap (trees_by all insides place) (or_false (list_any (is_word_inside place) (take index all))))
 
   -- A word before it is for something inside the same payload.
-  pub word_again : (found : PayloadPlace) → ((place : PayloadPlace) → is_same_payload place found ≡ is_word_inside place (ignored_word word)) →
+  pub word_again : (found : PayloadPlace) →
+      ((place : PayloadPlace) → is_same_payload place found ≡ is_word_inside place (ignored_word word)) →
       list_any (is_word_inside found) (take index all) ≡ true → (place : PayloadPlace) →
       trees_after all (take index all) insides place ≡ trees_after all (take (index + 1) all) insides place
   word_again found own before place =
@@ -78,7 +81,8 @@ module _ (words : List MadeWord) (index : ℕ) (word : MadeWord) (is : word ≡ 
       by false no = rw no (or_false (list_any (is_word_inside place) (take index all)))
 
   -- It is the first one for something there.
-  pub word_first : (found : PayloadPlace) → ((place : PayloadPlace) → is_same_payload place found ≡ is_word_inside place (ignored_word word)) →
+  pub word_first : (found : PayloadPlace) →
+      ((place : PayloadPlace) → is_same_payload place found ≡ is_word_inside place (ignored_word word)) →
       list_any (is_word_inside found) (take index all) ≡ false → (place : PayloadPlace) →
       with_tree_at found (tree_at_without all insides found) (trees_after all (take index all) insides) place
       ≡ trees_after all (take (index + 1) all) insides place
