@@ -1,18 +1,28 @@
 use Rattle.std.proofs.Common.{◌≡◌, ℕ, ◌+◌, List, [], ◌∷◌, ◌++◌, Option, None, Some, map, refl, sym, ap, subst, ◌∙◌}
-use Rattle.std.proofs.Common.{flat_map}
+use Rattle.std.proofs.Common.{◌-◌, ◌≤◌, arith, flat_map, get_or, length}
+use Rattle.std.specs.Borrow.{Bor}
 use Rattle.std.proofs.lemmas.Grind.{flat_map-append}
 use Rattle.std.proofs.lemmas.List.{map-append}
 use Rattle.bi_norm.specs.Meaning.{Meaning, OfLegacy, OfFit}
 use Rattle.bi_common.specs.Json.{Json}
 use Rattle.bi_common.specs.LineTokens.{EndOfLine, LineToken, NextField, end_of_line, line_tokens, one_field, tokens_of_lines}
 use Rattle.bi_common.specs.Lines.{Decimal, Digits, Field, Hexadecimal, Hexadecimal64, Line, Name, Path, Text, Value}
+use Rattle.bi_common.specs.declared.fields.Field.{Field as MadeField}
+use Rattle.bi_common.specs.declared.fields.Field.TheVariants as field
+use Rattle.bi_common.specs.MadeFields.{bytes_of_names, field_of}
+use Rattle.bi_describe.specs.declared.describe.entries.Entry.{Entry}
+use Rattle.bi_describe.specs.declared.describe.entries.Entry.TheVariants as entry
+use Rattle.bi_describe.specs.declared.describe.image_payload.ImagePayload.{ImagePayload}
+use Rattle.bi_describe.specs.DeepEntries.{entry_tokens_with, last_begun}
+use Rattle.bi_describe.specs.EntryTokens.{entry_tokens}
+use Rattle.bi_describe.specs.TreeEntries.{as_entry, lines_of_entry}
 use Rattle.bi_describe.specs.DeepDescriptions.{InsidesShown, insides_shown, line_at, line_inside, lines_with_inside, place_of_line}
-use Rattle.bi_describe.specs.DeepDescriptions.{word_of_inside}
+use Rattle.bi_describe.specs.DeepDescriptions.{name_of_last, word_of_inside}
 use Rattle.bi_describe.specs.DeepJson.{deep_part_objects, object_with_inside}
 use Rattle.bi_describe.specs.DeepLaws.{NothingInsideIsDescription}
 use Rattle.bi_describe.specs.DescriptionJson.{digest_object, legacy_object_with, meaning_object}
 use Rattle.bi_describe.specs.Descriptions.{description_lines, digest_of_payload}
-use Rattle.bi_describe.specs.Devicetrees.{nothing_inside}
+use Rattle.bi_describe.specs.Devicetrees.{Insides, nothing_inside}
 use Rattle.bi_describe.specs.Ignoring.{PayloadPlace}
 use Rattle.bi_describe.specs.InsidePens.{token_inside}
 
@@ -96,3 +106,53 @@ inside_put puts old new begin end own payload lines same begins ends put =
     rw (sym begins, sym ends)
     (subst (λ (tokens : List LineToken). puts old tokens new)
     (ap (λ payload. map (token_inside payload) (tokens_of_lines lines)) same ∙ tokens_inside payload lines) put)
+
+-- A word that is no path stays.
+pub token_stays : (payload : List ℕ) (word : MadeField) → ((names : Bor (List (Bor (List ℕ)))) → word ≡ field.Path names → ⊥) →
+    token_inside payload (NextField (field_of word)) ≡ NextField (field_of word)
+token_stays payload (field.Text text) other = refl
+token_stays payload (field.Shown name) other = refl
+token_stays payload (field.Decimal number) other = refl
+token_stays payload (field.Hexadecimal number) other = refl
+token_stays payload (field.Hexadecimal64 number) other = refl
+token_stays payload (field.Sha256 digest) other = refl
+token_stays payload (field.Digits bytes) other = refl
+token_stays payload (field.Path names) other = absurd (other names refl)
+token_stays payload (field.Value value) other = refl
+
+-- The line of an entry that is no payload is about no payload.
+pub entry_alone : (shown : InsidesShown) (names : List (List ℕ)) (made : Entry) →
+    ((payload : ImagePayload) → made ≡ entry.Payload payload → ⊥) →
+    lines_with_inside shown (lines_of_entry names (as_entry made)) ≡ lines_of_entry names (as_entry made)
+entry_alone shown names (entry.Begin name) other = refl
+entry_alone shown names (entry.Payload payload) other = absurd (other payload refl)
+entry_alone shown names entry.Properties other = refl
+entry_alone shown names (entry.Property name value) other = refl
+entry_alone shown names entry.Children other = refl
+entry_alone shown names entry.End other = refl
+
+-- The tokens of an entry that is no payload, and the last node that began if it begins none.
+pub tokens_alone : (insides : Insides) (last : List ℕ) (made : Entry) → ((payload : ImagePayload) → made ≡ entry.Payload payload → ⊥) →
+    entry_tokens_with insides last (as_entry made) ≡ entry_tokens (as_entry made)
+tokens_alone insides last (entry.Begin name) other = refl
+tokens_alone insides last (entry.Payload payload) other = absurd (other payload refl)
+tokens_alone insides last entry.Properties other = refl
+tokens_alone insides last (entry.Property name value) other = refl
+tokens_alone insides last entry.Children other = refl
+tokens_alone insides last entry.End other = refl
+
+pub last_stays : (last : List ℕ) (made : Entry) → ((name : Bor (List ℕ)) → made ≡ entry.Begin name → ⊥) →
+    last ≡ last_begun last (as_entry made)
+last_stays last (entry.Begin name) other = absurd (other name refl)
+last_stays last (entry.Payload payload) other = refl
+last_stays last entry.Properties other = refl
+last_stays last (entry.Property name value) other = refl
+last_stays last entry.Children other = refl
+last_stays last entry.End other = refl
+
+-- The last name.
+pub last_is : (names : List (Bor (List ℕ))) (name : Bor (List ℕ)) → 1 ≤ length names →
+    (get_or names (length names - 1) name).now ≡ name_of_last (bytes_of_names names)
+last_is [] name some = omega (arith, some)
+last_is (first ∷ []) name some = refl
+last_is (first ∷ next ∷ later) name some = last_is (next ∷ later) name (omega arith)

@@ -51,7 +51,7 @@ module _ (insides : Insides) where
   abbrev members_at : List ℕ → List Member
   members_at name = inside_members (insides (OfImageNamed name))
 
-  last_after : (last : List ℕ) → List EntryModel → List ℕ
+  abbrev last_after : (last : List ℕ) → List EntryModel → List ℕ
   last_after last [] = last
   last_after last (entry ∷ later) = last_after (last_begun last entry) later
 

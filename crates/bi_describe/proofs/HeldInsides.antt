@@ -1,6 +1,8 @@
-use Rattle.std.proofs.Common.{◌≡◌, ℕ, zero, suc, Bool, true, false, List, [], ◌∷◌, Option, None, Some}
+use Rattle.std.proofs.Common.{◌≡◌, ℕ, zero, suc, ◌+◌, ◌<◌, Bool, true, false, List, [], ◌∷◌, Option, None, Some, arith, get_or, length, take}
 use Rattle.std.proofs.Common.{inl, inr, option_map, refl, set, sym, ap, subst, ◌∙◌, ◌⊎◌, true≢false}
-use Rattle.std.specs.Prelude.{◌==◌, slice_get}
+use Rattle.std.specs.Prelude.{◌==◌, ◌||◌, slice_get}
+use Rattle.std.proofs.lemmas.List.{take_more}
+use Rattle.bi_base.proofs.ListMembers.{each-append}
 use Rattle.std.proofs.lemmas.Bool.Decides.{eqb_tells}
 use Rattle.std.specs.Borrow.{Bor}
 use Rattle.std.specs.List.{AllByRecursion}
@@ -214,3 +216,30 @@ each_place P (first ∷ later) each place is = by (is_same_payload place (place_
     by : (b : Bool) → is_same_payload place (place_of_payload first.now) ≡ b → (is_one_of_places later place ≡ true → P place) → P place
     by true same rest = subst P (sym (same_place place (place_of_payload first.now) same)) each.0
     by false same rest = rest (rw same at is)
+
+-- One more of them.
+pub each_more : (P : Bor MadePlace → Type 0) (places : List (Bor MadePlace)) (index : ℕ) (place : Bor MadePlace) →
+    place ≡ get_or places index place → index < length places → AllByRecursion P (take index places) → P place →
+    AllByRecursion P (take (index + 1) places)
+each_more P places index place is within each here =
+    subst (AllByRecursion P) (sym (take_more places index place within))
+    (each-append P (take index places) (get_or places index place ∷ []) each (subst P is here, tt))
+
+-- Each of them is one.
+same_again : (place : PayloadPlace) → is_same_payload place place ≡ true
+same_again place = place_found place place refl
+
+pub is_one : (places : List (Bor MadePlace)) (index : ℕ) (place : Bor MadePlace) → place ≡ get_or places index place →
+    index < length places → is_one_of_places places (place_of_payload place.now) ≡ true
+is_one [] index place is within = omega (arith, within)
+is_one (first ∷ later) zero place is within =
+    ap (λ b. b || is_one_of_places later (place_of_payload place.now))
+    (ap (λ (other : Bor MadePlace). is_same_payload (place_of_payload place.now) (place_of_payload other.now)) (sym is)
+    ∙ same_again (place_of_payload place.now))
+is_one (first ∷ later) (suc index) place is within =
+    by (is_same_payload (place_of_payload place.now) (place_of_payload first.now)) (is_one later index place is (omega (arith, within)))
+  where
+    by : (b : Bool) → is_one_of_places later (place_of_payload place.now) ≡ true →
+        (b || is_one_of_places later (place_of_payload place.now)) ≡ true
+    by true rest = refl
+    by false rest = rest

@@ -49,9 +49,10 @@ use Rattle.bi_describe.specs.IgnoredWords.{inside_path, payload_path}
 use Rattle.bi_describe.specs.Ignoring.{OfImageNamed, OfPart, PayloadPlace}
 use Rattle.bi_describe.specs.InsideTrees.{IsNamesError, devicetree_of, long_names, long_names_below, long_names_own}
 use Rattle.bi_describe.specs.MadeInsides.{AreBlobsInside, HasBlob, IsIndexOf, long_names_in, payload_index_in, payloads_in}
-use Rattle.bi_describe.proofs.LongNames.{json_long_with, lines_long, long_bytes, long_bytes_of, long_bytes_of_node, members_length}
+use Rattle.bi_describe.proofs.LongNames.{json_long_with, lines_long, long_bytes, long_bytes_of, members_length}
 use Rattle.bi_describe.proofs.LongNames.{nodes_in_json, own_in_json, plain_properties}
 use Rattle.bi_describe.proofs.LongNames.{properties_in_json, shown_as_long, strings_length, third_word, value_long, values_length}
+use Rattle.bi_describe.proofs.InsideBlobs.{below_are}
 use Rattle.bi_describe.proofs.ReadInsides.{blobs_are_inside, image_names_are, image_names_distinct, image_says_where, index_after, inside_with}
 use Rattle.bi_describe.proofs.ReadInsides.{insides_of}
 
@@ -277,14 +278,6 @@ module _ (insides : Insides) where
       omega (arith, head, middle, lines, all)
 
 -- ---- JSON
-
-below_are : (nodes : Nodes PropertyMap) → long_names_below nodes ≡ long_bytes (names_of_nodes nodes)
-below_are none = refl
-below_are (node name own children later) =
-    let all = long_bytes_of_node name own children later in
-    let inner = below_are children in
-    let outer = below_are later in
-    omega (arith, all, inner, outer)
 
 tree_in_json : (tree : Devicetree) → long_names (Some tree) ≤ strings_length (devicetree_object tree)
 tree_in_json tree =

@@ -1,9 +1,11 @@
-use Rattle.std.proofs.Common.{[], ap, append-nil, subst, sym, ◌∙◌}
+use Rattle.std.proofs.Common.{ap, append-nil, subst, sym, ◌∙◌}
 use Rattle.std.proofs.lemmas.Grind.{flat_map-append}
 use Rattle.bi_common.specs.LineTokens.{line_tokens, tokens_of_lines}
 use Rattle.bi_common.specs.MadeFields.{bytes_of_names}
 use Rattle.bi_describe.specs.DeepDescriptions.{lines_at}
 use Rattle.bi_describe.specs.Ignoring.{OfImageNamed}
+use Rattle.bi_describe.specs.MadeInsides.{shown_by}
+use Rattle.bi_describe.proofs.DeepFacts.{entry_alone}
 use Rattle.bi_describe.proofs.describe.deep.put_entry_with_inside.Goals as goal
 
 pub returns-in-Payload-clause-put : goal.returns-in-Payload-clause-put
@@ -18,4 +20,7 @@ returns-in-Payload-clause-put g c trees held =
     c.last_name.ensures (c.put_lines_of_image.ensures.put trees held))))
 
 pub returns-in_default-clause-put : goal.returns-in_default-clause-put
-returns-in_default-clause-put g c trees held = ?
+returns-in_default-clause-put g c trees held =
+    subst (λ lines. g.L.LinePen.puts c.args.pen.now (tokens_of_lines lines) c.put_entry.new.pen)
+    (sym (entry_alone (shown_by trees c.args.opened.now) (bytes_of_names c.args.names.now) c.args.entry c.in_default.not-Payload))
+    c.put_entry.ensures
