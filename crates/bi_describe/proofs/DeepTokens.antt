@@ -157,7 +157,8 @@ module _ (insides : Insides) where
   tokens_of_fit tree cpu reservations entries is_cpu are_reservations are_entries =
       (λ i. one BeginObject ++ (member_tokens (processor_members (is_cpu i))
       ++ (member_tokens (reservations_member (are_reservations i) ∷ [])
-      ++ (one (MemberName (codes "root")) ++ (one BeginObject ++ (tokens_of [] (are_entries i) ++ (entry_tokens NodeEnds ++ one EndObject)))))))
+      ++ (one (MemberName (codes "root")) ++ (one BeginObject
+      ++ (tokens_of [] (are_entries i) ++ (entry_tokens NodeEnds ++ one EndObject)))))))
       ∙ ap (λ (root : List JsonToken). one BeginObject
       ++ (member_tokens (processor_members tree.cpu) ++ (member_tokens (reservations_member tree.reservations ∷ [])
       ++ (one (MemberName (codes "root")) ++ (one BeginObject ++ root)))))

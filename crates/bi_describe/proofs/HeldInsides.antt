@@ -1,5 +1,5 @@
-use Rattle.std.proofs.Common.{◌≡◌, ℕ, zero, suc, ◌+◌, ◌<◌, Bool, true, false, List, [], ◌∷◌, Option, None, Some, arith, get_or, length, take}
-use Rattle.std.proofs.Common.{inl, inr, option_map, refl, set, sym, ap, subst, ◌∙◌, ◌⊎◌, true≢false}
+use Rattle.std.proofs.Common.{◌≡◌, ℕ, zero, suc, ◌+◌, ◌<◌, Bool, true, false, List, [], ◌∷◌, Option, None, Some}
+use Rattle.std.proofs.Common.{arith, get_or, length, take, inl, inr, option_map, refl, set, sym, ap, subst, ◌∙◌, ◌⊎◌, true≢false}
 use Rattle.std.specs.Prelude.{◌==◌, ◌||◌, slice_get}
 use Rattle.std.proofs.lemmas.List.{take_more}
 use Rattle.bi_base.proofs.ListMembers.{each-append}
@@ -115,7 +115,8 @@ pub replaced_held : (trees others : PayloadPlace → Option ReducedTree) (made n
 replaced_held trees others made new number old tree is here elsewhere held place = by (payload_index_in made.index place) refl
   where
     stays : (found : Option ℕ) → payload_index_in made.index place ≡ found → ((found ≡ Some number) → ⊥) →
-        tree_with_index new.trees.items found ≡ tree_with_index made.trees.items found → HoldsAt place (others place) (made_tree_at new place)
+        tree_with_index new.trees.items found ≡ tree_with_index made.trees.items found →
+        HoldsAt place (others place) (made_tree_at new place)
     stays found at differs same =
         subst (λ tree. HoldsAt place tree (made_tree_at new place)) (sym (elsewhere place (λ is. differs (sym at ∙ is))))
         (subst (HoldsAt place (trees place))

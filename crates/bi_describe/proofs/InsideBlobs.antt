@@ -28,7 +28,8 @@ nodes_distinct (node name own children later) are =
 
 pub children_distinct : (file : List ℕ) (cpu : ℕ) (reservations : List Reservation) (root : Root FileNode) →
     IsBlob file cpu reservations root → EachOwn HasDistinctNames root.children
-children_distinct file cpu reservations root is = nodes_distinct root.children (blob_has_content file cpu reservations root is).is_tree.children
+children_distinct file cpu reservations root is =
+    nodes_distinct root.children (blob_has_content file cpu reservations root is).is_tree.children
 
 -- A node is found or not.
 pub no_node : (found : Option NodeRef) → option_map node_of found ≡ None → is_some found ≡ true → ⊥

@@ -53,8 +53,8 @@ use Rattle.bi_describe.proofs.LongNames.{json_long_with, lines_long, long_bytes,
 use Rattle.bi_describe.proofs.LongNames.{nodes_in_json, own_in_json, plain_properties}
 use Rattle.bi_describe.proofs.LongNames.{properties_in_json, shown_as_long, strings_length, third_word, value_long, values_length}
 use Rattle.bi_describe.proofs.InsideBlobs.{below_are}
-use Rattle.bi_describe.proofs.ReadInsides.{blobs_are_inside, image_names_are, image_names_distinct, image_says_where, index_after, inside_with}
-use Rattle.bi_describe.proofs.ReadInsides.{insides_of}
+use Rattle.bi_describe.proofs.ReadInsides.{blobs_are_inside, image_names_are, image_names_distinct, image_says_where, index_after}
+use Rattle.bi_describe.proofs.ReadInsides.{inside_with, insides_of}
 
 -- The deep description is at least as long as the long names of the properties in all devicetrees inside.
 

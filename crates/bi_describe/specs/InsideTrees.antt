@@ -1,4 +1,5 @@
-use Rattle.std.specs.Prelude.{◌≡◌, ◌<◌, ◌+◌, ℕ, List, ◌++◌, None, Option, Some, flat_map, length, map}
+use Rattle.std.specs.Prelude.{◌≡◌, ◌<◌, ◌+◌, ℕ, List, ◌++◌, None, Option, Some, flat_map, length}
+use Rattle.std.specs.Prelude.{map}
 use Rattle.std.specs.FinMap.{entries}
 use Rattle.bi_base.specs.declared.fault.Error.{Error}
 use Rattle.bi_base.specs.Errors.{IsFaultOrNoMemory}
@@ -37,8 +38,8 @@ pub record IsBlobInside (limits : Limits) (payload : List ℕ) (blob : Blob) : T
   pub within : IsWithin limits payload (root_of blob)
   pub no_images : node_named (root_of blob).children images_name ≡ None
 
--- How many bytes the names of the properties of nodes have together, as far as they are long: of one
--- node, and of nodes with all nodes below them.
+-- How many bytes the names of the properties of nodes have together, as far as they are long: of
+-- one node, and of nodes with all nodes below them.
 abbrev pub long_names_own : PropertyMap → ℕ
 long_names_own properties =
     length (flat_map name_if_long (map (λ (property : Property). property.0) (entries properties)))

@@ -101,7 +101,8 @@ HoldsAt place tree made = ⊥
 
 -- These are the trees at all places.
 abbrev pub HoldInsides : (tree_at : PayloadPlace → Option ReducedTree) → MadeInsides → Type 0
-HoldInsides tree_at made = (place : PayloadPlace) → HoldsAt place (tree_at place) (made_tree_at made place)
+HoldInsides tree_at made =
+    (place : PayloadPlace) → HoldsAt place (tree_at place) (made_tree_at made place)
 
 -- Those of a meaning, if nothing is left out.
 abbrev pub whole_devicetrees : Insides → PayloadPlace → Option ReducedTree
@@ -168,8 +169,8 @@ pub record HoldsDeep (deep : DeepMeaning) (made : DeepImage) : Type 0 where
   pub holds : HoldsMeaning deep.meaning made.described
   pub are_held : HoldInsides (whole_devicetrees deep.insides) made.insides
 
--- The code has what the deep description of a meaning is made from, which can be described in a form
--- within limits.
+-- The code has what the deep description of a meaning is made from, which can be described in a
+-- form within limits.
 pub record IsDeepOf (format : Format) (limits : Limits) (meaning : Meaning) (made : DeepImage)
     : Type 0
   where

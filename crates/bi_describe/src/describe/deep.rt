@@ -28,8 +28,8 @@ ghost use Rattle.bi_describe.specs.MadeParts.{bytes_of_parts, digest_of_part};
 ghost use Rattle.bi_describe.specs.ReadDescription.{root_lines};
 ghost use Rattle.bi_describe.specs.ReducedMeanings.{ReducedTree};
 ghost use Rattle.bi_describe.specs.ImagePayloads.{bytes_of_payload};
-ghost use Rattle.bi_describe.specs.TreeEntries.{PayloadEntry, as_entry, entry_lines, lines_of_entry};
-ghost use Rattle.bi_describe.specs.TreeEntries.{most_open as most_open_of};
+ghost use Rattle.bi_describe.specs.TreeEntries.{PayloadEntry, as_entry, entry_lines};
+ghost use Rattle.bi_describe.specs.TreeEntries.{lines_of_entry, most_open as most_open_of};
 
 use super::DescribedImage;
 use super::deep_pen::{DeepPen, DeepWriter};
@@ -98,7 +98,8 @@ impl<'a, 'b> DeepImage<'a, 'b> {
 
 /// Puts the lines of a legacy image.
 fn put_legacy_lines<L: DeepPen>(image: &DescribedLegacy, insides: &mut Insides, pen: &mut L)
-    ensures put { (trees : Trees) → HoldInsides (whole_devicetrees trees) insides.old → L.puts pen.old
+    ensures put { (trees : Trees) → HoldInsides (whole_devicetrees trees) insides.old
+        → L.puts pen.old
         (tokens_of_lines (lines_with_inside (insides_shown trees) (description_lines
         (OfLegacy (image_of image.now.fields (bytes_of_parts image.now.parts.items)))))) pen.new }
     ensures same { (trees : Place → Option ReducedTree) → HoldInsides trees insides.old
@@ -110,7 +111,8 @@ fn put_legacy_lines<L: DeepPen>(image: &DescribedLegacy, insides: &mut Insides, 
 
 /// Puts the lines of parts, and of what is inside them.
 fn put_parts<L: DeepPen>(parts: &[DescribedPart], insides: &mut Insides, pen: &mut L)
-    ensures put { (trees : Trees) → HoldInsides (whole_devicetrees trees) insides.old → L.puts pen.old
+    ensures put { (trees : Trees) → HoldInsides (whole_devicetrees trees) insides.old
+        → L.puts pen.old
         (tokens_of_lines (lines_with_inside (insides_shown trees)
         (part_lines 0 (map digest_of_part parts.now)))) pen.new }
     ensures same { (trees : Place → Option ReducedTree) → HoldInsides trees insides.old
@@ -129,7 +131,8 @@ pub(super) fn put_part_with_inside<L: DeepPen>(
     opened: &[&PayloadPlace],
     pen: &mut L,
 )
-    ensures put { (trees : Place → Option ReducedTree) → HoldInsides trees insides.old → L.puts pen.old
+    ensures put { (trees : Place → Option ReducedTree) → HoldInsides trees insides.old
+        → L.puts pen.old
         (tokens_of_lines (line_at (shown_by trees opened.now) (Some (OfPart index))
         (part_line index (digest_of_part part.entry)))) pen.new }
     ensures same { (trees : Place → Option ReducedTree) → HoldInsides trees insides.old
@@ -224,7 +227,8 @@ fn put_entry_with_inside<'a, L: DeepPen>(
     opened: &[&PayloadPlace],
     pen: &mut L,
 )
-    ensures put { (trees : Place → Option ReducedTree) → HoldInsides trees insides.old → L.puts pen.old
+    ensures put { (trees : Place → Option ReducedTree) → HoldInsides trees insides.old
+        → L.puts pen.old
         (tokens_of_lines (lines_with_inside (shown_by trees opened.now)
         (lines_of_entry (bytes_of_names names.now) (as_entry entry.entry)))) pen.new }
     ensures same { (trees : Place → Option ReducedTree) → HoldInsides trees insides.old
@@ -339,7 +343,8 @@ fn put_entry_object<'a, J: JsonPen>(
     insides: &Insides,
     json: &mut J,
 ) -> &'a [u8]
-    ensures put { (trees : Trees) → HoldInsides (whole_devicetrees trees) insides.now → J.puts json.old
+    ensures put { (trees : Trees) → HoldInsides (whole_devicetrees trees) insides.now
+        → J.puts json.old
         (entry_tokens_with trees last.now (as_entry entry.entry)) json.new }
     ensures last { result.now ≡ last_begun last.entry.now (as_entry entry.entry) }
 {

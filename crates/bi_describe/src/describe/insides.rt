@@ -119,8 +119,8 @@ pub(crate) struct Insides<'a, 'b> {
 impl<'a, 'b> Insides<'a, 'b> {
     /// Reads the payloads of an image that are devicetrees. Requires: the image was read.
     ///
-    /// Errors: TooLarge at the limit, if the payloads are longer, or if the deep description is, for
-    /// which the names of properties in the devicetrees are enough; OutOfMemory.
+    /// Errors: TooLarge at the limit, if the payloads are longer, or if the deep description is,
+    /// for which the names of properties in the devicetrees are enough; OutOfMemory.
     pub(crate) fn read(
         alloc: Global,
         image: &'b BootImage<'a>,
@@ -227,7 +227,8 @@ impl<'a, 'b> Insides<'a, 'b> {
         words: &[Ignored],
     ) -> Result<(), AllocError>
         ensures { OnOk result ((insides : Trees) (trees : Place → Option ReducedTree)
-            → trees (place_of_payload place.now) ≡ whole_devicetrees insides (place_of_payload place.now)
+            → trees (place_of_payload place.now)
+            ≡ whole_devicetrees insides (place_of_payload place.now)
             → HoldInsides trees self.old → HoldInsides (with_tree_at (place_of_payload place.now)
             (tree_at_without (ignored_words words.now) insides (place_of_payload place.now)) trees)
             self.new) }
@@ -245,7 +246,8 @@ impl<'a, 'b> Insides<'a, 'b> {
     pub(crate) fn are_same_at(&self, other: &Insides<'_, '_>, opened: &[&PayloadPlace]) -> bool
         ensures { (trees others : Place → Option ReducedTree) → HoldInsides trees self.now
             → HoldInsides others other.now → IsTrue result
-            ↔ ((place : Place) → IsTrue (is_one_of_places opened.now place) → trees place ≡ others place) }
+            ↔ ((place : Place) → IsTrue (is_one_of_places opened.now place)
+            → trees place ≡ others place) }
     {
         for place in opened {
             if !self.is_same_at(other, place) {
@@ -285,7 +287,8 @@ impl<'a, 'b> Insides<'a, 'b> {
 
     /// Puts the lines of the devicetree inside the payload with this index, if there is one.
     fn put_lines<L: DeepPen>(&mut self, index: usize, pen: &mut L)
-        ensures put { (trees : Place → Option ReducedTree) (place : Place) → HoldInsides trees self.old
+        ensures put { (trees : Place → Option ReducedTree) (place : Place)
+            → HoldInsides trees self.old
             → made_tree_at self.old place ≡ tree_with_index self.old.trees.items (Some index)
             → L.puts pen.old (tokens_of_lines (lines_at place (trees place))) pen.new }
         ensures same { (trees : Place → Option ReducedTree) → HoldInsides trees self.old
@@ -299,7 +302,8 @@ impl<'a, 'b> Insides<'a, 'b> {
     /// Puts the member of the devicetree inside the payload of the image with this name, if there
     /// is one.
     pub(super) fn put_member_of_image<J: JsonPen>(&self, name: &[u8], json: &mut J)
-        ensures { (insides : Trees) → HoldInsides (whole_devicetrees insides) self.now → J.puts json.old
+        ensures { (insides : Trees) → HoldInsides (whole_devicetrees insides) self.now
+            → J.puts json.old
             (member_tokens (inside_members (insides (OfImageNamed name.now)))) json.new }
     {
         if let Some(index) = self.index.of_image(name) {
@@ -322,7 +326,8 @@ impl<'a, 'b> Insides<'a, 'b> {
 
     /// Puts the member of the devicetree inside the part with this index, if there is one.
     pub(super) fn put_member_of_part<J: JsonPen>(&self, part: usize, json: &mut J)
-        ensures { (insides : Trees) → HoldInsides (whole_devicetrees insides) self.now → J.puts json.old
+        ensures { (insides : Trees) → HoldInsides (whole_devicetrees insides) self.now
+            → J.puts json.old
             (member_tokens (inside_members (insides (OfPart part)))) json.new }
     {
         if let Some(index) = self.index.of_part(part) {
@@ -332,7 +337,8 @@ impl<'a, 'b> Insides<'a, 'b> {
 
     /// Puts the member of the devicetree inside the payload with this index, if there is one.
     fn put_member<J: JsonPen>(&self, index: usize, json: &mut J)
-        ensures { (insides : Trees) (place : Place) → HoldInsides (whole_devicetrees insides) self.now
+        ensures { (insides : Trees) (place : Place)
+            → HoldInsides (whole_devicetrees insides) self.now
             → made_tree_at self.now place ≡ tree_with_index self.now.trees.items (Some index)
             → J.puts json.old (member_tokens (inside_members (insides place))) json.new }
     {

@@ -1,7 +1,7 @@
 //! Reading a devicetree that is a payload.
 
-ghost use Rattle.std.specs.Prelude.{◌≡◌, ◌+◌, ◌<◌, IfOk, IfErr, IfNone, IfSome, OnOk, None, flat_map};
-ghost use Rattle.std.specs.Prelude.{length, map};
+ghost use Rattle.std.specs.Prelude.{◌≡◌, ◌+◌, ◌<◌, IfOk, IfErr, IfNone, IfSome, OnOk, None};
+ghost use Rattle.std.specs.Prelude.{flat_map, length, map};
 ghost use Rattle.bi_base.specs.Reading.{too_large};
 ghost use Rattle.bi_base.specs.Slices.{bytes_of};
 ghost use Rattle.bi_blob.specs.Blob.{IsBlob};

@@ -22,6 +22,7 @@ loop-entry-preserved g c = λ trees held new rest.
 pub returns : goal.returns
 returns g c = λ trees held.
     c.loop-entry.invariant trees held _
-    (subst (λ left. g.J.JsonPen.puts c.loop-entry.json (deep_entry_tokens trees c.loop-entry.last.now (map as_entry left)) c.loop-entry.json)
+    (subst (λ left. g.J.JsonPen.puts c.loop-entry.json (deep_entry_tokens trees c.loop-entry.last.now (map as_entry left))
+    c.loop-entry.json)
     (sym (drop_all c.loop-entry.entry-index c.args.entries.now c.loop-entry-test.false))
     (g.met.J.JsonPen.puts_nothing _))

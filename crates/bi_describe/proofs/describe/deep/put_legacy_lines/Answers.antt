@@ -18,5 +18,6 @@ returns-clause-put g c = λ trees held.
     subst (λ tokens. puts c.args.pen.now tokens c.put_parts.new.pen)
     (sym (legacy_apart shown whole (part_lines 0 (map digest_of_payload (bytes_of_parts image.parts.items)))))
     (g.met.L.LinePen.puts_in_turn _ _ _ _ _ c.put_header_lines.ensures
-    (subst (λ digests. puts c.put_header_lines.new.pen (tokens_of_lines (lines_with_inside shown (part_lines 0 digests))) c.put_parts.new.pen)
+    (subst (λ digests. puts c.put_header_lines.new.pen (tokens_of_lines (lines_with_inside shown (part_lines 0 digests)))
+    c.put_parts.new.pen)
     (ap (map digest_of_part) c.deref.ensures.value ∙ digests_of_bytes image.parts.items) (c.put_parts.ensures.put trees held)))

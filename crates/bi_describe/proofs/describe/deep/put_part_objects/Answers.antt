@@ -20,6 +20,7 @@ pub returns : goal.returns
 returns g c = λ trees held.
     let index = c.loop-index.index in
     c.loop-index.invariant trees held _
-    (subst (λ left. g.J.JsonPen.puts c.loop-index.json (value_tokens (deep_part_objects trees index (bytes_of_parts left))) c.loop-index.json)
+    (subst (λ left. g.J.JsonPen.puts c.loop-index.json (value_tokens (deep_part_objects trees index (bytes_of_parts left)))
+    c.loop-index.json)
     (sym (drop_all index c.args.parts.now c.loop-index-test.false))
     (g.met.J.JsonPen.puts_nothing _))

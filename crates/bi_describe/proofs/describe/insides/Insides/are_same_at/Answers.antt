@@ -25,6 +25,7 @@ pub returns : goal.returns
 returns c trees others held also = (
   (λ yes place is. each_place (λ place. trees place ≡ others place) c.args.opened.now
       (subst (AllByRecursion (λ (place : Bor MadePlace). trees (place_of_payload place.now) ≡ others (place_of_payload place.now)))
-      (take_all c.loop-place.place-index c.args.opened.now c.loop-place-test.false) (c.loop-place.invariant trees others held also)) place is),
+      (take_all c.loop-place.place-index c.args.opened.now c.loop-place-test.false)
+      (c.loop-place.invariant trees others held also)) place is),
   (λ all. refl),
 )
