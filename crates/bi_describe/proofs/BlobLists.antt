@@ -60,7 +60,7 @@ long_first (suc count) (blob ∷ blobs) = let rest = long_first count blobs in o
 -- What holds of each holds of one.
 pub each_at : {X : Type 0} (P : X → Type 0) (xs : List X) (index : ℕ) (x : X) → AllByRecursion P xs → index < length xs →
     P (get_or xs index x)
-each_at P [] index x each within = omega (arith, within)
+each_at P [] index x each within = absurd (omega (arith, within))
 each_at P (first ∷ xs) zero x each within = each.0
 each_at P (first ∷ xs) (suc index) x each within = each_at P xs index x each.1 (omega (arith, within))
 

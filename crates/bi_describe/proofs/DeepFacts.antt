@@ -13,8 +13,6 @@ use Rattle.bi_common.specs.MadeFields.{bytes_of_names, field_of}
 use Rattle.bi_describe.specs.declared.describe.entries.Entry.{Entry}
 use Rattle.bi_describe.specs.declared.describe.entries.Entry.TheVariants as entry
 use Rattle.bi_describe.specs.declared.describe.image_payload.ImagePayload.{ImagePayload}
-use Rattle.bi_describe.specs.DeepEntries.{entry_tokens_with, last_begun}
-use Rattle.bi_describe.specs.EntryTokens.{entry_tokens}
 use Rattle.bi_describe.specs.TreeEntries.{as_entry, lines_of_entry}
 use Rattle.bi_describe.specs.DeepDescriptions.{InsidesShown, insides_shown, line_at, line_inside, lines_with_inside, place_of_line}
 use Rattle.bi_describe.specs.DeepDescriptions.{name_of_last, word_of_inside}
@@ -22,7 +20,7 @@ use Rattle.bi_describe.specs.DeepJson.{deep_part_objects, object_with_inside}
 use Rattle.bi_describe.specs.DeepLaws.{NothingInsideIsDescription}
 use Rattle.bi_describe.specs.DescriptionJson.{digest_object, legacy_object_with, meaning_object}
 use Rattle.bi_describe.specs.Descriptions.{description_lines, digest_of_payload}
-use Rattle.bi_describe.specs.Devicetrees.{Insides, nothing_inside}
+use Rattle.bi_describe.specs.Devicetrees.{nothing_inside}
 use Rattle.bi_describe.specs.Ignoring.{PayloadPlace}
 use Rattle.bi_describe.specs.InsidePens.{token_inside}
 
@@ -131,28 +129,9 @@ entry_alone shown names (entry.Property name value) other = refl
 entry_alone shown names entry.Children other = refl
 entry_alone shown names entry.End other = refl
 
--- The tokens of an entry that is no payload, and the last node that began if it begins none.
-pub tokens_alone : (insides : Insides) (last : List ℕ) (made : Entry) → ((payload : ImagePayload) → made ≡ entry.Payload payload → ⊥) →
-    entry_tokens_with insides last (as_entry made) ≡ entry_tokens (as_entry made)
-tokens_alone insides last (entry.Begin name) other = refl
-tokens_alone insides last (entry.Payload payload) other = absurd (other payload refl)
-tokens_alone insides last entry.Properties other = refl
-tokens_alone insides last (entry.Property name value) other = refl
-tokens_alone insides last entry.Children other = refl
-tokens_alone insides last entry.End other = refl
-
-pub last_stays : (last : List ℕ) (made : Entry) → ((name : Bor (List ℕ)) → made ≡ entry.Begin name → ⊥) →
-    last ≡ last_begun last (as_entry made)
-last_stays last (entry.Begin name) other = absurd (other name refl)
-last_stays last (entry.Payload payload) other = refl
-last_stays last entry.Properties other = refl
-last_stays last (entry.Property name value) other = refl
-last_stays last entry.Children other = refl
-last_stays last entry.End other = refl
-
 -- The last name.
 pub last_is : (names : List (Bor (List ℕ))) (name : Bor (List ℕ)) → 1 ≤ length names →
     (get_or names (length names - 1) name).now ≡ name_of_last (bytes_of_names names)
-last_is [] name some = omega (arith, some)
+last_is [] name some = absurd (omega (arith, some))
 last_is (first ∷ []) name some = refl
 last_is (first ∷ next ∷ later) name some = last_is (next ∷ later) name (omega arith)

@@ -232,7 +232,7 @@ same_again place = place_found place place refl
 
 pub is_one : (places : List (Bor MadePlace)) (index : ℕ) (place : Bor MadePlace) → place ≡ get_or places index place →
     index < length places → is_one_of_places places (place_of_payload place.now) ≡ true
-is_one [] index place is within = omega (arith, within)
+is_one [] index place is within = absurd (omega (arith, within))
 is_one (first ∷ later) zero place is within =
     ap (λ b. b || is_one_of_places later (place_of_payload place.now))
     (ap (λ (other : Bor MadePlace). is_same_payload (place_of_payload place.now) (place_of_payload other.now)) (sym is)

@@ -64,9 +64,9 @@ untouched change (node name own children later) is = by (bytes_eq name images_na
         (node_named later images_name ≡ None →
         with_children_of images_name change (nodes_by_name later) ≡ nodes_by_name later) →
         with_children_of images_name change (nodes_by_name (node name own children later)) ≡ nodes_by_name (node name own children later)
-    by true yes is rest = absurd (some_is_none _ (rw yes at is))
-    by false no is rest =
-        rw no (ap (λ later. node name (properties_by_name own) (nodes_by_name children) later) (rest (rw no at is)))
+    by true alike is rest = absurd (some_is_none _ (rw alike at is))
+    by false other is rest =
+        rw other (ap (λ later. node name (properties_by_name own) (nodes_by_name children) later) (rest (rw other at is)))
 
 -- Different long names of a blob without images are together no longer than those of its tree.
 pub names_of_blob : (blob : Blob) (names : List (List ℕ)) → AreDistinct names → AreNamesIn names (root_of blob) →

@@ -77,8 +77,8 @@ module _ (words : List MadeWord) (index : ℕ) (word : MadeWord) (is : word ≡ 
       by : (b : Bool) → is_same_payload place found ≡ b →
           (list_any (is_word_inside place) (take index all) || is_same_payload place found)
           ≡ list_any (is_word_inside place) (take index all)
-      by true yes = rw (yes, there (same_place place found yes)) refl
-      by false no = rw no (or_false (list_any (is_word_inside place) (take index all)))
+      by true alike = rw (alike, there (same_place place found alike)) refl
+      by false other = rw other (or_false (list_any (is_word_inside place) (take index all)))
 
   -- It is the first one for something there.
   pub word_first : (found : PayloadPlace) →
@@ -101,16 +101,16 @@ module _ (words : List MadeWord) (index : ℕ) (word : MadeWord) (is : word ≡ 
 
       other : ((found ≡ place) → ⊥) → (b : Bool) → is_same_payload place found ≡ b →
           trees_after all (take index all) insides place ≡ trees_after all (take (index + 1) all) insides place
-      other differs true yes = absurd (differs (sym (same_place place found yes)))
-      other differs false no =
+      other differs true alike = absurd (differs (sym (same_place place found alike)))
+      other differs false unlike =
           sym (next place ∙ ap (λ b. trees_by all insides place (list_any (is_word_inside place) (take index all) || b))
-          (sym (own place) ∙ no) ∙ ap (trees_by all insides place) (or_false (list_any (is_word_inside place) (take index all))))
+          (sym (own place) ∙ unlike) ∙ ap (trees_by all insides place) (or_false (list_any (is_word_inside place) (take index all))))
 
       by : (b : Bool) → is_same_payload found place ≡ b →
           (if b then tree_at_without all insides found else trees_after all (take index all) insides place)
           ≡ trees_after all (take (index + 1) all) insides place
-      by true yes = here (same_place found place yes)
-      by false no = other (λ same. true≢false (sym (place_found found place same) ∙ no)) (is_same_payload place found) refl
+      by true alike = here (same_place found place alike)
+      by false unlike = other (λ same. true≢false (sym (place_found found place same) ∙ unlike)) (is_same_payload place found) refl
 
   pub is_whole : (found : PayloadPlace) → list_any (is_word_inside found) (take index all) ≡ false →
       trees_after all (take index all) insides found ≡ whole_devicetrees insides found
@@ -129,8 +129,8 @@ no_words place (word ∷ words) is = by (is_word_inside place word) refl is (λ 
   where
     by : (b : Bool) → is_word_inside place word ≡ b → list_any (is_word_inside place) (word ∷ words) ≡ false →
         (list_any (is_word_inside place) words ≡ false → words_inside place words ≡ []) → words_inside place (word ∷ words) ≡ []
-    by true yes is rest = absurd (true≢false (rw yes at is))
-    by false no is rest = rw no (rest (rw no at is))
+    by true alike is rest = absurd (true≢false (rw alike at is))
+    by false unlike is rest = rw unlike (rest (rw unlike at is))
 
 whole_if_none : (words : List Ignored) (insides : Insides) (place : PayloadPlace) → list_any (is_word_inside place) words ≡ false →
     whole_devicetrees insides place ≡ tree_at_without words insides place

@@ -19,7 +19,6 @@ ghost use Rattle.bi_describe.specs.Devicetrees.{Devicetree};
 ghost use Rattle.bi_describe.specs.InsideTrees.{IsBlobInside, IsNamesError, devicetree_of};
 ghost use Rattle.bi_describe.specs.InsideTrees.{long_names};
 ghost use Rattle.bi_describe.specs.EntryTokens.{root_tokens};
-ghost use Rattle.bi_describe.specs.MadeInsides.{entries_inside};
 ghost use Rattle.bi_describe.specs.MadeWords.{ignored_words};
 ghost use Rattle.bi_describe.specs.ReadDescription.{root_lines};
 ghost use Rattle.bi_describe.specs.ReducedMeanings.{ReducedTree, kept_root as kept_root_of};
@@ -87,7 +86,7 @@ pub(crate) struct InsideTree<'a> {
 }
 
 impl<'a> InsideTree<'a> {
-    ghost use Rattle.bi_describe.specs.MadeInsides.{HoldsInside};
+    ghost use Rattle.bi_describe.specs.MadeInsides.{HoldsInside, entries_inside};
 
     /// Returns the devicetree that is this blob, inside the payload with this path. There is room
     /// for so many bytes of long names of properties, and less after the call.
@@ -163,18 +162,18 @@ impl<'a> InsideTree<'a> {
         json.put(JsonToken::Name("devicetree"));
         json.put(JsonToken::BeginObject);
         put_members_of_blob(&self.blob, json);
-        put_root_of(&self.nodes, json);
+        self.put_root_member(json);
         json.put(JsonToken::EndObject);
     }
-}
 
-/// Puts the member of the root, if that is not left out.
-fn put_root_of<J: JsonPen>(nodes: &Option<InsideNodes>, json: &mut J)
-    ensures { (entries : List EntryModel) → entries_inside nodes.now ≡ Some entries
-        → J.puts json.old (root_tokens entries) json.new }
-{
-    if let Some(nodes) = nodes {
-        put_root(&nodes.entries, json);
+    /// Puts the member of the root, if that is not left out.
+    fn put_root_member<J: JsonPen>(&self, json: &mut J)
+        ensures { (entries : List EntryModel) → entries_inside self.now.nodes ≡ Some entries
+            → J.puts json.old (root_tokens entries) json.new }
+    {
+        if let Some(nodes) = &self.nodes {
+            put_root(&nodes.entries, json);
+        }
     }
 }
 

@@ -8,4 +8,4 @@ returns g c payload tree holds =
     subst (λ tokens. g.J.JsonPen.puts c.args.json.now tokens c.put-3.new.self)
     (member_in_parts tree c.args.self.now.blob _ holds.cpu holds.reservations refl)
     (then _ _ _ _ _ c.put.ensures (then _ _ _ _ _ c.put-2.ensures (then _ _ _ _ _ c.put_members_of_blob.ensures
-    (then _ _ _ _ _ (c.put_root_of.ensures _ holds.entries) c.put-3.ensures))))
+    (then _ _ _ _ _ (c.put_root_member.ensures _ holds.entries) c.put-3.ensures))))
