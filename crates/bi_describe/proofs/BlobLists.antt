@@ -3,6 +3,8 @@ use Rattle.std.proofs.Common.{append_assoc, option_map, refl, sym, ap, subst, �
 use Rattle.std.specs.Prelude.{IfNone, IfSome}
 use Rattle.std.specs.List.{AllByRecursion, AllZip}
 use Rattle.std.proofs.lemmas.List.{map-append, take_more}
+use Rattle.bi_base.specs.declared.fault.Error.{Error}
+use Rattle.bi_base.specs.declared.fault.Error.TheVariants as error
 use Rattle.bi_base.specs.Limits.{Limits}
 use Rattle.bi_fdt.specs.Content.{Blob}
 use Rattle.bi_fit.specs.declared.image.Image.{Image}
@@ -11,7 +13,7 @@ use Rattle.bi_describe.specs.declared.describe.inside.InsideTree.{InsideTree}
 use Rattle.bi_describe.specs.declared.describe.insides.PayloadIndex.{PayloadIndex}
 use Rattle.bi_describe.specs.Devicetrees.{HasInside}
 use Rattle.bi_describe.specs.IgnoredWords.{payload_path}
-use Rattle.bi_describe.specs.InsideTrees.{IsBlobInside, devicetree_of, long_names}
+use Rattle.bi_describe.specs.InsideTrees.{IsBlobInside, IsNamesError, devicetree_of, long_names}
 use Rattle.bi_describe.specs.MadeInsides.{AreBlobsInside, HasBlob, HoldBlobs, HoldsBlob, IsBlobOrNone, long_names_in, place_at}
 
 -- Lists of blobs that grow.
@@ -105,3 +107,15 @@ pub has_blob : (limits : Limits) (payload : List ℕ) (blob : Option Blob) → I
     IfNone blob (HasInside limits payload None) → HasBlob limits (Some payload) blob
 has_blob limits payload None some none = none
 has_blob limits payload (Some blob) some none = some
+
+-- The error of counting the long names of one more blob, if there is room for those before it.
+pub names_error_more : (limit room : ℕ) (blobs : List (Option Blob)) (index : ℕ) (blob : Option Blob) (e : Error) →
+    index < length blobs → blob ≡ get_or blobs index blob → limit ≤ room + long_names_in (take index blobs) →
+    IsNamesError limit room (long_names (option_map devicetree_of blob)) e → IsNamesError limit limit (long_names_in blobs) e
+names_error_more limit room blobs index blob (error.Refused fault) within is left failed =
+    let first = take index blobs in
+    let next = ap long_names_in (take_more blobs index blob within ∙ ap (λ item. first ++ item ∷ []) (sym is)) in
+    (failed.0, omega (arith, left, failed.1, next, long_more first blob, long_first (index + 1) blobs))
+names_error_more limit room blobs index blob error.OutOfMemory within is left failed = tt
+names_error_more limit room blobs index blob error.ReadFailed within is left failed = absurd failed
+names_error_more limit room blobs index blob error.WriteFailed within is left failed = absurd failed

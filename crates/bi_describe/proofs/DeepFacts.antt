@@ -1,5 +1,5 @@
 use Rattle.std.proofs.Common.{◌≡◌, ℕ, ◌+◌, List, [], ◌∷◌, ◌++◌, Option, None, Some, map, refl, sym, ap, subst, ◌∙◌}
-use Rattle.std.proofs.Common.{◌-◌, ◌≤◌, arith, flat_map, get_or, length}
+use Rattle.std.proofs.Common.{◌-◌, ◌≤◌, suc, arith, flat_map, get_or, length}
 use Rattle.std.specs.Borrow.{Bor}
 use Rattle.std.proofs.lemmas.Grind.{flat_map-append}
 use Rattle.std.proofs.lemmas.List.{map-append}
@@ -134,4 +134,6 @@ pub last_is : (names : List (Bor (List ℕ))) (name : Bor (List ℕ)) → 1 ≤ 
     (get_or names (length names - 1) name).now ≡ name_of_last (bytes_of_names names)
 last_is [] name some = absurd (omega (arith, some))
 last_is (first ∷ []) name some = refl
-last_is (first ∷ next ∷ later) name some = last_is (next ∷ later) name (omega arith)
+last_is (first ∷ next ∷ later) name some =
+    let one_more : length (first ∷ next ∷ later) - 1 ≡ suc (length (next ∷ later) - 1) = omega arith in
+    ap (λ n. (get_or (first ∷ next ∷ later) n name).now) one_more ∙ last_is (next ∷ later) name (omega arith)

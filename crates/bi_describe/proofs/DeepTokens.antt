@@ -42,7 +42,7 @@ pub legacy_in_parts_with : (parts : List Json) (image : LegacyImage) →
     one BeginObject ++ (member_tokens (header_members image)
     ++ (one (MemberName (codes "parts")) ++ (one BeginArray ++ (value_tokens parts ++ (one EndArray ++ one EndObject)))))
     ≡ json_tokens (legacy_object_with parts image)
-legacy_in_parts_with parts image = simp (member_tokens-append, append_assoc, append-nil) refl
+legacy_in_parts_with parts image = simp (append_assoc, append-nil) refl
 
 module _ (insides : Insides) where
   abbrev tokens_of : List ℕ → List EntryModel → List JsonToken

@@ -10,6 +10,8 @@ use Rattle.bi_fit.proofs.Meanings.{same_in_some}
 use Rattle.bi_describe.specs.declared.describe.inside.InsideTree.{InsideTree}
 use Rattle.bi_describe.specs.declared.describe.insides.Insides.{Insides as MadeInsides}
 use Rattle.bi_describe.specs.declared.ignored.PayloadPlace.{PayloadPlace as MadePlace}
+use Rattle.bi_blob.specs.Tree.{with_each_node}
+use Rattle.bi_describe.specs.ComparedNodes.{plain_compared}
 use Rattle.bi_describe.specs.DeepDescriptions.{whole_devicetree}
 use Rattle.bi_describe.specs.Devicetrees.{Devicetree, Insides}
 use Rattle.bi_describe.specs.IgnoredWords.{payload_path}
@@ -18,8 +20,8 @@ use Rattle.bi_describe.specs.MadeInsides.{HoldInsides, HoldsAt, HoldsInside, is_
 use Rattle.bi_describe.specs.MadeInsides.{tree_or_none}
 use Rattle.bi_describe.specs.MadeInsides.{tree_with_index, whole_devicetrees, with_tree_at}
 use Rattle.bi_describe.specs.MadeWords.{place_of_payload}
-use Rattle.bi_describe.specs.OpenedPayloads.{is_same_payload, tree_at_without, tree_without}
-use Rattle.bi_describe.specs.ReducedMeanings.{ReducedTree}
+use Rattle.bi_describe.specs.OpenedPayloads.{is_same_payload, tree_at_without, tree_without, words_inside}
+use Rattle.bi_describe.specs.ReducedMeanings.{ReducedTree, kept_root}
 use Rattle.bi_describe.proofs.OneInside.{place_found, same_place}
 use Rattle.bi_describe.proofs.ReadInsides.{index_at_place}
 
@@ -244,3 +246,20 @@ is_one (first ∷ later) (suc index) place is within =
         (b || is_one_of_places later (place_of_payload place.now)) ≡ true
     by true rest = refl
     by false rest = rest
+
+-- What words leave out of one tree.
+pub left_out_of_one : (words inner : List Ignored) (place : PayloadPlace) (found : Option Devicetree) (old tree : InsideTree) →
+    inner ≡ words_inside place words →
+    ((payload : List ℕ) (own : Devicetree) → HoldsInside payload (whole_devicetree own) old → HoldsInside payload (record {
+      cpu = own.cpu;
+      reservations = own.reservations;
+      root = kept_root inner (with_each_node plain_compared own.root);
+    }) tree) → HoldsAt place (option_map whole_devicetree found) (Some old) →
+    HoldsAt place (option_map (tree_without words place) found) (Some tree)
+left_out_of_one words inner place None old tree are less held = absurd held
+left_out_of_one words inner place (Some own) old tree are less held =
+    subst (λ inner. HoldsInside (payload_path place) (record {
+      cpu = own.cpu;
+      reservations = own.reservations;
+      root = kept_root inner (with_each_node plain_compared own.root);
+    }) tree) are (less (payload_path place) own held)

@@ -71,7 +71,7 @@ length_inside payload lines = text_length (map (line_inside payload) lines)
 
 length_inside-append : (payload : List ℕ) (xs ys : List Line) →
     length_inside payload (xs ++ ys) ≡ length_inside payload xs + length_inside payload ys
-length_inside-append payload [] ys = refl
+length_inside-append payload [] ys = omega arith
 length_inside-append payload (x ∷ xs) ys =
     let rest = length_inside-append payload xs ys in
     let one = length-append (line_text (line_inside payload x)) (text_of_lines (map (line_inside payload) (xs ++ ys))) in

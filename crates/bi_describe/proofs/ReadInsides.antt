@@ -64,6 +64,10 @@ pub record SaysWhere (index : PayloadIndex) (payloads : List (Option (List ℕ))
   pub back : (place : PayloadPlace) (payload : List ℕ) → IsThere index payloads place payload → Contains places (place, payload)
   pub at_place : (place : PayloadPlace) (number : ℕ) → payload_index_in index place ≡ Some number → place_at index number ≡ place
 
+-- Both are the same.
+abbrev SamePair : PayloadPlace × List ℕ → PayloadPlace × List ℕ → Type 0
+SamePair one other = one ≡ other
+
 -- Parts,
 record IsPartAt (first : ℕ) (parts : List (List ℕ)) (place : PayloadPlace) (payload : List ℕ) : Type 0 where
   pub number : ℕ
@@ -77,7 +81,7 @@ part_at first (part ∷ later) place payload has =
     by (Contains-cases (OfPart first, part) (payloads_of_parts (first + 1) later) (place, payload) has)
     (λ has. part_at (first + 1) later place payload has)
   where
-    by : ((OfPart first, part) ≡ (place, payload)) ⊎ Contains (payloads_of_parts (first + 1) later) (place, payload) →
+    by : SamePair (OfPart first, part) (place, payload) ⊎ Contains (payloads_of_parts (first + 1) later) (place, payload) →
         (Contains (payloads_of_parts (first + 1) later) (place, payload) → IsPartAt (first + 1) later place payload) →
         IsPartAt first (part ∷ later) place payload
     by (inl same) rest = record {
@@ -110,9 +114,10 @@ pub parts_say_where : (parts : List (List ℕ)) → SaysWhere kind.Parts (map So
 parts_say_where parts = record {
   there = λ place payload has.
       let found = part_at 0 parts place payload has in
-      record { number = found.number; is_index = rw found.is_place (ap Some (omega arith)); is_payload = found.is_payload };
+      record { number = found.number; is_index = ap (payload_index_in kind.Parts) found.is_place ∙ ap Some (omega arith); is_payload = found.is_payload };
   back = λ place payload there.
-      subst (λ place. Contains (payloads_of_parts 0 parts) (place, payload)) (index_of_part place there.number there.is_index)
+      subst (λ place. Contains (payloads_of_parts 0 parts) (place, payload))
+      (ap OfPart (omega arith) ∙ index_of_part place there.number there.is_index)
       (part_back 0 there.number parts payload there.is_payload);
   at_place = index_of_part;
 }
@@ -172,7 +177,7 @@ image_at first (image ∷ later) place payload distinct has =
     }
 
     here : (own : List ℕ) → image.payload ≡ Some own →
-        ((OfImageNamed image.name, own) ≡ (place, payload)) ⊎ Contains (places_of later) (place, payload) →
+        SamePair (OfImageNamed image.name, own) (place, payload) ⊎ Contains (places_of later) (place, payload) →
         (Contains (places_of later) (place, payload) → IsImageAt (first + 1) later place payload) →
         IsImageAt first (image ∷ later) place payload
     here own is (inl same) rest = record {
@@ -257,7 +262,8 @@ images_say_where images index distinct by_name no_part at_number = record {
       let found = image_at 0 images place payload distinct has in
       record {
         number = found.number;
-        is_index = ap (payload_index_in index) found.is_place ∙ by_name found.name ∙ found.is_index;
+        is_index = ap (payload_index_in index) found.is_place ∙ by_name found.name ∙ found.is_index
+            ∙ ap Some (omega arith);
         is_payload = found.is_payload;
       };
   back = λ place payload there. back place payload there.number there.is_index there.is_payload;
@@ -392,7 +398,8 @@ trees_are_held made blobs at_place held = λ place. by place (payload_index_in m
     by place None is = rw is tt
     by place (Some number) is =
         rw is (number_held made.index place number (slice_get blobs number) (slice_get made.trees.items number) (at_place place number is)
-        (held_at made.index 0 number blobs made.trees.items held))
+        (subst (λ n. HoldsNumber made.index n (slice_get blobs number) (slice_get made.trees.items number)) (omega arith)
+        (held_at made.index 0 number blobs made.trees.items held)))
 
 -- ---- an image that was read
 

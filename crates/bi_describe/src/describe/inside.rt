@@ -118,7 +118,7 @@ impl<'a> InsideTree<'a> {
     ///
     /// Fails only if memory runs out.
     pub(super) fn leave_out(&mut self, alloc: Global, words: &[Ignored]) -> Result<(), AllocError>
-        ensures left_out { OnOk result ((payload : List ℕ) (tree : Devicetree)
+        ensures { OnOk result ((payload : List ℕ) (tree : Devicetree)
             → HoldsInside payload (whole_devicetree tree) self.old → HoldsInside payload
             (record {
               cpu = tree.cpu;

@@ -1,4 +1,4 @@
-use Rattle.std.proofs.Common.{rules, sym, subst, true≢false}
+use Rattle.std.proofs.Common.{sym, subst, true≢false}
 use Rattle.std.specs.Prelude.{IsOk}
 use Rattle.bi_norm.specs.Reading.{meaning_of}
 use Rattle.bi_describe.specs.DeepDescribing.{deep_text}
@@ -14,10 +14,3 @@ unreachable-requires c =
     (written_utf8 (deep_text c.args.format deep) c.new-pen.result c.put.new.pen c.in_ok-into_vec.field-0.items
     (c.deep_is_ascii.ensures is.insides is.are_inside) c.new-pen.ensures c.in_ok-into_vec.ensures.text
     (c.put.ensures.put deep is.holds)))))
-
-pub returns-in-Ok-clause-described : goal.returns-in-Ok-clause-described
-returns-in-Ok-clause-described c =
-    let is = c.in_ok-deep.ensures.described in
-    let deep : DeepMeaning = record { meaning = meaning_of c.args.image.now; insides = is.insides } in
-    let put = c.put.ensures.put deep is.holds in
-    record { insides = is.insides; are_inside = is.are_inside; within = is.within; is_text = search (rules, put) }

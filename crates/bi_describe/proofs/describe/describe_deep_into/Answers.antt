@@ -17,4 +17,12 @@ returns-clause-failed g c =
     wrote_none_of_kind g.S.Sink.appends g.S.Sink.fails _ _ c.args.sink.now text c.result.result _ is (search (rules, wrote))
 
 pub returns-clause-appended : goal.returns-clause-appended
-returns-clause-appended g c = ?
+returns-clause-appended g c =
+    let meaning = meaning_of c.args.image.now in
+    let made = c.in_ok-deep.ensures.described in
+    let deep : DeepMeaning = record { meaning = meaning; insides = made.insides } in
+    let text = deep_text c.args.format deep in
+    let is : IsDeepTextOf c.args.format c.args.limits meaning text =
+    record { insides = made.insides; are_inside = made.are_inside; within = made.within; is_text = refl } in
+    let wrote = c.result.ensures.wrote c.new-pen.result text c.new-pen.ensures.not_failed (c.put.ensures.put deep made.holds) in
+    search (rules, is, wrote)

@@ -1,5 +1,6 @@
-use Rattle.std.proofs.Common.{ap, ◌∙◌}
+use Rattle.std.proofs.Common.{ap, subst, sym, ◌∙◌}
 use Rattle.std.proofs.lemmas.Result.{err_from_is_err_and}
+use Rattle.bi_fdt.specs.Order.{IsNumberOrder}
 use Rattle.bi_fit.specs.Content.{FitModel, tree_of}
 use Rattle.bi_describe.specs.TreeEntries.{tree_entries}
 use Rattle.bi_describe.proofs.DescribedImages.{fit_lines_are, fit_tokens_are}
@@ -32,4 +33,9 @@ returns-clause-tokens c =
 pub entries_of-requires-clause-order : goal.entries_of-requires-clause-order
 entries_of-requires-clause-order c =
     let order = c.in_ok-order.ensures.order in
-    record { names = c.in_ok-order.order.names; sorted = order.sorted; in_order = order.in_order }
+    record {
+      names = c.in_ok-order.order.names;
+      sorted = order.sorted;
+      in_order = subst (λ (content : FitModel). IsNumberOrder c.in_ok-order.order.names content.blob.table c.in_ok-order.order.properties)
+          (sym c.in_ok-bounded.ensures.same) order.in_order;
+    }

@@ -11,7 +11,7 @@ returns-in_err-count_names-clause-failed c =
     let names = bytes_of c.names.result.now in
     let more : length (flat_map name_if_long names) ≤ long_names (Some (devicetree_of blob)) =
     subst (λ names. length (flat_map name_if_long names) ≤ long_names (Some (devicetree_of blob))) (sym c.names.ensures.names)
-    (names_of_blob blob _ c.names.ensures.distinct c.names.ensures.in_tree c.requires.no_images) in
+    (names_of_blob blob _ c.names.ensures.distinct c.names.ensures.in_tree c.requires.inside.no_images) in
     let longer : c.args.room.now < long_names (Some (devicetree_of blob)) = omega (arith, more, c.in_err-count_names.ensures.fault.1) in
     search (rules, longer)
 
@@ -21,5 +21,5 @@ returns-clause-room c =
     let names = bytes_of c.names.result.now in
     let more : length (flat_map name_if_long names) ≤ long_names (Some (devicetree_of blob)) =
     subst (λ names. length (flat_map name_if_long names) ≤ long_names (Some (devicetree_of blob))) (sym c.names.ensures.names)
-    (names_of_blob blob _ c.names.ensures.distinct c.names.ensures.in_tree c.requires.no_images) in
+    (names_of_blob blob _ c.names.ensures.distinct c.names.ensures.in_tree c.requires.inside.no_images) in
     omega (arith, more, c.in_ok-count_names.ensures.ok)
