@@ -40,14 +40,6 @@ held_more index first (other ∷ blobs) (next ∷ trees) blob tree held is = (
       (subst (λ n. HoldsBlob (payload_path (place_at index n)) blob tree) (omega arith) is),
 )
 
-pub held_length : (index : PayloadIndex) (first : ℕ) (blobs : List (Option Blob)) (trees : List (Option InsideTree)) →
-    HoldBlobs index first blobs trees → length blobs ≡ length trees
-held_length index first [] [] held = refl
-held_length index first [] (tree ∷ trees) held = absurd held
-held_length index first (blob ∷ blobs) [] held = absurd held
-held_length index first (blob ∷ blobs) (tree ∷ trees) held =
-    let rest = held_length index (first + 1) blobs trees held.1 in omega (arith, rest)
-
 pub long_more : (blobs : List (Option Blob)) (blob : Option Blob) →
     long_names_in (blobs ++ blob ∷ []) ≡ long_names_in blobs + long_names (option_map devicetree_of blob)
 long_more [] blob = omega arith

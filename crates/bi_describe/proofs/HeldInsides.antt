@@ -1,6 +1,6 @@
 use Rattle.std.proofs.Common.{◌≡◌, ℕ, zero, suc, ◌+◌, ◌<◌, Bool, true, false, List, [], ◌∷◌, Option, None, Some}
 use Rattle.std.proofs.Common.{arith, get_or, length, take, inl, inr, option_map, refl, set, sym, ap, subst, ◌∙◌, ◌⊎◌, true≢false}
-use Rattle.std.specs.Prelude.{◌==◌, ◌||◌, slice_get}
+use Rattle.std.specs.Prelude.{◌==◌, ◌||◌, Err, Ok, OnOk, Result, slice_get}
 use Rattle.std.proofs.lemmas.List.{take_more}
 use Rattle.bi_base.proofs.ListMembers.{each-append}
 use Rattle.std.proofs.lemmas.Bool.Decides.{eqb_tells}
@@ -263,3 +263,8 @@ left_out_of_one words inner place (Some own) old tree are less held =
       reservations = own.reservations;
       root = kept_root inner (with_each_node plain_compared own.root);
     }) tree) are (less (payload_path place) own held)
+
+-- What holds after a call that succeeds has what follows from it.
+pub on_ok : {T E P Q : Type 0} (result : Result T E) → (P → Q) → OnOk result P → OnOk result Q
+on_ok (Ok value) follows is = follows is
+on_ok (Err error) follows is = tt
