@@ -3,12 +3,14 @@ use Rattle.std.proofs.Common.{append_assoc, option_map, refl, sym, ap, subst, �
 use Rattle.std.specs.Prelude.{IfNone, IfSome}
 use Rattle.std.specs.List.{AllByRecursion, AllZip}
 use Rattle.std.proofs.lemmas.List.{map-append, take_more}
+use Rattle.std.proofs.lemmas.Option.{slice_get-get_or}
 use Rattle.bi_base.specs.declared.fault.Error.{Error}
 use Rattle.bi_base.specs.declared.fault.Error.TheVariants as error
 use Rattle.bi_base.specs.Limits.{Limits}
 use Rattle.bi_fdt.specs.Content.{Blob}
 use Rattle.bi_fit.specs.declared.image.Image.{Image}
 use Rattle.bi_fit.specs.Content.{ImageModel, image_model, payloads_of_models}
+use Rattle.bi_fit.proofs.Meanings.{same_in_some}
 use Rattle.bi_describe.specs.declared.describe.inside.InsideTree.{InsideTree}
 use Rattle.bi_describe.specs.declared.describe.insides.PayloadIndex.{PayloadIndex}
 use Rattle.bi_describe.specs.Devicetrees.{HasInside}
@@ -85,6 +87,16 @@ image_more limits images index image blobs blob is within are has =
     ∙ ap payloads_of_models (map-append image_model first (image ∷ []))
     ∙ map-append (λ (image : ImageModel). image.payload) (map image_model first) (image_model image ∷ [])))
     (zip_more (HasBlob limits) (payloads_of_models (map image_model first)) blobs (image_model image).payload blob are has)
+
+pub image_next : (limits : Limits) (images : List Image) (index : ℕ) (default : Image) (blobs : List (Option Blob)) (blob : Option Blob) →
+    index < length images → AreBlobsInside limits (payloads_of_models (map image_model (take index images))) blobs →
+    HasBlob limits (image_model (get_or images index default)).payload blob →
+    AreBlobsInside limits (payloads_of_models (map image_model (take (index + 1) images))) (blobs ++ blob ∷ [])
+image_next limits images index default blobs blob within are has =
+    let image = get_or images index default in
+    image_more limits images index image blobs blob
+    (same_in_some image (get_or images index image)
+    (sym (slice_get-get_or images index default within) ∙ slice_get-get_or images index image within)) within are has
 
 -- One more part.
 pub part_more : (limits : Limits) (all rest : List (Option (List ℕ))) (payload : List ℕ) (blobs : List (Option Blob)) (blob : Option Blob) →

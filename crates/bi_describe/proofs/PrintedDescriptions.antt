@@ -107,6 +107,11 @@ fit_is_ascii Lines content held =
     line_texts_are_ascii (fit_lines (tree_of content)) (fit_can content.blob.file (tree_of content) (held_means content held))
 fit_is_ascii Json content held = json_lines_are_ascii (fit_object (tree_of content))
 
+-- What a pen in memory has of a text is the text.
+pub written_text : (text : List ℕ) (begin end : Option (List ℕ)) (items : List ℕ) → begin ≡ Some [] → end ≡ Some items →
+    MemoryPuts begin text end → items ≡ text
+written_text text begin end items begins ends put = rw (begins, ends) at put
+
 -- What a pen in memory has of a text that is ASCII is UTF-8.
 pub written_utf8 : (text : List ℕ) (begin end : Option (List ℕ)) (items : List ℕ) → IsAscii text → begin ≡ Some [] → end ≡ Some items →
     MemoryPuts begin text end → IsUtf8 items

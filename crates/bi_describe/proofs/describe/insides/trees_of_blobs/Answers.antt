@@ -13,7 +13,7 @@ pub tree_of-requires : goal.tree_of-requires
 tree_of-requires c =
     let gives = c.into_iter-blob-iterator.ensures.into_iter_gives in
     let road = YieldsList-from_vec c.args.blobs.items gives.0 (gives.1 ∙ c.args.blobs.ok.0) in
-    let turn = YieldsList-turn road c.loop-blob.yielded _ c.loop-blob.yielded_by _ _ c.in-Some.blob c.in-Some.is c.next.ensures.steps in
+    let turn = YieldsList-turn road c.loop-blob.yielded _ c.loop-blob.yielded_by _ c.next.new.self c.in-Some.blob c.in-Some.is c.next.ensures.steps in
     subst (IsBlobOrNone c.args.limits) (sym turn.1)
     (each_at (IsBlobOrNone c.args.limits) c.args.blobs.items (length c.loop-blob.yielded) c.in-Some.blob c.requires turn.0)
 
@@ -21,7 +21,7 @@ pub returns-in_err-tree_of-clause-failed : goal.returns-in_err-tree_of-clause-fa
 returns-in_err-tree_of-clause-failed c =
     let gives = c.into_iter-blob-iterator.ensures.into_iter_gives in
     let road = YieldsList-from_vec c.args.blobs.items gives.0 (gives.1 ∙ c.args.blobs.ok.0) in
-    let turn = YieldsList-turn road c.loop-blob.yielded _ c.loop-blob.yielded_by _ _ c.in-Some.blob c.in-Some.is c.next.ensures.steps in
+    let turn = YieldsList-turn road c.loop-blob.yielded _ c.loop-blob.yielded_by _ c.next.new.self c.in-Some.blob c.in-Some.is c.next.ensures.steps in
     let p = err_from_is_err_and c.from_residual-in_err-tree_of.result c.from_residual-in_err-tree_of.ensures.1 in
     rw (p.1, p.2) (names_error_more c.args.limits.file c.loop-blob.room c.args.blobs.items (length c.loop-blob.yielded) c.in-Some.blob
     c.in_err-tree_of.field-0.0 turn.0 turn.1 c.loop-blob.invariant.room c.in_err-tree_of.ensures.failed)
@@ -30,7 +30,7 @@ pub loop-blob-preserved : goal.loop-blob-preserved
 loop-blob-preserved c =
     let gives = c.into_iter-blob-iterator.ensures.into_iter_gives in
     let road = YieldsList-from_vec c.args.blobs.items gives.0 (gives.1 ∙ c.args.blobs.ok.0) in
-    let turn = YieldsList-turn road c.loop-blob.yielded _ c.loop-blob.yielded_by _ _ c.in-Some.blob c.in-Some.is c.next.ensures.steps in
+    let turn = YieldsList-turn road c.loop-blob.yielded _ c.loop-blob.yielded_by _ c.next.new.self c.in-Some.blob c.in-Some.is c.next.ensures.steps in
     let index = c.args.index.now in
     let blobs = c.args.blobs.items in
     let blob = c.in-Some.blob in

@@ -13,6 +13,6 @@ returns c payload tree holds =
       path = holds.path;
       cpu = holds.cpu;
       reservations = holds.reservations;
-      entries = c.in_ok-nodes_that_stay.ensures ∙ ap (entries_that_stay words) holds.entries
+      entries = c.in_ok-self.ensures ∙ ap (entries_that_stay words) holds.entries
           ∙ kept_root_entries words (with_each_node plain_compared tree.root) _ refl;
     }
