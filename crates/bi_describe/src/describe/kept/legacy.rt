@@ -251,7 +251,7 @@ fn put_deep_parts<L: DeepPen>(
     opened: &[&PayloadPlace],
     pen: &mut L,
 )
-    ensures put { (trees : Place → Option ReducedTree) → HoldInsides trees insides.old
+    ensures { (trees : Place → Option ReducedTree) → HoldInsides trees insides.old
         → L.puts pen.old (tokens_of_lines (lines_with_inside (shown_by trees opened.now)
         (reduced_part_lines (map numbered_part parts.now)))) pen.new }
 {
