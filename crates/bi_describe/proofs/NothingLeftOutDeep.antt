@@ -53,7 +53,7 @@ meaning_closed (OfReducedTree tree) = (λ i. OfReducedTree (record {
 
 -- ---- lines
 
-tree_stays : (payload : PayloadPlace) (found : Option Devicetree) →
+pub tree_stays : (payload : PayloadPlace) (found : Option Devicetree) →
     option_map (tree_without [] payload) found ≡ option_map whole_devicetree found
 tree_stays payload None = refl
 tree_stays payload (Some tree) = (λ i. Some (record {

@@ -149,7 +149,7 @@ fn written_differences(
 #[derive(Drop)]
 struct KeptDeep<'a, 'b> {
     image: KeptImage<'a, 'b>,
-    insides: Insides<'a>,
+    insides: Insides<'a, 'b>,
 }
 
 impl<'a, 'b> KeptDeep<'a, 'b> {

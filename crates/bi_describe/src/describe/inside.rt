@@ -4,9 +4,9 @@ mod blobs;
 mod paths;
 mod that_stay;
 
-ghost use Rattle.std.specs.Prelude.{◌≡◌, ◌∷◌, ◌≤◌, ◌↔◌, ⊤, [], IfErr, IfOk, IsTrue, List};
-ghost use Rattle.std.specs.Prelude.{None, OnOk, Option, Some, if◌then◌else◌, length, map, ℕ};
-ghost use Rattle.std.specs.Option.{option_map};
+ghost use Rattle.std.specs.Prelude.{◌≡◌, ◌+◌, ◌∷◌, ◌<◌, ◌≤◌, ◌↔◌, IfErr, IfOk, IsTrue, List};
+ghost use Rattle.std.specs.Prelude.{OnOk, Some, get_or, length, map, ℕ};
+ghost use Rattle.bi_blob.specs.Blob.{end_pair};
 ghost use Rattle.bi_blob.specs.Tree.{with_each_node};
 ghost use Rattle.bi_common.specs.CommonLines.{reservation_of};
 ghost use Rattle.bi_common.specs.JsonTokens.{member_tokens};
@@ -16,11 +16,13 @@ ghost use Rattle.bi_describe.specs.DeepDescriptions.{inside_cpu_line, inside_lin
 ghost use Rattle.bi_describe.specs.DeepDescriptions.{inside_reservation_line, whole_devicetree};
 ghost use Rattle.bi_describe.specs.DeepJson.{inside_members};
 ghost use Rattle.bi_describe.specs.Devicetrees.{Devicetree};
-ghost use Rattle.bi_describe.specs.InsideTrees.{IsBlobInside, IsInsideError, devicetree_of};
+ghost use Rattle.bi_describe.specs.InsideTrees.{IsBlobInside, IsNamesError, devicetree_of};
+ghost use Rattle.bi_describe.specs.InsideTrees.{long_names};
+ghost use Rattle.bi_describe.specs.EntryTokens.{root_tokens};
 ghost use Rattle.bi_describe.specs.MadeWords.{ignored_words};
 ghost use Rattle.bi_describe.specs.ReadDescription.{root_lines};
 ghost use Rattle.bi_describe.specs.ReducedMeanings.{ReducedTree, kept_root as kept_root_of};
-ghost use Rattle.bi_describe.specs.TreeEntries.{as_entry, most_open as most_open_of};
+ghost use Rattle.bi_describe.specs.TreeEntries.{EntryModel, as_entry, most_open as most_open_of};
 
 use super::deep_pen::DeepPen;
 use super::entries::Entry;
@@ -34,7 +36,7 @@ use bi_common::json_writer::{JsonPen, JsonToken};
 use bi_common::lines::{LinePen, put_line};
 use bi_fdt::Blob;
 pub(super) use blobs::read_blob;
-use blobs::{check_names, entries_of_blob};
+use blobs::{count_names, entries_of_blob};
 use paths::InsidePen;
 use std::alloc::{AllocError, Global};
 use that_stay::{have_same_nodes, nodes_that_stay};
@@ -55,7 +57,7 @@ impl<'a> InsideNodes<'a> {
     /// Fails only if memory runs out.
     fn new(alloc: Global, entries: Vec<Entry<'a>>) -> Result<InsideNodes<'a>, AllocError>
         ensures { IfOk result (λ nodes. map as_entry nodes.entries.items
-            ≡ map as_entry entries.items) }
+            ≡ map as_entry entries.entry.items) }
     {
         let names = vec![in alloc; b"".as_slice(); most_open(&entries)]?;
         Ok(InsideNodes { entries, names })
@@ -84,22 +86,29 @@ pub(crate) struct InsideTree<'a> {
 }
 
 impl<'a> InsideTree<'a> {
-    ghost use Rattle.bi_describe.specs.MadeInsides.{HoldsInside};
+    ghost use Rattle.bi_describe.specs.MadeInsides.{HoldsInside, entries_inside};
 
-    /// Returns the devicetree that is this blob, inside the payload with this path.
+    /// Returns the devicetree that is this blob, inside the payload with this path. There is room
+    /// for so many bytes of long names of properties, and less after the call.
     ///
-    /// Errors: TooLarge at the limit, if the names of properties are longer than that; OutOfMemory.
+    /// Errors: TooLarge at the limit, if they are longer; OutOfMemory.
     pub(super) fn new(
         alloc: Global,
         path: Vec<u8>,
         blob: Blob<'a>,
+        room: &mut usize,
         limits: Limits,
     ) -> Result<InsideTree<'a>, Error>
         requires inside { IsBlobInside limits blob.file blob }
-        ensures holds { IfOk result (HoldsInside path.items (whole_devicetree (devicetree_of blob))) }
-        ensures failed { IfErr result (IsInsideError limits blob.file) }
+        ensures holds { IfOk result
+            (HoldsInside path.items (whole_devicetree (devicetree_of blob.entry))) }
+        ensures room { OnOk result
+            (room.old ≤ room.new + long_names (Some (devicetree_of blob.entry))) }
+        ensures failed { IfErr result
+            (IsNamesError limits.file room.old
+            (long_names (Some (devicetree_of blob.entry)))) }
     {
-        check_names(blob.names(), limits.file())?;
+        count_names(blob.names(), room, limits.file())?;
         let entries = entries_of_blob(alloc, &blob)?;
         let nodes = Some(InsideNodes::new(alloc, entries)?);
         Ok(InsideTree { path, blob, nodes })
@@ -153,10 +162,18 @@ impl<'a> InsideTree<'a> {
         json.put(JsonToken::Name("devicetree"));
         json.put(JsonToken::BeginObject);
         put_members_of_blob(&self.blob, json);
+        self.put_root_member(json);
+        json.put(JsonToken::EndObject);
+    }
+
+    /// Puts the member of the root, if that is not left out.
+    fn put_root_member<J: JsonPen>(&self, json: &mut J)
+        ensures { (entries : List EntryModel) → entries_inside self.now.nodes ≡ Some entries
+            → J.puts json.old (root_tokens entries) json.new }
+    {
         if let Some(nodes) = &self.nodes {
             put_root(&nodes.entries, json);
         }
-        json.put(JsonToken::EndObject);
     }
 }
 
@@ -174,9 +191,25 @@ fn put_head<L: LinePen>(payload: &[u8], blob: &Blob, pen: &mut L)
         ],
         pen,
     );
+    put_reservations(payload, blob, pen);
+}
+
+/// Puts a line for each memory reservation. The payload has this path.
+fn put_reservations<L: LinePen>(payload: &[u8], blob: &Blob, pen: &mut L)
+    ensures { L.puts pen.old (tokens_of_lines
+        (map (inside_reservation_line payload.now) blob.now.reservations)) pen.new }
+{
     for index in 0..blob.reservation_count() {
-        put_reservation(payload, blob.reservation(index).unwrap_or_default(), pen);
+        put_reservation(payload, reservation_at(blob, index), pen);
     }
+}
+
+/// Returns the address and the size of a memory reservation. Requires: there is one at this index.
+fn reservation_at(blob: &Blob, index: usize) -> (u64, u64)
+    requires { index < length blob.now.reservations }
+    ensures { reservation_of result ≡ get_or blob.now.reservations index end_pair }
+{
+    blob.reservation(index).unwrap_or_default()
 }
 
 /// Puts the line of a memory reservation. The payload has this path.
