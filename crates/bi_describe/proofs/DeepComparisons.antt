@@ -29,7 +29,7 @@ use Rattle.bi_describe.proofs.KeptComparisons.{meanings_of}
 
 -- ---- errors
 
-pub described_deep : (limits : Limits) (meaning : Meaning) (made : DeepImage) → IsDeepOf Lines limits meaning made →
+abbrev pub described_deep : (limits : Limits) (meaning : Meaning) (made : DeepImage) → IsDeepOf Lines limits meaning made →
     IsDescribedDeep limits meaning
 described_deep limits meaning made is = record { insides = is.insides; are_inside = is.are_inside; within = is.within }
 
@@ -127,6 +127,15 @@ same_inside words one other places rest trees are rest_same trees_same =
         trees_same.1 (λ place is. same.trees place (sym (are place) ∙ is)),
       )),
     )
+
+-- If they are the same, they are but for the payloads that are opened.
+pub same_rest : (words : List Ignored) (one other : DeepMeaning) (places : PayloadPlace → Bool) →
+    ((place : PayloadPlace) → places place ≡ is_opened words one.insides other.insides place) → AreSameDeep words one other →
+    unless_opened places (meaning_without words one.meaning) ≡ unless_opened places (meaning_without words other.meaning)
+same_rest words one other places are same =
+    let all : places ≡ is_opened words one.insides other.insides = (λ i place. are place i) in
+    subst (λ those. unless_opened those (meaning_without words one.meaning) ≡ unless_opened those (meaning_without words other.meaning))
+    (sym all) same.rest
 
 -- There are differences if and only if meanings are not the same.
 none_if_same : (words : List Ignored) (one other : DeepMeaning) (same : Bool) →

@@ -1,17 +1,22 @@
 use Rattle.std.proofs.Common.{◌≡◌, ℕ, false, List, [], ◌∷◌, ◌++◌, Option, None, Some, append-nil, bytes_eq, codes, drop, map, refl, ap}
-use Rattle.std.proofs.Common.{sym, take, ◌∙◌}
+use Rattle.std.proofs.Common.{◌<◌, ◌+◌, get_or, length, sym, take, ◌∙◌}
+use Rattle.std.proofs.lemmas.Grind.{flat_map-append}
+use Rattle.std.proofs.lemmas.List.{drop_more}
 use Rattle.bi_blob.specs.Blob.{Reservation}
 use Rattle.bi_blob.specs.Tree.{Root}
 use Rattle.bi_fdt.specs.Content.{Blob}
 use Rattle.bi_legacy.specs.Codes.{arch_names, compression_names, name_of_code, os_names, type_names}
 use Rattle.bi_legacy.specs.Meaning.{LegacyImage, image_of}
 use Rattle.bi_common.specs.CommonLines.{header_code_lines, header_field_lines, header_lines, named_field, reservation_line}
-use Rattle.bi_common.specs.LineTokens.{LineToken, tokens_of_lines}
+use Rattle.bi_common.specs.LineTokens.{LineToken, line_tokens, tokens_of_lines}
 use Rattle.bi_common.specs.Lines.{Line, Text}
 use Rattle.bi_describe.specs.declared.describe.kept.legacy.KeptLegacy.{KeptLegacy}
+use Rattle.bi_describe.specs.declared.describe.kept.legacy.KeptPart.{KeptPart}
 use Rattle.bi_describe.specs.ComparedNodes.{ComparedNode}
 use Rattle.bi_describe.specs.DeepDescriptions.{InsidesShown, line_at, lines_with_inside, place_of_line}
-use Rattle.bi_describe.specs.Descriptions.{head_lines}
+use Rattle.bi_describe.specs.Descriptions.{head_lines, part_line}
+use Rattle.bi_describe.specs.Ignoring.{OfPart}
+use Rattle.bi_describe.specs.MadeParts.{digest_of_part}
 use Rattle.bi_describe.specs.KeptEntries.{root_entries}
 use Rattle.bi_describe.specs.KeptImages.{IsKeptLegacy, numbered_part}
 use Rattle.bi_describe.specs.ReadDescription.{root_lines}
@@ -122,3 +127,15 @@ kept_head_lines shown tree cpu reservations is also none = by tree.root none
         ∙ sym (tree_apart shown cpu reservations [])
         ∙ (λ i. tokens_of_lines (lines_with_inside shown (head_lines (is i) ++ (map reservation_line (also i) ++ []))))
     by (Some root) none = absurd cc
+
+-- The lines of a part are put before those of the later ones.
+pub part_before : (shown : InsidesShown) (parts : List KeptPart) (index : ℕ) (part : KeptPart) → part ≡ get_or parts index part →
+    index < length parts →
+    tokens_of_lines (lines_with_inside shown (reduced_part_lines (map numbered_part (drop index parts))))
+    ≡ tokens_of_lines (line_at shown (Some (OfPart part.index)) (part_line part.index (digest_of_part part.part)))
+    ++ tokens_of_lines (lines_with_inside shown (reduced_part_lines (map numbered_part (drop (index + 1) parts))))
+part_before shown parts index part is within =
+    ap (λ (parts : List KeptPart). tokens_of_lines (lines_with_inside shown (reduced_part_lines (map numbered_part parts))))
+    (drop_more parts index part within ∙ ap (λ item. item ∷ drop (index + 1) parts) (sym is))
+    ∙ flat_map-append line_tokens (line_at shown (Some (OfPart part.index)) (part_line part.index (digest_of_part part.part)))
+    (lines_with_inside shown (reduced_part_lines (map numbered_part (drop (index + 1) parts))))

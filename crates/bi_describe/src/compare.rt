@@ -216,7 +216,7 @@ pub fn compare_ignoring_deep(
 {
     let image = read_one(alloc, one, limits)?;
     let other_image = read_other(alloc, other, limits)?;
-    compare_deep_without(alloc, &image, &other_image, limits, options)
+    Ok(compare_deep_without(alloc, &image, &other_image, limits, options)?)
 }
 
 /// Compares what stays of two images. Requires: the images were read.

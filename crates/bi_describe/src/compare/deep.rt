@@ -1,7 +1,7 @@
 //! Comparing two boot images with the devicetrees inside their payloads.
 
-ghost use Rattle.std.specs.Prelude.{◌≡◌, ◌↔◌, ◌⊎◌, ◌&&◌, IfErr, IfOk, IsTrue, List, [], false};
-ghost use Rattle.std.specs.Prelude.{if◌then◌else◌, string_bytes};
+ghost use Rattle.std.specs.Prelude.{◌≡◌, ◌↔◌, ◌⊎◌, ◌&&◌, ◌||◌, IfErr, IfOk, IsTrue, List, [], OnOk};
+ghost use Rattle.std.specs.Prelude.{false, if◌then◌else◌, string_bytes};
 ghost use Rattle.bi_norm.specs.Meaning.{Meaning};
 ghost use Rattle.bi_norm.specs.Reading.{meaning_of};
 ghost use Rattle.bi_common.specs.declared.format.Format.TheVariants.{Lines};
@@ -161,7 +161,7 @@ impl<'a, 'b> KeptDeep<'a, 'b> {
         deep: DeepImage<'a, 'b>,
         words: &[Ignored],
     ) -> Result<KeptDeep<'a, 'b>, AllocError>
-        ensures { IfOk result (λ kept. (meaning : DeepMeaning) → HoldsDeep meaning deep
+        ensures { IfOk result (λ kept. (meaning : DeepMeaning) → HoldsDeep meaning deep.entry
             → KeepsDeep (ignored_words words.now) meaning kept) }
     {
         let DeepImage {
@@ -217,11 +217,29 @@ fn opened_payloads<'w>(
 {
     let mut places = Vec::new(alloc);
     for word in words {
-        if let Some(place) = opened_by(word, words, insides, other) {
-            places.push(place)?;
-        }
+        let place = opened_by(word, words, insides, other);
+        push_if_there(&mut places, place)?;
     }
     Ok(places)
+}
+
+/// Appends a place, if there is one.
+///
+/// Fails only if memory runs out.
+fn push_if_there<'w>(
+    places: &mut Vec<&'w PayloadPlace>,
+    place: Option<&'w PayloadPlace>,
+) -> Result<(), AllocError>
+    ensures { OnOk result ((payload : Place) → is_one_of_places places.new.items payload
+        ≡ (is_one_of_places places.old.items payload || has_place payload place.entry)) }
+{
+    match place {
+        Some(place) => {
+            places.push(place)?;
+            Ok(())
+        }
+        None => Ok(()),
+    }
 }
 
 /// Returns the payload that a word is for something inside of, if it is compared by the devicetree

@@ -84,21 +84,13 @@ impl OpenLine {
         }
     }
 
-    /// Returns the line after the path of a node inside a payload, which ends here.
+    /// Returns the line after the path of a node inside a payload, which ends here. No line begins
+    /// with a path, so to the key it is a word like any other.
     fn line_after_path(self, end: usize) -> OpenLine
         ensures { (payload : List ℕ) (names : List (List ℕ))
             → result ≡ line_after_word self (Text (inside_path payload names)) end }
     {
-        OpenLine {
-            start: self.start,
-            key_end: if self.next.is_in_key() {
-                end
-            } else {
-                self.key_end
-            },
-            next: self.next.part_after_path(),
-            has_word: true,
-        }
+        self.line_after_word(Field::Text(b"/"), end)
     }
 
     /// Returns how long the line is, which ends here.
@@ -132,19 +124,6 @@ impl KeyPart {
             KeyPart::First | KeyPart::Second => {
                 KeyPart::Named(words_of_key(word).saturating_sub(1))
             }
-            KeyPart::Payload => KeyPart::Second,
-            KeyPart::Named(missing) => KeyPart::Named(missing.saturating_sub(1)),
-        }
-    }
-
-    /// Returns what the next word is to the key, if this one is the path of a node inside a
-    /// payload.
-    fn part_after_path(self) -> KeyPart
-        ensures { (payload : List ℕ) (names : List (List ℕ))
-            → result ≡ next_part self (Text (inside_path payload names)) }
-    {
-        match self {
-            KeyPart::First | KeyPart::Second => KeyPart::Named(0),
             KeyPart::Payload => KeyPart::Second,
             KeyPart::Named(missing) => KeyPart::Named(missing.saturating_sub(1)),
         }

@@ -90,7 +90,7 @@ impl<'a, 'b> KeptImage<'a, 'b> {
         opened: &[&PayloadPlace],
         pen: &mut L,
     ) -> Result<(), AllocError>
-        ensures put { OnOk result ((meaning : ReducedMeaning)
+        ensures { OnOk result ((meaning : ReducedMeaning)
             (trees : Place → Option ReducedTree) → IsKeptImage meaning self.now
             → HoldInsides trees insides.old → L.puts pen.old (tokens_of_lines
             (lines_with_inside (shown_by trees opened.now) (reduced_lines meaning))) pen.new) }

@@ -157,11 +157,10 @@ pub(super) fn are_same_unless_opened(
     }
     let mut last: &[u8] = b"";
     for index in 0..one.len() {
-        let entry = one[index];
-        if !is_same_unless_opened(entry, other[index], last, opened) {
+        if !is_same_unless_opened(one[index], other[index], last, opened) {
             return false;
         }
-        last = last_begun(entry, last);
+        last = last_begun(one[index], last);
     }
     true
 }

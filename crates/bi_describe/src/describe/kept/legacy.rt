@@ -106,8 +106,7 @@ impl<'a> KeptLegacy<'a> {
             ↔ (unless_opened (is_one_of_places opened.now) (OfReducedLegacy image)
             ≡ unless_opened (is_one_of_places opened.now) (OfReducedLegacy others)) }
     {
-        are_same_fields(self.fields, other.fields)
-            && self.time == other.time
+        have_same_headers(self, other)
             && are_same_unless_opened(&self.parts, &other.parts, opened)
     }
 
@@ -116,9 +115,7 @@ impl<'a> KeptLegacy<'a> {
         ensures { (image others : ReducedLegacy) → IsKeptLegacy image self.now
             → IsKeptLegacy others other.now → IsTrue result ↔ (image ≡ others) }
     {
-        are_same_fields(self.fields, other.fields)
-            && self.time == other.time
-            && are_same_parts(&self.parts, &other.parts)
+        have_same_headers(self, other) && are_same_parts(&self.parts, &other.parts)
     }
 }
 
@@ -251,13 +248,21 @@ fn put_deep_parts<L: DeepPen>(
     opened: &[&PayloadPlace],
     pen: &mut L,
 )
-    ensures put { (trees : Place → Option ReducedTree) → HoldInsides trees insides.old
+    ensures { (trees : Place → Option ReducedTree) → HoldInsides trees insides.old
         → L.puts pen.old (tokens_of_lines (lines_with_inside (shown_by trees opened.now)
         (reduced_part_lines (map numbered_part parts.now)))) pen.new }
 {
     for part in parts {
         put_part_with_inside(part.index, part.part, insides, opened, pen);
     }
+}
+
+/// Returns whether the fields and what stays of the time are the same.
+fn have_same_headers(one: &KeptLegacy, other: &KeptLegacy) -> bool
+    ensures { IsTrue result ↔ ((fields_alone (image_of one.now.fields [])
+        ≡ fields_alone (image_of other.now.fields [])) × (one.now.time ≡ other.now.time)) }
+{
+    are_same_fields(one.fields, other.fields) && one.time == other.time
 }
 
 /// Returns whether the fields but for the time are the same.
