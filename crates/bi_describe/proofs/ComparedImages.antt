@@ -141,7 +141,8 @@ different_compared format limits one other text lines described other_described 
   lines = lines;
   differences = AreDifferent described other_described is;
   empty = (
-    (λ empty. absurd (some_comparison one other (description_lines one) (description_lines other) (ap text_of_differences (sym is) ∙ empty))),
+    (λ empty. absurd (some_comparison one other (description_lines one) (description_lines other)
+        (ap text_of_differences (sym is) ∙ empty))),
     (λ is_same. absurd (true≢false (sym is_same))),
   );
   is_text = is_text;

@@ -47,8 +47,8 @@ deep_error_of_other limits one other error described (inr describing) = inr (des
 
 -- The error of describing one of two files that differ.
 pub deep_describing_error : (limits : Limits) (one other : List ℕ) (image other_image : BootImage) (same : Bool) (error : CompareError) →
-    IsReadBootImage limits one image → IsReadBootImage limits other other_image → IsTrue same ↔ (meaning_of image ≡ meaning_of other_image) →
-    same ≡ false → (error ≡ OutOfMemory) ⊎ IsDeepDescribingError limits (meaning_of image) (meaning_of other_image) error →
+    IsReadBootImage limits one image → IsReadBootImage limits other other_image →
+    IsTrue same ↔ (meaning_of image ≡ meaning_of other_image) → same ≡ false → (error ≡ OutOfMemory) ⊎ IsDeepDescribingError limits (meaning_of image) (meaning_of other_image) error →
     IsDeepComparisonError limits one other error
 deep_describing_error limits one other image other_image same error opened other_opened is is_false (inl memory) =
     inl (memory_error limits one other image error opened memory)

@@ -25,7 +25,8 @@ use Rattle.bi_describe.specs.Differences.{text_of_differences}
 use Rattle.bi_describe.specs.IgnoredWords.{payload_path}
 use Rattle.bi_describe.specs.Ignoring.{Ignored, IgnoredNode, IgnoredTime, OfImageNamed, PayloadPlace}
 use Rattle.bi_describe.specs.KnownDeep.{DeepComparisonsAreKnown, DeepDescriptionsAreKnown, DevicetreesAreKnown, InsideKeysAreKnown}
-use Rattle.bi_describe.specs.KnownDeep.{SameModels, deep_tree, inner_model, inner_node, inside_one, model_tree, only_load_address, only_model}
+use Rattle.bi_describe.specs.KnownDeep.{SameModels, deep_tree, inner_model, inner_node, inside_one, model_tree, only_load_address}
+use Rattle.bi_describe.specs.KnownDeep.{only_model}
 use Rattle.bi_describe.specs.KnownDeep.{small_tree}
 use Rattle.bi_describe.specs.KnownIgnored.{image_a, inside_a}
 use Rattle.bi_describe.specs.OpenedPayloads.{deep_lines_without, is_opened, is_same_payload, tree_at_without, tree_without, words_inside}

@@ -30,4 +30,5 @@ digits_plain (byte ∷ later) are =
 pub digest_written : (payload : List ℕ) → flat_map string_byte (hexadecimal_digits (digest_of Sha256 payload))
     ≡ hexadecimal_digits (digest_of Sha256 payload)
 digest_written payload =
-    plain_bytes (hexadecimal_digits (digest_of Sha256 payload)) (digits_plain (digest_of Sha256 payload) (AreBytes-digest_of Sha256 payload))
+    plain_bytes (hexadecimal_digits (digest_of Sha256 payload))
+    (digits_plain (digest_of Sha256 payload) (AreBytes-digest_of Sha256 payload))

@@ -1,4 +1,5 @@
-use Rattle.std.proofs.Common.{◌≡◌, ℕ, Bool, true, false, IsAscii, List, [], ◌∷◌, ◌++◌, Option, None, Some, arith, codes, map, flat_map, refl, sym, subst}
+use Rattle.std.proofs.Common.{◌≡◌, ℕ, Bool, true, false, IsAscii, List, [], ◌∷◌, ◌++◌, Option, None, Some, arith, codes, map, flat_map}
+use Rattle.std.proofs.Common.{refl, sym, subst}
 use Rattle.std.proofs.Common.{bytes_eq, inl, inr}
 use Rattle.std.specs.Prelude.{⊤, if◌then◌else◌}
 use Rattle.std.specs.Fmt.{decimal}
@@ -14,7 +15,8 @@ use Rattle.bi_fit.specs.Names.{images_name}
 use Rattle.bi_norm.specs.Meaning.{Meaning}
 use Rattle.bi_common.specs.declared.format.Format.{Format}
 use Rattle.bi_common.specs.declared.format.Format.TheVariants.{Json, Lines}
-use Rattle.bi_common.specs.Lines.{CanPrint, Decimal, Digits, Field, Hexadecimal, Hexadecimal64, Line, Name, Path, Text, Value, text_of_lines}
+use Rattle.bi_common.specs.Lines.{CanPrint, Decimal, Digits, Field, Hexadecimal, Hexadecimal64, Line, Name, Path, Text, Value}
+use Rattle.bi_common.specs.Lines.{text_of_lines}
 use Rattle.bi_common.specs.Shown.{path, shown_text}
 use Rattle.bi_common.specs.ValueTexts.{is_printable}
 use Rattle.bi_common.proofs.PrintedTexts.{ArePrinted, decimal_printed, json_lines_are_ascii, known_printed, printed-append}
@@ -70,7 +72,8 @@ place_printed (OfPart index) bytes =
 inside_printed : (payload : List ℕ) → ArePrinted payload → (names : List (List ℕ)) → AllByRecursion AreBytes names →
     ArePrinted (inside_path payload names)
 inside_printed payload printed names are =
-    printed-append payload (codes "/" ++ path names) printed (printed-append (codes "/") (path names) (known_printed (codes "/") refl) (path_printed names are))
+    printed-append payload (codes "/" ++ path names) printed
+    (printed-append (codes "/") (path names) (known_printed (codes "/") refl) (path_printed names are))
 
 -- ---- lines inside
 
