@@ -437,8 +437,7 @@ pub deep_refused_names : (format : Format) (limits : Limits) (content : FitModel
 deep_refused_names format limits content limit (error.Refused fault) held is (is_fault, (names, distinct, are, longer)) insides inside =
     let of_file = long_names_of_tree content names distinct are in
     let good = is_image_tree content.blob.file (tree_of content) (held_means content held) in
-    let described = by format good in
-    (
+    let described = by format good in (
       inr (record { insides = insides; are_inside = inside; is_long = omega (arith, is, longer, of_file, described) }),
       is_fault ∙ ap too_large is,
     )

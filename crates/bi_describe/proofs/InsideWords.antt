@@ -37,9 +37,13 @@ path_is_not_inside payload names = path_is_other payload names (codes "inside") 
 
 path_has_own_key : (payload : List ℕ) (names : List (List ℕ)) → words_of_key_named (inside_path payload names) ≡ 1
 path_has_own_key payload names =
-    rw (path_is_other payload names (codes "property") refl, path_is_other payload names (codes "reservation") refl,
-    path_is_other payload names (codes "node") refl, path_is_other payload names (codes "payload") refl,
-    path_is_other payload names (codes "part") refl) refl
+    rw (
+      path_is_other payload names (codes "property") refl,
+      path_is_other payload names (codes "reservation") refl,
+      path_is_other payload names (codes "node") refl,
+      path_is_other payload names (codes "payload") refl,
+      path_is_other payload names (codes "part") refl,
+    ) refl
 
 -- To the key of a line it is a word like any other.
 next_after_path : (next : KeyPart) (payload : List ℕ) (names : List (List ℕ)) →

@@ -44,8 +44,13 @@ unfolding digits cell cell8
 deep_descriptions_are_known = record {
   image = simp (no_entries, sorted_entries only_load_address tt, sorted_entries (only_model (codes "m")) tt) refl;
   part = rw (sorted_entries (only_model (codes "m")) tt, no_entries) refl;
-  json = simp (no_entries, sorted_entries only_load_address tt, sorted_entries (only_model (codes "m")) tt, digest_written (codes "m"),
-      append_assoc) refl;
+  json = simp (
+    no_entries,
+    sorted_entries only_load_address tt,
+    sorted_entries (only_model (codes "m")) tt,
+    digest_written (codes "m"),
+    append_assoc,
+  ) refl;
 }
 
 pub inside_keys_are_known : InsideKeysAreKnown

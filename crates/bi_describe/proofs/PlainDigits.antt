@@ -14,18 +14,29 @@ use Rattle.bi_common.proofs.StringBytes.{plain_bytes}
 
 glyph_plain : (d : ℕ) (b : Bool) → ltb d 10 ≡ b → d < 16 → is_plain_byte (cond b (48 + d) (87 + d)) ≡ true
 glyph_plain d true is small =
-    rw (le-leb 32 (48 + d) (omega arith), le-leb (48 + d) 126 (omega (arith, small)), ne_eqb (48 + d) 34 (λ e. omega (arith, e)),
-    ne_eqb (48 + d) 92 (λ e. omega (arith, small, e))) refl
+    rw (
+      le-leb 32 (48 + d) (omega arith),
+      le-leb (48 + d) 126 (omega (arith, small)),
+      ne_eqb (48 + d) 34 (λ e. omega (arith, e)),
+      ne_eqb (48 + d) 92 (λ e. omega (arith, small, e)),
+    ) refl
 glyph_plain d false is small =
     let above = ltb-false d 10 is in
-    rw (le-leb 32 (87 + d) (omega arith), le-leb (87 + d) 126 (omega (arith, small)), ne_eqb (87 + d) 34 (λ e. omega (arith, e)),
-    ne_eqb (87 + d) 92 (λ e. omega (arith, above, e))) refl
+    rw (
+      le-leb 32 (87 + d) (omega arith),
+      le-leb (87 + d) 126 (omega (arith, small)),
+      ne_eqb (87 + d) 34 (λ e. omega (arith, e)),
+      ne_eqb (87 + d) 92 (λ e. omega (arith, above, e)),
+    ) refl
 
 digits_plain : (bytes : List ℕ) → AreBytes bytes → list_all is_plain_byte (hexadecimal_digits bytes) ≡ true
 digits_plain [] are = refl
 digits_plain (byte ∷ later) are =
-    rw (glyph_plain (byte / 16) (ltb (byte / 16) 10) refl (omega (arith, are.each 0)),
-    glyph_plain (byte % 16) (ltb (byte % 16) 10) refl (omega arith), digits_plain later (AreBytes-right (byte ∷ []) later are)) refl
+    rw (
+      glyph_plain (byte / 16) (ltb (byte / 16) 10) refl (omega (arith, are.each 0)),
+      glyph_plain (byte % 16) (ltb (byte % 16) 10) refl (omega arith),
+      digits_plain later (AreBytes-right (byte ∷ []) later are),
+    ) refl
 
 pub digest_written : (payload : List ℕ) → flat_map string_byte (hexadecimal_digits (digest_of Sha256 payload))
     ≡ hexadecimal_digits (digest_of Sha256 payload)

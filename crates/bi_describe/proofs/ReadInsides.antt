@@ -239,7 +239,6 @@ numbered first (image ∷ later) name index is =
           back = λ payload is. after (OfImageNamed name, payload) (found.back payload is) image.payload refl;
         }
 
-
 -- The place of the image with an index.
 place_of_image : (images : List ImageModel) (name : List ℕ) (number : ℕ) → index_of name images ≡ Some number → name_at images number ≡ name
 place_of_image images name number is =

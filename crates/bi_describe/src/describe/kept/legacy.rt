@@ -106,8 +106,7 @@ impl<'a> KeptLegacy<'a> {
             ↔ (unless_opened (is_one_of_places opened.now) (OfReducedLegacy image)
             ≡ unless_opened (is_one_of_places opened.now) (OfReducedLegacy others)) }
     {
-        have_same_headers(self, other)
-            && are_same_unless_opened(&self.parts, &other.parts, opened)
+        have_same_headers(self, other) && are_same_unless_opened(&self.parts, &other.parts, opened)
     }
 
     /// Returns whether what stays of two images is the same.
