@@ -105,8 +105,8 @@ record IsOpened (words : List Ignored) (one other : Insides) (place : PayloadPla
 opened : (words : List Ignored) (one other : Insides) (place : PayloadPlace) → is_opened words one other place ≡ true →
     IsOpened words one other place
 opened words one other place is =
-    let (words_are, there) = and_parts (list_any (is_word_inside place) words && not (is_payload_ignored words place)) _ is in
-    let (has_word, stays) = and_parts (list_any (is_word_inside place) words) _ words_are in
+    let (has_word, can) = and_parts (list_any (is_word_inside place) words) _ is in
+    let (stays, there) = and_parts (not (is_payload_ignored words place)) _ can in
     let (is_there, is_in_other) = and_parts (is_some (one place)) (is_some (other place)) there in
     record { has_word = has_word; stays = not-true _ stays; is_there = is_there; is_in_other = is_in_other }
 

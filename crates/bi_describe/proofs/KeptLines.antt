@@ -21,7 +21,8 @@ use Rattle.bi_describe.specs.declared.compare.line_keeper.Mark.{Mark}
 use Rattle.bi_describe.specs.declared.compare.line_keeper.OpenLine.{OpenLine}
 use Rattle.bi_describe.specs.Differences.{ComparedLine, plain_key, is_inside_word, key_of_line, line_bytes, line_to_compare, words_of_key}
 use Rattle.bi_describe.specs.LineMarks.{marks_fit, cut_line, cut_lines, mark_of}
-use Rattle.bi_describe.specs.LineKeeping.{Keeping, Keeps, KeeperPuts, is_in_key, line_after_word, end_mark, keep_token, keep_tokens, part_after}
+use Rattle.bi_describe.specs.LineKeeping.{Keeping, Keeps, KeeperPuts, is_in_key, line_after_word, end_mark, keep_token, keep_tokens}
+use Rattle.bi_describe.specs.LineKeeping.{part_after}
 use Rattle.bi_describe.specs.LineKeeping.{keep_tokens-append}
 use Rattle.bi_describe.specs.LineKeeping.{new_keeping, new_line, kept_length}
 

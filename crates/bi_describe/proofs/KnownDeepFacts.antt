@@ -1,5 +1,5 @@
 use Rattle.std.proofs.Common.{◌≡◌, ◌≤◌, ◌++◌, ◌∷◌, ℕ, [], List, Bool, true, false, IsTrue, Option, None, Some, codes, refl, sym, ap, ap₂}
-use Rattle.std.proofs.Common.{subst, ◌∙◌, arith, rules, true≢false}
+use Rattle.std.proofs.Common.{append_assoc, lit≤, subst, ◌∙◌, arith, rules, true≢false}
 use Rattle.std.specs.Fmt.{digits}
 use Rattle.std.specs.FinMap.{entries, from_sorted, retain_keys, same_entries_map}
 use Rattle.std.specs.Option.{option_map}
@@ -8,11 +8,12 @@ use Rattle.bi_base.specs.Cells.{cell, cell8, u32_at}
 use Rattle.bi_base.specs.Limits.{widest}
 use Rattle.bi_blob.specs.Blob.{lacks_structure_size}
 use Rattle.bi_blob.specs.KnownTexts.{smallest_text}
+use Rattle.bi_blob.specs.Layout.{text_of_blocks, text_of_events, tree_with_places}
 use Rattle.bi_blob.specs.Tree.{Property, PropertyMap, Root, with_each}
 use Rattle.bi_blob.proofs.Blobs.OneBlob.{one_blob}
 use Rattle.bi_fit.specs.ImageTree.{children_of}
 use Rattle.bi_fit.specs.Names.{images_name}
-use Rattle.bi_fit.proofs.FileFacts.{no_entries, smallest_means}
+use Rattle.bi_fit.proofs.FileFacts.{blob_by_test, no_entries, smallest_means}
 use Rattle.bi_common.proofs.ReadableWords.Cuts.{begin_apart}
 use Rattle.bi_describe.specs.ComparedNodes.{ComparedNode, NoImage, plain_compared}
 use Rattle.bi_common.specs.Lines.{Line}
@@ -24,7 +25,9 @@ use Rattle.bi_describe.specs.Differences.{text_of_differences}
 use Rattle.bi_describe.specs.IgnoredWords.{payload_path}
 use Rattle.bi_describe.specs.Ignoring.{Ignored, IgnoredNode, IgnoredTime, OfImageNamed, PayloadPlace}
 use Rattle.bi_describe.specs.KnownDeep.{DeepComparisonsAreKnown, DeepDescriptionsAreKnown, DevicetreesAreKnown, InsideKeysAreKnown}
-use Rattle.bi_describe.specs.KnownDeep.{SameModels, deep_tree, inner_model, inner_node, inside_one, model_tree, only_load_address, only_model}
+use Rattle.bi_describe.specs.KnownDeep.{SameModels, deep_tree, inner_model, inner_node, inside_one, model_tree, only_load_address}
+use Rattle.bi_describe.specs.KnownDeep.{only_model}
+use Rattle.bi_describe.specs.KnownDeep.{small_tree}
 use Rattle.bi_describe.specs.KnownIgnored.{image_a, inside_a}
 use Rattle.bi_describe.specs.OpenedPayloads.{deep_lines_without, is_opened, is_same_payload, tree_at_without, tree_without, words_inside}
 use Rattle.bi_describe.specs.ReducedMeanings.{ReducedTree, kept_nodes}
@@ -32,6 +35,7 @@ use Rattle.bi_describe.proofs.DescriptionFacts.{sorted_entries}
 use Rattle.bi_describe.proofs.IgnoredFacts.{first_payload, same_image_bytes}
 use Rattle.bi_describe.proofs.KeptProperties.{entries_kept}
 use Rattle.bi_describe.proofs.OneInside.{same_place}
+use Rattle.bi_describe.proofs.PlainDigits.{digest_written}
 
 -- Small boot images with devicetrees inside are described and compared as is known.
 
@@ -40,7 +44,13 @@ unfolding digits cell cell8
 deep_descriptions_are_known = record {
   image = simp (no_entries, sorted_entries only_load_address tt, sorted_entries (only_model (codes "m")) tt) refl;
   part = rw (sorted_entries (only_model (codes "m")) tt, no_entries) refl;
-  json = ?;
+  json = simp (
+    no_entries,
+    sorted_entries only_load_address tt,
+    sorted_entries (only_model (codes "m")) tt,
+    digest_written (codes "m"),
+    append_assoc,
+  ) refl;
 }
 
 pub inside_keys_are_known : InsideKeysAreKnown
@@ -169,7 +179,15 @@ has_images tree is =
     absurd cc
 
 pub devicetrees_are_known : DevicetreesAreKnown
+unfolding text_of_events text_of_blocks cell cell8 u32_at
 devicetrees_are_known = record {
+  tree = record {
+    root = tree_with_places [] small_tree;
+    blob = blob_by_test small_tree (codes "more") refl refl (lit≤ tt);
+    within = record { short = lit≤ tt; shallow = lit≤ tt };
+    no_images = refl;
+    is_root = refl;
+  };
   no_blob = λ tree is. no_header (lacks_structure_size (codes "abc")) is.blob.header.whole;
   image_tree = has_images;
 }

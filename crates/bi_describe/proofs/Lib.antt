@@ -23,6 +23,12 @@ pub mod PayloadSizes
 pub mod ShownNodes
 pub mod PrintedDescriptions
 pub mod InsideBlobs
+pub mod BlobLists
+pub mod InsideLengths
+pub mod InsideLines
+pub mod SameInsides
+pub mod WordsLeftOut
+pub mod HeldInsides
 pub mod JsonReading
 pub mod JsonDescriptions
 pub mod DescriptionFacts
@@ -35,6 +41,7 @@ pub mod ComparedLines
 pub mod KnownDeepFacts
 pub mod LongNames
 pub mod ComparedImages
+pub mod ReadInsides
 pub mod ReadableDescriptions
 pub mod KeptProperties
 pub mod NextNodes
@@ -45,6 +52,15 @@ pub mod OneInside
 pub mod NothingLeftOutDeep
 pub mod OpenedTrees
 pub mod DeepLines
+pub mod HeldDeep
+pub mod DeepFiles
+pub mod DeepTokens
 pub mod WithoutInside
 pub mod FurtherDeep
 pub mod DeepJsonDescriptions
+pub mod ShownDevicetrees
+pub mod PrintedInside
+pub mod DeepComparisons
+pub mod OpenedPlaces
+pub mod InsideWords
+pub mod PlainDigits

@@ -19,7 +19,7 @@ use Rattle.bi_common.specs.CommonLines.{header_lines, reservation_line}
 use Rattle.bi_describe.specs.ComparedNodes.{ComparedNode, ComparedPayload, NoImage, ImageWith, compared_children, compared_images}
 use Rattle.bi_describe.specs.ComparedNodes.{nodes_to_compare}
 use Rattle.bi_describe.specs.ComparedNodes.{plain_compared}
-use Rattle.bi_describe.specs.Comparing.{comparison, differences_or_reason}
+use Rattle.bi_describe.specs.Comparing.{comparison, comparison_by_lines}
 use Rattle.bi_describe.specs.ComparingWithout.{comparison_without}
 use Rattle.bi_describe.specs.Descriptions.{description_lines, digest_of_payload, head_lines, node_lines, own_lines, part_line, part_lines}
 use Rattle.bi_describe.specs.Descriptions.{plain_node}
@@ -219,10 +219,7 @@ same_whole (OfFit one) (OfFit other) is also same =
 
 -- What differs is what differs between the descriptions.
 same_differences : (one other : Meaning) → comparison_without [] one other ≡ comparison one other
-same_differences (OfLegacy one) (OfFit other) = refl
-same_differences (OfFit one) (OfLegacy other) = refl
-same_differences (OfLegacy one) (OfLegacy other) = ap₂ differences_or_reason (all_lines (OfLegacy one)) (all_lines (OfLegacy other))
-same_differences (OfFit one) (OfFit other) = ap₂ differences_or_reason (all_lines (OfFit one)) (all_lines (OfFit other))
+same_differences one other = ap₂ (comparison_by_lines one other) (all_lines one) (all_lines other)
 
 is_whole : (limits : Limits) (file : List ℕ) (meaning : Meaning) → Means limits file meaning → IsWhole meaning
 is_whole limits file (OfLegacy image) means = 0

@@ -2,7 +2,7 @@ use Rattle.std.proofs.Common.{◌≡◌, ℕ, Bool, false, List, [], ◌∷◌, 
 use Rattle.std.specs.Option.{option_map}
 use Rattle.bi_blob.specs.Tree.{Nodes, none, node, Root, with_each_node}
 use Rattle.bi_describe.specs.ComparedNodes.{ComparedNode, ComparedPayload, ImageWith, NoImage, plain_compared}
-use Rattle.bi_describe.specs.DeepComparing.{comparison_by_lines}
+use Rattle.bi_describe.specs.Comparing.{comparison_by_lines}
 use Rattle.bi_describe.specs.DeepDescriptions.{deep_lines, insides_shown, lines_with_inside, whole_devicetree}
 use Rattle.bi_describe.specs.DeepLaws.{NothingLeftOutComparesDeep}
 use Rattle.bi_describe.specs.Devicetrees.{DeepMeaning, Devicetree, Insides}
@@ -53,7 +53,7 @@ meaning_closed (OfReducedTree tree) = (λ i. OfReducedTree (record {
 
 -- ---- lines
 
-tree_stays : (payload : PayloadPlace) (found : Option Devicetree) →
+pub tree_stays : (payload : PayloadPlace) (found : Option Devicetree) →
     option_map (tree_without [] payload) found ≡ option_map whole_devicetree found
 tree_stays payload None = refl
 tree_stays payload (Some tree) = (λ i. Some (record {

@@ -1,4 +1,10 @@
-use Rattle.std.proofs.Common.{◌≡◌, ◌↔◌, ◌∙◌, Bool, true, false, ℕ, List, [], ◌∷◌, ◌++◌, Option, None, Some, map, refl, sym, ap, ap₂}
+use Rattle.std.proofs.Common.{◌<◌, ◌≤◌, ◌+◌, length, subst, suc}
+use Rattle.std.proofs.lemmas.List.{drop_all, length-map}
+use Rattle.bi_describe.specs.declared.describe.entries.Entry.{Entry}
+use Rattle.bi_describe.proofs.EntryLines.{entries_from}
+use Rattle.std.proofs.Common.{◌≡◌, ◌↔◌, ◌∙◌, Bool, true, false, ℕ, List, [], ◌∷◌, ◌++◌, Option, None, Some, drop, get_or, map, refl, sym}
+use Rattle.std.proofs.Common.{ap, ap₂}
+use Rattle.std.specs.Prelude.{if◌then◌else◌}
 use Rattle.std.specs.FinMap.{entries}
 use Rattle.std.specs.Option.{option_map}
 use Rattle.std.specs.Borrow.{Bor}
@@ -28,7 +34,7 @@ use Rattle.bi_describe.proofs.KeptImageFacts.{legacy_as_meanings, trees_as_meani
 -- ---- entries
 
 -- The name of the last node that began, after entries.
-last_after : (last : List ℕ) → List EntryModel → List ℕ
+abbrev last_after : (last : List ℕ) → List EntryModel → List ℕ
 last_after last [] = last
 last_after last (entry ∷ later) = last_after (last_begun last entry) later
 
@@ -53,6 +59,85 @@ module _ (is_opened : PayloadPlace → Bool) where
   payload_less true name payload is = rw is refl
   payload_less false name payload is = rw is refl
 
+  -- The name of the last node that began does not depend on what is opened.
+  begun_less : (last : List ℕ) (entry : EntryModel) → last_begun last entry ≡ last_begun last (entry_unless_opened is_opened last entry)
+  begun_less last (PayloadEntry payload) = by (is_opened (OfImageNamed last))
+    where
+      by : (b : Bool) → last ≡ last_begun last (if b then PayloadEntry None else PayloadEntry payload)
+      by true = refl
+      by false = refl
+  begun_less last (NodeBegins name) = refl
+  begun_less last NodeEnds = refl
+  begun_less last PropertiesBegin = refl
+  begun_less last (PropertyEntry property) = refl
+  begun_less last ChildrenBegin = refl
+
+  -- After two entries that are the same, the later ones decide.
+  pub same_after : (last : List ℕ) (a b : EntryModel) (xs ys : List EntryModel) →
+      entry_unless_opened is_opened last a ≡ entry_unless_opened is_opened last b →
+      (entries_unless_opened is_opened (last_begun last a) xs ≡ entries_unless_opened is_opened (last_begun last a) ys)
+      ↔ (entries_unless_opened is_opened last (a ∷ xs) ≡ entries_unless_opened is_opened last (b ∷ ys))
+  same_after last a b xs ys same =
+      let begun : last_begun last a ≡ last_begun last b =
+      begun_less last a ∙ ap (last_begun last) same ∙ sym (begun_less last b) in
+      let there = ap (λ (last : List ℕ). entries_unless_opened is_opened last ys) begun in (
+        (λ rest. ap₂ (λ (first : EntryModel) (later : List EntryModel). first ∷ later) same (rest ∙ there)),
+        (λ all. ap (drop 1) all ∙ sym there),
+      )
+
+  -- Two lists that are the same have the same first entry.
+  pub same_first : (last : List ℕ) (a b : EntryModel) (xs ys : List EntryModel) →
+      entries_unless_opened is_opened last (a ∷ xs) ≡ entries_unless_opened is_opened last (b ∷ ys) →
+      entry_unless_opened is_opened last a ≡ entry_unless_opened is_opened last b
+  same_first last a b xs ys all = ap (λ (entries : List EntryModel). get_or entries 0 a) all
+
+  -- The entries of two lists that are left decide, one entry further.
+  abbrev pub Decides : (last : List ℕ) → (one other : List Entry) → (Whole : Type 0) → Type 0
+  Decides last one other Whole =
+      (entries_unless_opened is_opened last (map as_entry one) ≡ entries_unless_opened is_opened last (map as_entry other)) ↔ Whole
+
+  pub same_further : (one other : List Entry) (index : ℕ) (a b : Entry) (last next : List ℕ) (Whole : Type 0) → a ≡ get_or one index a →
+      b ≡ get_or other index b → index < length one → index < length other →
+      entry_unless_opened is_opened last (as_entry a) ≡ entry_unless_opened is_opened last (as_entry b) →
+      next ≡ last_begun last (as_entry a) → Decides last (drop index one) (drop index other) Whole →
+      Decides next (drop (index + 1) one) (drop (index + 1) other) Whole
+  same_further one other index a b last next Whole is also within other_within same is_next left =
+      let from = ap (entries_unless_opened is_opened last) (entries_from one index a is within) in
+      let other_from = ap (entries_unless_opened is_opened last) (entries_from other index b also other_within) in
+      let both = same_after last (as_entry a) (as_entry b) (map as_entry (drop (index + 1) one)) (map as_entry (drop (index + 1) other))
+      same in
+      subst (λ last. Decides last (drop (index + 1) one) (drop (index + 1) other) Whole) (sym is_next) (
+        (λ rest. left.0 (from ∙ both.0 rest ∙ sym other_from)),
+        (λ whole. both.1 (sym from ∙ left.1 whole ∙ other_from)),
+      )
+
+  -- Two entries at which two lists differ.
+  pub same_here : (one other : List Entry) (index : ℕ) (a b : Entry) (last : List ℕ) (Whole : Type 0) → a ≡ get_or one index a →
+      b ≡ get_or other index b → index < length one → index < length other → Decides last (drop index one) (drop index other) Whole →
+      Whole → entry_unless_opened is_opened last (as_entry a) ≡ entry_unless_opened is_opened last (as_entry b)
+  same_here one other index a b last Whole is also within other_within left whole =
+      same_first last (as_entry a) (as_entry b) (map as_entry (drop (index + 1) one)) (map as_entry (drop (index + 1) other))
+      (sym (ap (entries_unless_opened is_opened last) (entries_from one index a is within)) ∙ left.1 whole
+      ∙ ap (entries_unless_opened is_opened last) (entries_from other index b also other_within))
+
+  -- At the end none are left.
+  pub none_left : (one other : List Entry) (index : ℕ) (last : List ℕ) (Whole : Type 0) → length one ≤ index → length other ≤ index →
+      Decides last (drop index one) (drop index other) Whole → Whole
+  none_left one other index last Whole past other_past left =
+      left.0 (ap (λ (entries : List Entry). entries_unless_opened is_opened last (map as_entry entries))
+      (drop_all index one past ∙ sym (drop_all index other other_past)))
+
+  less_length : (last : List ℕ) (entries : List EntryModel) → length (entries_unless_opened is_opened last entries) ≡ length entries
+  less_length last [] = refl
+  less_length last (entry ∷ later) = ap suc (less_length (last_begun last entry) later)
+
+  pub same_lengths : (last : List ℕ) (one other : List Entry) →
+      entries_unless_opened is_opened last (map as_entry one) ≡ entries_unless_opened is_opened last (map as_entry other) →
+      length one ≡ length other
+  same_lengths last one other same =
+      sym (less_length last (map as_entry one) ∙ length-map one as_entry) ∙ ap length same
+      ∙ less_length last (map as_entry other) ∙ length-map other as_entry
+
   own_less : (name : List ℕ) (own : ComparedNode) →
       entries_unless_opened is_opened name (own_entries own) ≡ own_entries (own_unless_opened is_opened name own)
   own_less name own = by own.payload
@@ -76,13 +161,13 @@ module _ (is_opened : PayloadPlace → Bool) where
   nodes_less last (node name own children later) =
       let rest : List EntryModel = NodeEnds ∷ node_entries later in
       let below : List EntryModel = node_entries children in
-      let then = last_after name (own_entries own) in
-      let end = last_after then below in
+      let inner = last_after name (own_entries own) in
+      let end = last_after inner below in
       ap (λ (later : List EntryModel). NodeBegins name ∷ later)
       (less-append name (own_entries own) (below ++ rest)
       ∙ ap₂ (λ (first later : List EntryModel). first ++ later) (own_less name own)
-      (less-append then below rest
-      ∙ ap₂ (λ (first later : List EntryModel). first ++ later) (nodes_less then children)
+      (less-append inner below rest
+      ∙ ap₂ (λ (first later : List EntryModel). first ++ later) (nodes_less inner children)
       (ap (λ (later : List EntryModel). NodeEnds ∷ later) (nodes_less end later))))
 
   roots_less : (root : Option (Root ComparedNode)) →
@@ -100,14 +185,15 @@ module _ (is_opened : PayloadPlace → Bool) where
 abbrev kept_less : (PayloadPlace → Bool) → KeptFit → Option (List EntryModel)
 kept_less is_opened fit = option_map (λ entries. entries_unless_opened is_opened [] (map as_entry entries.items)) fit.entries
 
+map_twice : {X Y Z : Type 0} (found : Option X) (f : X → Y) (g : Y → Z) →
+    option_map (λ x. g (f x)) found ≡ option_map g (option_map f found)
+map_twice None f g = refl
+map_twice (Some x) f g = refl
+
 entries_map : (is_opened : PayloadPlace → Bool) (fit : KeptFit) →
-    kept_less is_opened fit ≡ option_map (entries_unless_opened is_opened []) (option_map (λ entries. map as_entry entries.items) fit.entries)
-entries_map is_opened fit = by fit.entries
-  where
-    by : (found : _) → option_map (λ entries. entries_unless_opened is_opened [] (map as_entry entries.items)) found
-        ≡ option_map (entries_unless_opened is_opened []) (option_map (λ entries. map as_entry entries.items) found)
-    by None = refl
-    by (Some entries) = refl
+    kept_less is_opened fit
+    ≡ option_map (entries_unless_opened is_opened []) (option_map (λ entries. map as_entry entries.items) fit.entries)
+entries_map is_opened fit = map_twice fit.entries (λ entries. map as_entry entries.items) (entries_unless_opened is_opened [])
 
 -- The entries of a tree that is kept.
 entries_of : (is_opened : PayloadPlace → Bool) (tree : ReducedTree) (fit : KeptFit) → IsKeptTree tree fit →

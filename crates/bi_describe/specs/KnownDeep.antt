@@ -3,7 +3,8 @@ use Rattle.std.specs.Prelude.{if◌then◌else◌}
 use Rattle.std.specs.FinMap.{empty, from_sorted}
 use Rattle.bi_base.specs.Limits.{widest}
 use Rattle.bi_blob.specs.KnownTexts.{smallest_text}
-use Rattle.bi_blob.specs.Tree.{none, node, Property}
+use Rattle.bi_blob.specs.Layout.{text_of_tree}
+use Rattle.bi_blob.specs.Tree.{none, node, Property, Root, tree_without_order}
 use Rattle.bi_fit.specs.ImageTree.{ImageTree}
 use Rattle.bi_fit.specs.Names.{images_name}
 use Rattle.bi_norm.specs.Meaning.{OfLegacy, OfFit}
@@ -169,7 +170,13 @@ pub record InsideKeysAreKnown : Type 0 where
       ∷ codes "+inside /images/a reservation 0x1000 0x40"
       ∷ [])
 
+-- A small tree. A payload that begins with a blob of it is a devicetree.
+abbrev pub small_tree : Root (List Property)
+small_tree = record { own = only_model (codes "m"); children = node (codes "chosen") [] none none }
+
 -- A payload that is no blob, and one that is a flattened image tree, are no devicetrees.
 pub record DevicetreesAreKnown : Type 0 where
+  pub tree : HasInside widest (text_of_tree 4 0 [] small_tree ++ codes "more")
+      (Some (record { cpu = 0; reservations = []; root = tree_without_order small_tree }))
   pub no_blob : HasInside widest (codes "abc") None
   pub image_tree : HasInside widest smallest_text None

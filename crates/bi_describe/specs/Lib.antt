@@ -10,6 +10,7 @@ pub mod DeepDescriptions
 pub mod DeepEntries
 pub mod DeepJson
 pub mod DeepLaws
+pub mod DeepPens
 pub mod DescribedImages
 pub mod Describing
 pub mod DescriptionJson
@@ -48,7 +49,6 @@ pub mod MadeParts
 pub mod MadeWords
 pub mod OpenedEntries
 pub mod OpenedPayloads
-pub mod PathRooms
 pub mod PropertyOrders
 pub mod ReadDescription
 pub mod KeptImages

@@ -1,14 +1,14 @@
-use Rattle.std.specs.Prelude.{◌≡◌, ◌≤◌, ⊤, Bool, false, ℕ, List, [], None, Option, Some}
-use Rattle.std.specs.Prelude.{if◌then◌else◌, length, map, slice_get}
+use Rattle.std.specs.Prelude.{◌≡◌, ⊤, Bool, false, ℕ, ◌+◌, List, [], ◌∷◌, IfSome, None, Option}
+use Rattle.std.specs.Prelude.{Some, if◌then◌else◌, map, slice_get, unwrap_or}
 use Rattle.std.specs.Borrow.{Bor}
-use Rattle.std.specs.BTreeMap.{get_by}
-use Rattle.std.specs.Cmp.Lexicographic.{slice_cmp}
 use Rattle.std.specs.List.{AllZip, list_any}
 use Rattle.std.specs.Option.{option_map}
-use Rattle.std.specs.Ordering.{nat_cmp}
 use Rattle.bi_base.specs.Limits.{Limits}
 use Rattle.bi_fdt.specs.Content.{Blob}
-use Rattle.bi_norm.specs.Meaning.{Meaning}
+use Rattle.bi_fit.specs.Content.{ImageModel, index_of}
+use Rattle.bi_norm.specs.declared.image.BootImage.{BootImage}
+use Rattle.bi_norm.specs.declared.image.BootImage.TheVariants as boot
+use Rattle.bi_norm.specs.Meaning.{Meaning, OfFit, OfLegacy}
 use Rattle.bi_describe.specs.declared.describe.deep.DeepImage.{DeepImage}
 use Rattle.bi_describe.specs.declared.describe.inside.InsideNodes.{InsideNodes}
 use Rattle.bi_describe.specs.declared.describe.inside.InsideTree.{InsideTree}
@@ -25,20 +25,16 @@ use Rattle.bi_describe.specs.Devicetrees.{AreInside, DeepMeaning, HasInside, Ins
 use Rattle.bi_describe.specs.IgnoredWords.{payload_path}
 use Rattle.bi_describe.specs.Ignoring.{Ignored, PayloadPlace, OfImageNamed, OfPart}
 use Rattle.bi_describe.specs.Ignoring.{is_node_ignored}
-use Rattle.bi_describe.specs.InsideTrees.{IsBlobInside, devicetree_of}
+use Rattle.bi_describe.specs.InsideTrees.{IsBlobInside, devicetree_of, long_names}
 use Rattle.bi_describe.specs.KeptEntries.{kept_entries, root_entries}
 use Rattle.bi_describe.specs.KeptImages.{numbered_part}
 use Rattle.bi_describe.specs.MadeWords.{place_of_payload}
-use Rattle.bi_describe.specs.OpenedPayloads.{is_same_payload, part_unless_opened}
-use Rattle.bi_describe.specs.PathRooms.{HasRoomForPaths}
+use Rattle.bi_describe.specs.OpenedPayloads.{is_same_payload, is_word_inside, part_unless_opened}
+use Rattle.bi_describe.specs.OpenedPayloads.{tree_at_without}
 use Rattle.bi_describe.specs.ReducedMeanings.{ReducedTree}
 use Rattle.bi_describe.specs.TreeEntries.{EntryModel, as_entry}
 
 -- What is inside payloads, as the code has it.
-
--- The nodes have room for the longest path, inside the payload with this path.
-abbrev pub HasPathRoom : (payload : List ℕ) → InsideNodes → Type 0
-HasPathRoom payload nodes = HasRoomForPaths payload nodes.entries.items nodes.text.items
 
 -- The entries of nodes, if there are nodes.
 abbrev pub entries_inside : Option InsideNodes → Option (List EntryModel)
@@ -60,9 +56,29 @@ pub record HoldsInside (payload : List ℕ) (tree : ReducedTree) (made : InsideT
 -- The index of the payload at a place, if there can be one.
 abbrev pub payload_index_in : PayloadIndex → PayloadPlace → Option ℕ
 payload_index_in by.Parts (OfPart index) = Some index
-payload_index_in (by.Images images) (OfImageNamed name) =
-    get_by (λ other. slice_cmp nat_cmp name other.now) images
+payload_index_in (by.Images fit) (OfImageNamed name) = index_of name fit.now.images
 payload_index_in index place = None
+
+-- The name of the image with this index: no bytes if there is none.
+abbrev pub name_at : List ImageModel → ℕ → List ℕ
+name_at images index =
+    unwrap_or (option_map (λ (image : ImageModel). image.name) (slice_get images index)) []
+
+-- The place of the payload with this index.
+abbrev pub place_at : PayloadIndex → ℕ → PayloadPlace
+place_at by.Parts index = OfPart index
+place_at (by.Images fit) index = OfImageNamed (name_at fit.now.images index)
+
+-- This is where the payloads of an image are.
+abbrev pub IsIndexOf : BootImage → PayloadIndex → Type 0
+IsIndexOf (boot.Legacy legacy) by.Parts = ⊤
+IsIndexOf (boot.Fit fit) (by.Images other) = other.now ≡ fit
+IsIndexOf image index = ⊥
+
+-- The payloads of a meaning, by their index. Not every image has one.
+abbrev pub payloads_in : Meaning → List (Option (List ℕ))
+payloads_in (OfLegacy image) = map Some image.parts
+payloads_in (OfFit tree) = tree.payloads
 
 -- A tree, if there is one.
 abbrev pub tree_or_none : Option (Option InsideTree) → Option InsideTree
@@ -85,7 +101,8 @@ HoldsAt place tree made = ⊥
 
 -- These are the trees at all places.
 abbrev pub HoldInsides : (tree_at : PayloadPlace → Option ReducedTree) → MadeInsides → Type 0
-HoldInsides tree_at made = (place : PayloadPlace) → HoldsAt place (tree_at place) (made_tree_at made place)
+HoldInsides tree_at made =
+    (place : PayloadPlace) → HoldsAt place (tree_at place) (made_tree_at made place)
 
 -- Those of a meaning, if nothing is left out.
 abbrev pub whole_devicetrees : Insides → PayloadPlace → Option ReducedTree
@@ -101,6 +118,14 @@ pub record IsReadInside (limits : Limits) (meaning : Meaning) (made : MadeInside
 abbrev pub with_tree_at : PayloadPlace → Option ReducedTree
     → (tree_at : PayloadPlace → Option ReducedTree) → PayloadPlace → Option ReducedTree
 with_tree_at place tree tree_at other = if is_same_payload place other then tree else tree_at other
+
+-- The trees once these words are left out of those that one of the first words is for something
+-- inside of.
+abbrev pub trees_after : (words first : List Ignored) → Insides → PayloadPlace
+    → Option ReducedTree
+trees_after words first insides place =
+    if list_any (is_word_inside place) first then tree_at_without words insides place
+    else whole_devicetrees insides place
 
 -- The blob in a payload, if that is a devicetree.
 abbrev pub HasBlob : Limits → (payload : Option (List ℕ)) → Option Blob → Type 0
@@ -120,13 +145,32 @@ HoldsBlob payload (Some blob) (Some made) =
     HoldsInside payload (whole_devicetree (devicetree_of blob)) made
 HoldsBlob payload blob made = ⊥
 
+-- The trees of blobs, the first of which is in the payload with this index.
+abbrev pub HoldBlobs : PayloadIndex → (first : ℕ) → List (Option Blob) → List (Option InsideTree)
+    → Type 0
+HoldBlobs index first [] [] = ⊤
+HoldBlobs index first (blob ∷ blobs) (tree ∷ trees) =
+    HoldsBlob (payload_path (place_at index first)) blob tree
+    × HoldBlobs index (first + 1) blobs trees
+HoldBlobs index first blobs trees = ⊥
+
+-- A blob is a devicetree, if there is one.
+abbrev pub IsBlobOrNone : Limits → Option Blob → Type 0
+IsBlobOrNone limits blob = IfSome blob (λ found. IsBlobInside limits found.file found)
+
+-- How many bytes the long names of properties in these blobs have together.
+abbrev pub long_names_in : List (Option Blob) → ℕ
+long_names_in [] = 0
+long_names_in (blob ∷ later) =
+    long_names (option_map devicetree_of blob) + long_names_in later
+
 -- The code has a meaning, with what is inside.
 pub record HoldsDeep (deep : DeepMeaning) (made : DeepImage) : Type 0 where
   pub holds : HoldsMeaning deep.meaning made.described
   pub are_held : HoldInsides (whole_devicetrees deep.insides) made.insides
 
--- The code has what the deep description of a meaning is made from, which can be described in a form
--- within limits.
+-- The code has what the deep description of a meaning is made from, which can be described in a
+-- form within limits.
 pub record IsDeepOf (format : Format) (limits : Limits) (meaning : Meaning) (made : DeepImage)
     : Type 0
   where

@@ -74,12 +74,15 @@ is_payload_ignored words (OfImageNamed name) =
     || is_node_ignored words (images_name ∷ name ∷ []))
 is_payload_ignored words (OfPart index) = is_part_ignored words index
 
--- Which payloads are opened: those that stay, are devicetrees in both images, and have a word for
--- something inside.
+-- The payload may be opened: it stays, and is a devicetree in both images.
+abbrev pub can_open : List Ignored → (one other : Insides) → PayloadPlace → Bool
+can_open words one other payload =
+    not (is_payload_ignored words payload) && (is_some (one payload) && is_some (other payload))
+
+-- Which payloads are opened: those of them that have a word for something inside.
 abbrev pub is_opened : List Ignored → (one other : Insides) → PayloadPlace → Bool
 is_opened words one other payload =
-    (list_any (is_word_inside payload) words && not (is_payload_ignored words payload))
-    && (is_some (one payload) && is_some (other payload))
+    list_any (is_word_inside payload) words && can_open words one other payload
 
 -- The payload of a node, without its bytes if it is opened. Only image nodes have one.
 abbrev pub payload_unless : (is_out : Bool) → ComparedPayload → ComparedPayload

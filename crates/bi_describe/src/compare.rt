@@ -17,9 +17,10 @@ ghost use Rattle.bi_norm.specs.Meaning.{Meaning, Means};
 ghost use Rattle.bi_norm.specs.Reading.{IsBootImageReadError, meaning_of, IsReadBootImage};
 ghost use Rattle.bi_common.specs.declared.format.Format.TheVariants.{Lines, Json};
 ghost use Rattle.bi_common.specs.HeldImages.{IsHeldImage};
+ghost use Rattle.bi_common.specs.Lines.{Line};
 ghost use Rattle.bi_describe.specs.Comparing.{IsComparison, IsComparisonError, IsComparisonOf};
-ghost use Rattle.bi_describe.specs.Comparing.{IsReadingError, IsDescribingError, comparison};
-ghost use Rattle.bi_describe.specs.Comparing.{comparison_text};
+ghost use Rattle.bi_describe.specs.Comparing.{IsReadingError, IsDescribingError};
+ghost use Rattle.bi_describe.specs.Comparing.{comparison_by_lines, comparison_text};
 ghost use Rattle.bi_describe.specs.ComparingWithout.{AreComparedWithout, IsComparisonWithout};
 ghost use Rattle.bi_describe.specs.ComparingWithout.{IsIgnoringError};
 ghost use Rattle.bi_describe.specs.DeepComparing.{AreComparedDeepWithout, IsDeepComparison};
@@ -182,16 +183,25 @@ pub fn compare_deep(
 {
     let image = read_one(alloc, one, limits)?;
     let other_image = read_other(alloc, other, limits)?;
-    compare_deep_images(alloc, &image, &other_image, limits, format)
+    let same = mean_the_same(alloc, &image, &other_image)?;
+    if same {
+        return Ok(Comparison {
+            same,
+            differences: print(alloc, format, true, &[])?,
+        });
+    }
+    let differences = compare_deep_images(alloc, &image, &other_image, limits, format)?;
+    Ok(Comparison { same, differences })
 }
 
-/// Does what `compare_ignoring` does, with the devicetrees that are inside payloads or parts. A word
-/// for something inside a payload opens it, if it is a devicetree in both images: then it is
+/// Does what `compare_ignoring` does, with the devicetrees that are inside payloads or parts. A
+/// word for something inside a payload opens it, if it is a devicetree in both images: then it is
 /// compared by its boot processor, its memory reservations and its tree, without what the words
 /// leave out, and not by its bytes. The differences are those of the lines of the deep descriptions
 /// that stay, without the lines of the payloads that are opened.
 ///
-/// The errors are those of `compare_ignoring`, but it is the deep descriptions that may be too long.
+/// The errors are those of `compare_ignoring`, but it is the deep descriptions that may be too
+/// long.
 pub fn compare_ignoring_deep(
     alloc: Global,
     one: &[u8],
@@ -206,7 +216,7 @@ pub fn compare_ignoring_deep(
 {
     let image = read_one(alloc, one, limits)?;
     let other_image = read_other(alloc, other, limits)?;
-    compare_deep_without(alloc, &image, &other_image, limits, options)
+    Ok(compare_deep_without(alloc, &image, &other_image, limits, options)?)
 }
 
 /// Compares what stays of two images. Requires: the images were read.
@@ -439,10 +449,9 @@ fn differing_lines<'a>(
     kept: &'a KeptLines,
     other_kept: &'a KeptLines,
 ) -> Result<Vec<SignedLine<'a>>, AllocError>
-    ensures { IfOk result (λ lines.
-        KeepsLines (description_lines (meaning_of image.now)) kept.entry.now
-        → KeepsLines (description_lines (meaning_of other.now)) other_kept.entry.now
-        → made_lines lines.items ≡ comparison (meaning_of image.now) (meaning_of other.now)) }
+    ensures { IfOk result (λ lines. (own others : List Line) → KeepsLines own kept.entry.now
+        → KeepsLines others other_kept.entry.now → made_lines lines.items
+        ≡ comparison_by_lines (meaning_of image.now) (meaning_of other.now) own others) }
 {
     match (image, other) {
         (BootImage::Legacy(_), BootImage::Fit(_)) => {

@@ -22,6 +22,7 @@ ghost use Rattle.bi_describe.specs.Describing.{describe_promise, describe_laws};
 
 mod bounded_pen;
 pub(crate) mod deep;
+pub(crate) mod deep_pen;
 mod digests;
 mod entries;
 mod fit;
@@ -218,6 +219,9 @@ impl<'a, 'b> DescribedImage<'a, 'b> {
         ensures described { IfOk result (IsDescribed (meaning_of image.entry.now)) }
         ensures failed { IfErr result (λ error. (format : Format)
             → IsImageError format limits (meaning_of image.now) error) }
+        ensures deep_failed { IfErr result (λ error. (format : Format) (insides : Trees)
+            → AreInside limits (meaning_of image.now) insides
+            → IsDeepImageError format limits (meaning_of image.now) error) }
     {
         match image {
             BootImage::Legacy(image) => {

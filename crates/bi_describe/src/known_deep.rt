@@ -20,7 +20,7 @@ pub fn inside_keys_are_known()
     ensures { InsideKeysAreKnown }
 {}
 
-/// Some payloads are known to be no devicetrees.
+/// It is known of some payloads whether they are devicetrees.
 pub fn devicetrees_are_known()
     ensures { DevicetreesAreKnown }
 {}

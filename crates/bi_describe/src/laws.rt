@@ -53,7 +53,8 @@ pub fn without_inside_is_description()
     ensures { WithoutInsideIsDescription }
 {}
 
-/// If nothing is inside the payloads, the deep description is the description, as lines and in JSON.
+/// If nothing is inside the payloads, the deep description is the description, as lines and in
+/// JSON.
 pub fn nothing_inside_is_description()
     ensures { NothingInsideIsDescription }
 {}

@@ -11,3 +11,4 @@ pub mod known_ignored;
 pub mod known_refusals;
 pub mod known_texts;
 pub mod laws;
+mod line_words;

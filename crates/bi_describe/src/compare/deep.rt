@@ -1,31 +1,30 @@
 //! Comparing two boot images with the devicetrees inside their payloads.
 
-ghost use Rattle.std.specs.Prelude.{◌≡◌, ◌≢◌, ◌↔◌, ◌⊎◌, IfErr, IfOk, IsTrue, List, string_bytes};
+ghost use Rattle.std.specs.Prelude.{◌≡◌, ◌↔◌, ◌⊎◌, ◌&&◌, ◌||◌, IfErr, IfOk, IsTrue, List, [], OnOk};
+ghost use Rattle.std.specs.Prelude.{false, if◌then◌else◌, string_bytes};
 ghost use Rattle.bi_norm.specs.Meaning.{Meaning};
 ghost use Rattle.bi_norm.specs.Reading.{meaning_of};
 ghost use Rattle.bi_common.specs.declared.format.Format.TheVariants.{Lines};
 ghost use Rattle.bi_common.specs.HeldImages.{IsHeldImage};
-ghost use Rattle.bi_common.specs.Lines.{Line};
+ghost use Rattle.bi_describe.specs.ComparingWithout.{text_without};
 ghost use Rattle.bi_describe.specs.DeepAscii.{IsAsciiShown};
 ghost use Rattle.bi_describe.specs.DeepComparing.{IsDeepComparisonOf, IsDeepComparisonWithout};
-ghost use Rattle.bi_describe.specs.DeepComparing.{IsDeepDescribingError, comparison_by_lines};
-ghost use Rattle.bi_describe.specs.DeepDescribing.{CanBeDescribedDeep};
-ghost use Rattle.bi_describe.specs.Devicetrees.{AreInside, DeepMeaning, Insides as Trees};
+ghost use Rattle.bi_describe.specs.DeepComparing.{IsDeepDescribingError, IsDeepDifference};
+ghost use Rattle.bi_describe.specs.DeepComparing.{IsDescribedDeep, deep_comparison_by};
+ghost use Rattle.bi_describe.specs.Devicetrees.{DeepMeaning, Insides as Trees};
 ghost use Rattle.bi_describe.specs.Ignoring.{Ignored as Word, PayloadPlace as Place};
 ghost use Rattle.bi_describe.specs.KeptDeep.{KeepsDeep};
 ghost use Rattle.bi_describe.specs.KeptLines.{KeepsLines};
-ghost use Rattle.bi_describe.specs.MadeInsides.{HoldInsides, HoldsDeep, IsDeepOf, is_one_of_places};
-ghost use Rattle.bi_describe.specs.MadeInsides.{whole_devicetrees};
-ghost use Rattle.bi_describe.specs.MadeLines.{made_lines};
+ghost use Rattle.bi_describe.specs.MadeInsides.{HoldInsides, HoldsDeep, IsDeepOf, has_place};
+ghost use Rattle.bi_describe.specs.MadeInsides.{is_one_of_places, whole_devicetrees};
 ghost use Rattle.bi_describe.specs.MadeOptions.{ignoring_model};
-ghost use Rattle.bi_describe.specs.MadeWords.{ignored_words};
-ghost use Rattle.bi_describe.specs.OpenedPayloads.{AreSameDeep, deep_lines_without, is_opened};
+ghost use Rattle.bi_describe.specs.MadeWords.{ignored_word, ignored_words, place_of_payload};
+ghost use Rattle.bi_describe.specs.OpenedPayloads.{AreSameDeep, can_open as can_open_at};
+ghost use Rattle.bi_describe.specs.OpenedPayloads.{deep_lines_without, is_opened, is_word_inside};
 
-use super::ignoring::IgnoringOptions;
+use super::ignoring::{IgnoringOptions, lines_of_kept};
 use super::kept_lines::KeptLines;
-use super::reasons::{differences_or_reason, kinds_differ};
-use super::signed_lines::SignedLine;
-use super::{CompareError, Comparison, mean_the_same, print};
+use super::{CompareError, Comparison, differing_lines, print};
 use crate::describe::deep::DeepImage;
 use crate::describe::insides::Insides;
 use crate::describe::kept::{KeptImage, kept_deep_is_ascii};
@@ -36,31 +35,22 @@ use bi_common::format::Format;
 use bi_norm::BootImage;
 use std::alloc::{AllocError, Global};
 
-/// Returns what differs between two images with what is inside, in a form. Requires: the images
-/// were read.
+/// Returns the text of what differs between two images that do not mean the same, with what is
+/// inside, in a form. Requires: the images were read.
 pub(super) fn compare_deep_images(
     alloc: Global,
     image: &BootImage<'_>,
     other: &BootImage<'_>,
     limits: Limits,
     format: Format,
-) -> Result<Comparison, CompareError>
+) -> Result<String, CompareError>
     requires held { IsHeldImage image.now }
     requires other_held { IsHeldImage other.now }
-    ensures compared { IfOk result (λ comparison. IsDeepComparisonOf format limits
-        (meaning_of image.now) (meaning_of other.now) comparison.same
-        (string_bytes comparison.differences)) }
+    ensures compared { IfOk result (λ text. IsDeepComparisonOf format limits
+        (meaning_of image.now) (meaning_of other.now) false (string_bytes text)) }
     ensures failed { IfErr result (λ error. (error ≡ CompareError.OutOfMemory)
-        ⊎ ((meaning_of image.now ≢ meaning_of other.now)
-        × IsDeepDescribingError limits (meaning_of image.now) (meaning_of other.now) error)) }
+        ⊎ IsDeepDescribingError limits (meaning_of image.now) (meaning_of other.now) error) }
 {
-    let same = mean_the_same(alloc, image, other)?;
-    if same {
-        return Ok(Comparison {
-            same,
-            differences: print(alloc, format, true, &[])?,
-        });
-    }
     let mut deep = deep_one(alloc, image, limits)?;
     let mut other_deep = deep_other(alloc, other, limits)?;
     deep_is_ascii(image, limits, Format::Lines);
@@ -68,10 +58,7 @@ pub(super) fn compare_deep_images(
     let kept = KeptLines::of_deep(alloc, &mut deep)?;
     let other_kept = KeptLines::of_deep(alloc, &mut other_deep)?;
     let lines = differing_lines(alloc, image, other, &kept, &other_kept)?;
-    Ok(Comparison {
-        same,
-        differences: print(alloc, format, false, &lines)?,
-    })
+    Ok(print(alloc, format, false, &lines)?)
 }
 
 /// Compares what stays of two images and of what is inside. Requires: the images were read.
@@ -92,39 +79,77 @@ pub(super) fn compare_deep_without(
 {
     let deep = deep_one(alloc, image, limits)?;
     let other_deep = deep_other(alloc, other, limits)?;
+    kept_deep_is_ascii(image, limits);
+    kept_deep_is_ascii(other, limits);
     let words = options.words;
     let opened = opened_payloads(alloc, words, &deep.insides, &other_deep.insides)?;
     let mut kept = KeptDeep::new(alloc, deep, words)?;
     let mut other_kept = KeptDeep::new(alloc, other_deep, words)?;
-    let same = kept.is_same(&other_kept, &opened);
+    Ok(compare_kept(alloc, &mut kept, &mut other_kept, &opened, options)?)
+}
+
+/// Compares what stays of two images and of what is inside. Requires: the lines of both without
+/// those of these payloads are ASCII.
+///
+/// Fails only if memory runs out.
+fn compare_kept(
+    alloc: Global,
+    kept: &mut KeptDeep,
+    other: &mut KeptDeep,
+    opened: &[&PayloadPlace],
+    options: IgnoringOptions,
+) -> Result<Comparison, AllocError>
+    requires ascii { IsAsciiShown kept.old.image kept.old.insides opened.now }
+    requires other_ascii { IsAsciiShown other.old.image other.old.insides opened.now }
+    ensures { IfOk result (λ comparison. (meaning others : DeepMeaning)
+        → KeepsDeep (ignored_words options.entry.words.now) meaning kept.old
+        → KeepsDeep (ignored_words options.entry.words.now) others other.old
+        → ((place : Place) → is_one_of_places opened.now place
+        ≡ is_opened (ignored_words options.entry.words.now) meaning.insides others.insides place)
+        → IsDeepDifference (ignoring_model options.entry) meaning others comparison.same
+        (string_bytes comparison.differences)) }
+{
+    let same = kept.is_same(other, opened);
+    let differences = written_differences(alloc, kept, other, opened, same, options)?;
+    Ok(Comparison { same, differences })
+}
+
+/// Returns the text that is written of what differs between what stays of two images and of what is
+/// inside. Requires: the lines of both without those of these payloads are ASCII.
+///
+/// Fails only if memory runs out.
+fn written_differences(
+    alloc: Global,
+    kept: &mut KeptDeep,
+    other: &mut KeptDeep,
+    opened: &[&PayloadPlace],
+    same: bool,
+    options: IgnoringOptions,
+) -> Result<String, AllocError>
+    requires ascii { IsAsciiShown kept.old.image kept.old.insides opened.now }
+    requires other_ascii { IsAsciiShown other.old.image other.old.insides opened.now }
+    ensures { IfOk result (λ text. (words : List Word) (meaning others : DeepMeaning)
+        → KeepsDeep words meaning kept.old → KeepsDeep words others other.old
+        → string_bytes text ≡ text_without (ignoring_model options.entry) same (if same then []
+        else deep_comparison_by words (is_one_of_places opened.now) meaning others)) }
+{
     if options.quiet {
-        return Ok(Comparison {
-            same,
-            differences: String::new(alloc),
-        });
+        return Ok(String::new(alloc));
     }
     if same {
-        return Ok(Comparison {
-            same,
-            differences: print(alloc, options.format, true, &[])?,
-        });
+        return print(alloc, options.format, true, &[]);
     }
-    kept_deep_is_ascii(image, limits);
-    kept_deep_is_ascii(other, limits);
-    let kept_lines = kept.lines(alloc, &opened)?;
-    let other_lines = other_kept.lines(alloc, &opened)?;
-    let lines = differing_lines(alloc, image, other, &kept_lines, &other_lines)?;
-    Ok(Comparison {
-        same,
-        differences: print(alloc, options.format, false, &lines)?,
-    })
+    let lines = kept.lines(alloc, opened)?;
+    let other_lines = other.lines(alloc, opened)?;
+    let differing = lines_of_kept(alloc, &kept.image, &other.image, &lines, &other_lines)?;
+    print(alloc, options.format, false, &differing)
 }
 
 /// What stays of a boot image and of what is inside its payloads.
 #[derive(Drop)]
 struct KeptDeep<'a, 'b> {
     image: KeptImage<'a, 'b>,
-    insides: Insides<'a>,
+    insides: Insides<'a, 'b>,
 }
 
 impl<'a, 'b> KeptDeep<'a, 'b> {
@@ -136,7 +161,7 @@ impl<'a, 'b> KeptDeep<'a, 'b> {
         deep: DeepImage<'a, 'b>,
         words: &[Ignored],
     ) -> Result<KeptDeep<'a, 'b>, AllocError>
-        ensures { IfOk result (λ kept. (meaning : DeepMeaning) → HoldsDeep meaning deep
+        ensures { IfOk result (λ kept. (meaning : DeepMeaning) → HoldsDeep meaning deep.entry
             → KeepsDeep (ignored_words words.now) meaning kept) }
     {
         let DeepImage {
@@ -166,9 +191,10 @@ impl<'a, 'b> KeptDeep<'a, 'b> {
     /// Fails only if memory runs out.
     fn lines(&mut self, alloc: Global, opened: &[&PayloadPlace]) -> Result<KeptLines, AllocError>
         requires { IsAsciiShown self.old.image self.old.insides opened.now }
-        ensures { IfOk result (λ lines. (words : List Word) (meaning : DeepMeaning)
+        ensures kept { IfOk result (λ lines. (words : List Word) (meaning : DeepMeaning)
             → KeepsDeep words meaning self.old → KeepsLines
             (deep_lines_without words (is_one_of_places opened.now) meaning) lines) }
+        ensures same { self.new.image ≡ self.old.image }
     {
         KeptLines::of_kept_deep(alloc, &self.image, &mut self.insides, opened)
     }
@@ -186,20 +212,63 @@ fn opened_payloads<'w>(
 ) -> Result<Vec<&'w PayloadPlace>, AllocError>
     ensures { IfOk result (λ places. (trees others : Trees) → HoldInsides (whole_devicetrees trees)
         insides.now → HoldInsides (whole_devicetrees others) other.now → (place : Place)
-        → is_one_of_places places.items place ≡ is_opened (ignored_words words.now) trees others place) }
+        → is_one_of_places places.items place
+        ≡ is_opened (ignored_words words.now) trees others place) }
 {
     let mut places = Vec::new(alloc);
     for word in words {
-        if let Some(place) = payload_of_word(word) {
-            if insides.has_tree_at(place)
-                && other.has_tree_at(place)
-                && !is_payload_ignored(words, place)
-            {
-                places.push(place)?;
-            }
-        }
+        let place = opened_by(word, words, insides, other);
+        push_if_there(&mut places, place)?;
     }
     Ok(places)
+}
+
+/// Appends a place, if there is one.
+///
+/// Fails only if memory runs out.
+fn push_if_there<'w>(
+    places: &mut Vec<&'w PayloadPlace>,
+    place: Option<&'w PayloadPlace>,
+) -> Result<(), AllocError>
+    ensures { OnOk result ((payload : Place) → is_one_of_places places.new.items payload
+        ≡ (is_one_of_places places.old.items payload || has_place payload place.entry)) }
+{
+    match place {
+        Some(place) => {
+            places.push(place)?;
+            Ok(())
+        }
+        None => Ok(()),
+    }
+}
+
+/// Returns the payload that a word is for something inside of, if it is compared by the devicetree
+/// inside it.
+fn opened_by<'w>(
+    word: &'w Ignored,
+    words: &[Ignored],
+    insides: &Insides,
+    other: &Insides,
+) -> Option<&'w PayloadPlace>
+    ensures { (trees others : Trees) → HoldInsides (whole_devicetrees trees) insides.now
+        → HoldInsides (whole_devicetrees others) other.now → (place : Place)
+        → has_place place result ≡ (is_word_inside place (ignored_word word.now)
+        && can_open_at (ignored_words words.now) trees others place) }
+{
+    let place = payload_of_word(word)?;
+    if can_open(place, words, insides, other) {
+        return Some(place);
+    }
+    None
+}
+
+/// Returns whether a payload stays, and is a devicetree in both images.
+fn can_open(place: &PayloadPlace, words: &[Ignored], insides: &Insides, other: &Insides) -> bool
+    ensures { (trees others : Trees) → HoldInsides (whole_devicetrees trees) insides.now
+        → HoldInsides (whole_devicetrees others) other.now
+        → result ≡ can_open_at (ignored_words words.now) trees others (place_of_payload place.now) }
+{
+    !is_payload_ignored(words, place) && insides.has_tree_at(place) && other.has_tree_at(place)
 }
 
 /// Returns what the deep description of the first image is made from. Requires: the image was read.
@@ -230,41 +299,12 @@ fn deep_other<'a, 'b>(
     requires held { IsHeldImage image.now }
     ensures described { IfOk result (IsDeepOf Lines limits (meaning_of image.entry.now)) }
     ensures failed { IfErr result (λ error. (error ≡ CompareError.OutOfMemory)
-        ⊎ ((deep : DeepMeaning) → AreInside limits deep.meaning deep.insides
-        → CanBeDescribedDeep Lines limits deep
-        → IsDeepDescribingError limits deep.meaning (meaning_of image.now) error)) }
+        ⊎ ((one : Meaning) → IsDescribedDeep limits one
+        → IsDeepDescribingError limits one (meaning_of image.now) error)) }
 {
     match deep_image(alloc, image, limits, Format::Lines) {
         Ok(deep) => Ok(deep),
         Err(Error::Refused(fault)) => Err(CompareError::Other(fault)),
         Err(_) => Err(CompareError::OutOfMemory),
-    }
-}
-
-/// Returns what differs between two images, whose lines to compare are kept.
-///
-/// Fails only if memory runs out.
-fn differing_lines<'a>(
-    alloc: Global,
-    image: &BootImage<'_>,
-    other: &BootImage<'_>,
-    kept: &'a KeptLines,
-    other_kept: &'a KeptLines,
-) -> Result<Vec<SignedLine<'a>>, AllocError>
-    ensures { IfOk result (λ lines. (own others : List Line) → KeepsLines own kept.entry.now
-        → KeepsLines others other_kept.entry.now → made_lines lines.items
-        ≡ comparison_by_lines (meaning_of image.now) (meaning_of other.now) own others) }
-{
-    match (image, other) {
-        (BootImage::Legacy(_), BootImage::Fit(_)) => {
-            kinds_differ(alloc, "kind legacy", "kind fit")
-        }
-        (BootImage::Fit(_), BootImage::Legacy(_)) => {
-            kinds_differ(alloc, "kind fit", "kind legacy")
-        }
-        (BootImage::Legacy(_), BootImage::Legacy(_)) => {
-            differences_or_reason(alloc, kept, other_kept)
-        }
-        (BootImage::Fit(_), BootImage::Fit(_)) => differences_or_reason(alloc, kept, other_kept),
     }
 }

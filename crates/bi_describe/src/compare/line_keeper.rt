@@ -3,18 +3,21 @@
 ghost use Rattle.std.specs.Prelude.{◌≡◌, ◌⊎◌, ◌++◌, ◌∷◌, ℕ, List, [], Option, Some, None, IfOk};
 ghost use Rattle.std.specs.Option.{option_map};
 ghost use Rattle.bi_base.specs.MemoryPens.{MemoryPuts, memory_puts_nothing, memory_puts_in_turn};
-ghost use Rattle.bi_common.specs.LineTokens.{NextField, is_nothing, line_token_text, space};
+ghost use Rattle.bi_common.specs.Lines.{Text};
 ghost use Rattle.bi_common.specs.MadeFields.{field_of};
 ghost use Rattle.bi_describe.specs.Differences.{words_of_key as words_of, words_of_key_named};
 ghost use Rattle.bi_describe.specs.LineKeeping.{Keeping, Keeps, KeeperPuts, line_after_word};
 ghost use Rattle.bi_describe.specs.Differences.{is_inside_word as is_inside_of};
+ghost use Rattle.bi_describe.specs.IgnoredWords.{inside_path};
 ghost use Rattle.bi_describe.specs.LineKeeping.{end_mark, is_in_key as is_part_in_key};
 ghost use Rattle.bi_describe.specs.LineKeeping.{part_after as next_part};
 ghost use Rattle.bi_describe.specs.LineKeeping.{keeper_puts_nothing, keeper_puts_in_turn};
 ghost use Rattle.bi_describe.specs.LineKeeping.{new_keeping, new_line, kept_length};
 
+use crate::describe::deep_pen::DeepPen;
+use crate::line_words::{has_word_after, put_next, put_next_path};
 use bi_base::Pen;
-use bi_common::fields::{Field, put_field};
+use bi_common::fields::Field;
 use bi_common::lines::LinePen;
 use std::alloc::{AllocError, Global};
 use std::marker::Model;
@@ -77,8 +80,17 @@ impl OpenLine {
                 self.key_end
             },
             next: self.next.part_after(word),
-            has_word: !is_empty_value(word) || self.has_word,
+            has_word: has_word_after(word, self.has_word),
         }
+    }
+
+    /// Returns the line after the path of a node inside a payload, which ends here. No line begins
+    /// with a path, so to the key it is a word like any other.
+    fn line_after_path(self, end: usize) -> OpenLine
+        ensures { (payload : List ℕ) (names : List (List ℕ))
+            → result ≡ line_after_word self (Text (inside_path payload names)) end }
+    {
+        self.line_after_word(Field::Text(b"/"), end)
     }
 
     /// Returns how long the line is, which ends here.
@@ -149,35 +161,6 @@ fn words_of_key_of(word: &[u8]) -> usize
         return 2;
     }
     1
-}
-
-/// Returns whether a field is an empty value, for which nothing is printed.
-fn is_empty_value(word: Field) -> bool
-    ensures { result ≡ is_nothing (field_of word.entry) }
-{
-    match word {
-        Field::Value(value) => value.is_empty(),
-        _ => false,
-    }
-}
-
-/// Puts a word, after a space if it is not the first of its line. Puts nothing for an empty value.
-fn put_next<P: Pen>(word: Field, is_later: bool, pen: &mut P)
-    ensures { P.puts pen.old (line_token_text is_later (NextField (field_of word.entry))) pen.new }
-{
-    if !is_empty_value(word) {
-        put_space(is_later, pen);
-        put_field(word, pen);
-    }
-}
-
-/// Puts what comes before a word: a space, if it is not the first of its line.
-fn put_space<P: Pen>(is_later: bool, pen: &mut P)
-    ensures { P.puts pen.old (space is_later) pen.new }
-{
-    if is_later {
-        pen.put(b" ");
-    }
 }
 
 /// A pen that keeps a text in memory. Contracts see it as the text, or as nothing if an allocation
@@ -316,4 +299,11 @@ impl LinePen for LineKeeper {
     ghost puts_nothing = { keeper_puts_nothing };
 
     ghost puts_in_turn = { keeper_puts_in_turn };
+}
+
+impl DeepPen for LineKeeper {
+    fn put_path_inside(&mut self, payload: &[u8], names: &[&[u8]]) {
+        put_next_path(payload, names, self.line.has_word, &mut self.text);
+        self.line = self.line.line_after_path(self.text.len());
+    }
 }

@@ -1,6 +1,7 @@
 //! What a deep description is made from.
 
-ghost use Rattle.std.specs.Prelude.{◌≡◌, ◌≤◌, [], Option, Some, length, map};
+ghost use Rattle.std.specs.Prelude.{◌≡◌, ◌≤◌, ◌∷◌, [], Option, Some, if◌then◌else◌, length, map};
+ghost use Rattle.std.specs.Option.{option_map};
 ghost use Rattle.bi_legacy.specs.Meaning.{image_of};
 ghost use Rattle.bi_fit.specs.ImageTree.{ImageTree};
 ghost use Rattle.bi_norm.specs.Meaning.{OfFit, OfLegacy};
@@ -14,22 +15,25 @@ ghost use Rattle.bi_describe.specs.DeepEntries.{deep_entry_tokens, entry_tokens_
 ghost use Rattle.bi_describe.specs.DeepEntries.{last_begun};
 ghost use Rattle.bi_describe.specs.DeepJson.{deep_object, deep_part_objects, inside_members};
 ghost use Rattle.bi_describe.specs.DeepJson.{object_with_inside};
-ghost use Rattle.bi_describe.specs.DescriptionJson.{digest_object_with};
+ghost use Rattle.bi_describe.specs.DescriptionJson.{digest_object_with, payload_or_null_with};
 ghost use Rattle.bi_describe.specs.DescribedImages.{HoldsDescribedTree};
 ghost use Rattle.bi_describe.specs.Descriptions.{description_lines, part_line, part_lines};
 ghost use Rattle.bi_describe.specs.Devicetrees.{DeepMeaning, Insides as Trees};
-ghost use Rattle.bi_describe.specs.Ignoring.{OfPart, PayloadPlace as Place};
+ghost use Rattle.bi_describe.specs.Ignoring.{OfImageNamed, OfPart, PayloadPlace as Place};
 ghost use Rattle.bi_describe.specs.DeepDescriptions.{insides_shown};
-ghost use Rattle.bi_describe.specs.MadeInsides.{HoldInsides, HoldsDeep, shown_by, whole_devicetrees};
+ghost use Rattle.bi_describe.specs.MadeInsides.{HoldInsides, HoldsDeep, is_one_of_places};
+ghost use Rattle.bi_describe.specs.MadeInsides.{shown_by, whole_devicetrees};
+ghost use Rattle.bi_describe.specs.MadeDigests.{digest_made};
 ghost use Rattle.bi_describe.specs.MadeParts.{bytes_of_parts, digest_of_part};
 ghost use Rattle.bi_describe.specs.ReadDescription.{root_lines};
 ghost use Rattle.bi_describe.specs.ReducedMeanings.{ReducedTree};
 ghost use Rattle.bi_describe.specs.ImagePayloads.{bytes_of_payload};
-ghost use Rattle.bi_describe.specs.TreeEntries.{PayloadEntry, as_entry, entry_lines, lines_of_entry};
-ghost use Rattle.bi_describe.specs.TreeEntries.{most_open as most_open_of};
+ghost use Rattle.bi_describe.specs.TreeEntries.{PayloadEntry, as_entry, entry_lines};
+ghost use Rattle.bi_describe.specs.TreeEntries.{lines_of_entry, most_open as most_open_of};
 
 use super::DescribedImage;
-use super::entries::Entry;
+use super::deep_pen::{DeepPen, DeepWriter};
+use super::entries::{Entry, PayloadDigest};
 use super::fit::{DescribedFit, put_head};
 use super::image_payload::ImagePayload;
 use super::insides::Insides;
@@ -42,18 +46,17 @@ use bi_base::Pen;
 use bi_common::common_lines::{put_header_lines, put_header_members, put_reservation_lines};
 use bi_common::format::Format;
 use bi_common::json_writer::{JsonPen, JsonToken, JsonValue, JsonWriter, put_value};
-use bi_common::lines::{LinePen, LineWriter};
 
 /// What a deep description is made from.
 #[derive(Drop)]
 pub(crate) struct DeepImage<'a, 'b> {
     pub(crate) described: DescribedImage<'a, 'b>,
-    pub(crate) insides: Insides<'a>,
+    pub(crate) insides: Insides<'a, 'b>,
 }
 
 impl<'a, 'b> DeepImage<'a, 'b> {
     /// Puts the lines.
-    pub(crate) fn put_lines<L: LinePen>(&mut self, pen: &mut L)
+    pub(crate) fn put_lines<L: DeepPen>(&mut self, pen: &mut L)
         ensures put { (deep : DeepMeaning) → HoldsDeep deep self.old
             → L.puts pen.old (tokens_of_lines (deep_lines deep)) pen.new }
         ensures same { (deep : DeepMeaning) → HoldsDeep deep self.old → HoldsDeep deep self.new }
@@ -82,7 +85,7 @@ impl<'a, 'b> DeepImage<'a, 'b> {
         ensures same { (deep : DeepMeaning) → HoldsDeep deep self.old → HoldsDeep deep self.new }
     {
         match format {
-            Format::Lines => self.put_lines(&mut LineWriter::new(pen)),
+            Format::Lines => self.put_lines(&mut DeepWriter::new(pen)),
             Format::Json => {
                 self.put_object(&mut JsonWriter::new(pen));
                 pen.put(b"\n");
@@ -94,8 +97,9 @@ impl<'a, 'b> DeepImage<'a, 'b> {
 // ---- lines
 
 /// Puts the lines of a legacy image.
-fn put_legacy_lines<L: LinePen>(image: &DescribedLegacy, insides: &mut Insides, pen: &mut L)
-    ensures put { (trees : Trees) → HoldInsides (whole_devicetrees trees) insides.old → L.puts pen.old
+fn put_legacy_lines<L: DeepPen>(image: &DescribedLegacy, insides: &mut Insides, pen: &mut L)
+    ensures put { (trees : Trees) → HoldInsides (whole_devicetrees trees) insides.old
+        → L.puts pen.old
         (tokens_of_lines (lines_with_inside (insides_shown trees) (description_lines
         (OfLegacy (image_of image.now.fields (bytes_of_parts image.now.parts.items)))))) pen.new }
     ensures same { (trees : Place → Option ReducedTree) → HoldInsides trees insides.old
@@ -106,8 +110,9 @@ fn put_legacy_lines<L: LinePen>(image: &DescribedLegacy, insides: &mut Insides, 
 }
 
 /// Puts the lines of parts, and of what is inside them.
-fn put_parts<L: LinePen>(parts: &[DescribedPart], insides: &mut Insides, pen: &mut L)
-    ensures put { (trees : Trees) → HoldInsides (whole_devicetrees trees) insides.old → L.puts pen.old
+fn put_parts<L: DeepPen>(parts: &[DescribedPart], insides: &mut Insides, pen: &mut L)
+    ensures put { (trees : Trees) → HoldInsides (whole_devicetrees trees) insides.old
+        → L.puts pen.old
         (tokens_of_lines (lines_with_inside (insides_shown trees)
         (part_lines 0 (map digest_of_part parts.now)))) pen.new }
     ensures same { (trees : Place → Option ReducedTree) → HoldInsides trees insides.old
@@ -119,27 +124,41 @@ fn put_parts<L: LinePen>(parts: &[DescribedPart], insides: &mut Insides, pen: &m
 }
 
 /// Puts the line of a part, unless it is one of these, and the lines of what is inside it.
-pub(super) fn put_part_with_inside<L: LinePen>(
+pub(super) fn put_part_with_inside<L: DeepPen>(
     index: usize,
     part: DescribedPart,
     insides: &mut Insides,
     opened: &[&PayloadPlace],
     pen: &mut L,
 )
-    ensures put { (trees : Place → Option ReducedTree) → HoldInsides trees insides.old → L.puts pen.old
+    ensures put { (trees : Place → Option ReducedTree) → HoldInsides trees insides.old
+        → L.puts pen.old
         (tokens_of_lines (line_at (shown_by trees opened.now) (Some (OfPart index))
         (part_line index (digest_of_part part.entry)))) pen.new }
     ensures same { (trees : Place → Option ReducedTree) → HoldInsides trees insides.old
         → HoldInsides trees insides.new }
 {
-    if !has_part(opened, index) {
-        put_part(index, part, pen);
-    }
+    put_part_unless_opened(index, part, opened, pen);
     insides.put_lines_of_part(index, pen);
 }
 
+/// Puts the line of a part, unless it is one of these.
+fn put_part_unless_opened<L: DeepPen>(
+    index: usize,
+    part: DescribedPart,
+    opened: &[&PayloadPlace],
+    pen: &mut L,
+)
+    ensures { L.puts pen.old (tokens_of_lines (if is_one_of_places opened.now (OfPart index) then []
+        else part_line index (digest_of_part part.entry) ∷ [])) pen.new }
+{
+    if !has_part(opened, index) {
+        put_part(index, part, pen);
+    }
+}
+
 /// Puts the lines of a flattened image tree.
-fn put_fit_lines<L: LinePen>(fit: &mut DescribedFit, insides: &mut Insides, pen: &mut L)
+fn put_fit_lines<L: DeepPen>(fit: &mut DescribedFit, insides: &mut Insides, pen: &mut L)
     ensures put { (tree : ImageTree) (trees : Trees) → HoldsDescribedTree tree fit.old
         → HoldInsides (whole_devicetrees trees) insides.old → L.puts pen.old (tokens_of_lines
         (lines_with_inside (insides_shown trees) (description_lines (OfFit tree)))) pen.new }
@@ -156,7 +175,7 @@ fn put_fit_lines<L: LinePen>(fit: &mut DescribedFit, insides: &mut Insides, pen:
 /// Puts the lines of a tree with these entries, but for those of these payloads, and those of what
 /// is inside the payloads. Requires: `names` has room for the names of all nodes that are open at
 /// once.
-pub(super) fn put_tree_with_inside<'a, L: LinePen>(
+pub(super) fn put_tree_with_inside<'a, L: DeepPen>(
     entries: &[Entry<'a>],
     names: &mut [&'a [u8]],
     insides: &mut Insides,
@@ -177,7 +196,7 @@ pub(super) fn put_tree_with_inside<'a, L: LinePen>(
 
 /// Puts the lines of these entries, but for those of these payloads, and those of what is inside
 /// the payloads. Requires: `names` has room for the names of all nodes that are open at once.
-fn put_entries_with_inside<'a, L: LinePen>(
+fn put_entries_with_inside<'a, L: DeepPen>(
     entries: &[Entry<'a>],
     names: &mut [&'a [u8]],
     insides: &mut Insides,
@@ -201,14 +220,15 @@ fn put_entries_with_inside<'a, L: LinePen>(
 
 /// Puts the line of an entry, if it has one and is not one of these payloads, and the lines of what
 /// is inside if it is a payload. These are the names of the open nodes.
-fn put_entry_with_inside<'a, L: LinePen>(
+fn put_entry_with_inside<'a, L: DeepPen>(
     entry: Entry<'a>,
     names: &[&'a [u8]],
     insides: &mut Insides,
     opened: &[&PayloadPlace],
     pen: &mut L,
 )
-    ensures put { (trees : Place → Option ReducedTree) → HoldInsides trees insides.old → L.puts pen.old
+    ensures put { (trees : Place → Option ReducedTree) → HoldInsides trees insides.old
+        → L.puts pen.old
         (tokens_of_lines (lines_with_inside (shown_by trees opened.now)
         (lines_of_entry (bytes_of_names names.now) (as_entry entry.entry)))) pen.new }
     ensures same { (trees : Place → Option ReducedTree) → HoldInsides trees insides.old
@@ -216,13 +236,26 @@ fn put_entry_with_inside<'a, L: LinePen>(
 {
     match entry {
         Entry::Payload(_) => {
-            let name = last_name(names);
-            if !has_image(opened, name) {
-                put_entry(entry, names, pen);
-            }
-            insides.put_lines_of_image(name, pen);
+            put_entry_unless_opened(entry, names, opened, pen);
+            insides.put_lines_of_image(last_name(names), pen);
         }
         _ => put_entry(entry, names, pen),
+    }
+}
+
+/// Puts the line of an entry, unless the innermost of these nodes has one of these payloads.
+fn put_entry_unless_opened<'a, L: DeepPen>(
+    entry: Entry<'a>,
+    names: &[&'a [u8]],
+    opened: &[&PayloadPlace],
+    pen: &mut L,
+)
+    ensures { let names_are = bytes_of_names names.now in L.puts pen.old (tokens_of_lines
+        (if is_one_of_places opened.now (OfImageNamed (name_of_last names_are)) then []
+        else lines_of_entry names_are (as_entry entry.entry))) pen.new }
+{
+    if !has_image(opened, last_name(names)) {
+        put_entry(entry, names, pen);
     }
 }
 
@@ -310,7 +343,8 @@ fn put_entry_object<'a, J: JsonPen>(
     insides: &Insides,
     json: &mut J,
 ) -> &'a [u8]
-    ensures put { (trees : Trees) → HoldInsides (whole_devicetrees trees) insides.now → J.puts json.old
+    ensures put { (trees : Trees) → HoldInsides (whole_devicetrees trees) insides.now
+        → J.puts json.old
         (entry_tokens_with trees last.now (as_entry entry.entry)) json.new }
     ensures last { result.now ≡ last_begun last.entry.now (as_entry entry.entry) }
 {
@@ -337,13 +371,39 @@ fn put_payload<J: JsonPen>(payload: ImagePayload, name: &[u8], insides: &Insides
         json.new }
 {
     json.put(JsonToken::Name("payload"));
-    match payload.digest {
-        Some(digest) => {
-            json.put(JsonToken::BeginObject);
-            put_digest_members(digest, json);
-            insides.put_member_of_image(name, json);
-            json.put(JsonToken::EndObject);
-        }
+    put_payload_value(payload.digest, name, insides, json);
+}
+
+/// Puts the object of the payload of the image with this name, or `null` if it has none.
+fn put_payload_value<J: JsonPen>(
+    digest: Option<PayloadDigest>,
+    name: &[u8],
+    insides: &Insides,
+    json: &mut J,
+)
+    ensures { (trees : Trees) → HoldInsides (whole_devicetrees trees) insides.now → J.puts json.old
+        (json_tokens (payload_or_null_with (inside_members (trees (OfImageNamed name.now)))
+        (option_map digest_made digest))) json.new }
+{
+    match digest {
+        Some(digest) => put_payload_object(digest, name, insides, json),
         None => put_value(JsonValue::Null, json),
     }
+}
+
+/// Puts the object of the payload of the image with this name.
+fn put_payload_object<J: JsonPen>(
+    digest: PayloadDigest,
+    name: &[u8],
+    insides: &Insides,
+    json: &mut J,
+)
+    ensures { (trees : Trees) → HoldInsides (whole_devicetrees trees) insides.now → J.puts json.old
+        (json_tokens (digest_object_with (inside_members (trees (OfImageNamed name.now)))
+        (digest_made digest))) json.new }
+{
+    json.put(JsonToken::BeginObject);
+    put_digest_members(digest, json);
+    insides.put_member_of_image(name, json);
+    json.put(JsonToken::EndObject);
 }

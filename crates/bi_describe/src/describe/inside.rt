@@ -4,9 +4,9 @@ mod blobs;
 mod paths;
 mod that_stay;
 
-ghost use Rattle.std.specs.Prelude.{◌≡◌, ◌∷◌, ◌≤◌, ◌↔◌, ⊤, [], IfErr, IfOk, IfSome, IsTrue, List};
-ghost use Rattle.std.specs.Prelude.{None, OnOk, Option, Some, if◌then◌else◌, length, map, ℕ};
-ghost use Rattle.std.specs.Option.{option_map};
+ghost use Rattle.std.specs.Prelude.{◌≡◌, ◌+◌, ◌∷◌, ◌<◌, ◌≤◌, ◌↔◌, IfErr, IfOk, IsTrue, List};
+ghost use Rattle.std.specs.Prelude.{OnOk, Some, get_or, length, map, ℕ};
+ghost use Rattle.bi_blob.specs.Blob.{end_pair};
 ghost use Rattle.bi_blob.specs.Tree.{with_each_node};
 ghost use Rattle.bi_common.specs.CommonLines.{reservation_of};
 ghost use Rattle.bi_common.specs.JsonTokens.{member_tokens};
@@ -16,13 +16,15 @@ ghost use Rattle.bi_describe.specs.DeepDescriptions.{inside_cpu_line, inside_lin
 ghost use Rattle.bi_describe.specs.DeepDescriptions.{inside_reservation_line, whole_devicetree};
 ghost use Rattle.bi_describe.specs.DeepJson.{inside_members};
 ghost use Rattle.bi_describe.specs.Devicetrees.{Devicetree};
-ghost use Rattle.bi_describe.specs.InsideTrees.{IsBlobInside, IsInsideError, devicetree_of};
+ghost use Rattle.bi_describe.specs.InsideTrees.{IsBlobInside, IsNamesError, devicetree_of};
+ghost use Rattle.bi_describe.specs.InsideTrees.{long_names};
+ghost use Rattle.bi_describe.specs.EntryTokens.{root_tokens};
 ghost use Rattle.bi_describe.specs.MadeWords.{ignored_words};
-ghost use Rattle.bi_describe.specs.PathRooms.{HasRoomForPaths};
 ghost use Rattle.bi_describe.specs.ReadDescription.{root_lines};
 ghost use Rattle.bi_describe.specs.ReducedMeanings.{ReducedTree, kept_root as kept_root_of};
-ghost use Rattle.bi_describe.specs.TreeEntries.{as_entry, most_open as most_open_of};
+ghost use Rattle.bi_describe.specs.TreeEntries.{EntryModel, as_entry, most_open as most_open_of};
 
+use super::deep_pen::DeepPen;
 use super::entries::Entry;
 use super::json::{put_members_of_blob, put_root};
 use super::kept::have_same_heads;
@@ -34,8 +36,8 @@ use bi_common::json_writer::{JsonPen, JsonToken};
 use bi_common::lines::{LinePen, put_line};
 use bi_fdt::Blob;
 pub(super) use blobs::read_blob;
-use blobs::{check_names, entries_of_blob};
-use paths::{InsidePen, longest_path};
+use blobs::{count_names, entries_of_blob};
+use paths::InsidePen;
 use std::alloc::{AllocError, Global};
 use that_stay::{have_same_nodes, nodes_that_stay};
 
@@ -46,45 +48,29 @@ struct InsideNodes<'a> {
     entries: Vec<Entry<'a>>,
     /// Room for the names of all nodes that are open at once.
     names: Vec<&'a [u8]>,
-    /// Room for the longest path of a node.
-    text: Vec<u8>,
     ghost room: { most_open_of 0 (map as_entry entries.items) ≤ length names.items },
 }
 
 impl<'a> InsideNodes<'a> {
-    ghost use Rattle.bi_describe.specs.MadeInsides.{HasPathRoom};
-
-    /// Returns the nodes with these entries, inside the payload with this path.
+    /// Returns the nodes with these entries.
     ///
     /// Fails only if memory runs out.
-    fn new(
-        alloc: Global,
-        payload: &[u8],
-        entries: Vec<Entry<'a>>,
-    ) -> Result<InsideNodes<'a>, AllocError>
-        ensures room { IfOk result (HasPathRoom payload.now) }
-        ensures entries { IfOk result (λ nodes. map as_entry nodes.entries.items
-            ≡ map as_entry entries.items) }
+    fn new(alloc: Global, entries: Vec<Entry<'a>>) -> Result<InsideNodes<'a>, AllocError>
+        ensures { IfOk result (λ nodes. map as_entry nodes.entries.items
+            ≡ map as_entry entries.entry.items) }
     {
-        let mut names = vec![in alloc; b"".as_slice(); most_open(&entries)]?;
-        let longest = longest_path(payload, &entries, &mut names);
-        let text = vec![in alloc; 0; longest]?;
-        Ok(InsideNodes {
-            entries,
-            names,
-            text,
-        })
+        let names = vec![in alloc; b"".as_slice(); most_open(&entries)]?;
+        Ok(InsideNodes { entries, names })
     }
 
     /// Puts the lines of the nodes and of their properties. The payload has this path.
-    fn put_lines<L: LinePen>(&mut self, payload: &[u8], pen: &mut L)
-        ensures put { HasPathRoom payload.now self.old → L.puts pen.old (tokens_of_lines
+    fn put_lines<L: DeepPen>(&mut self, payload: &[u8], pen: &mut L)
+        ensures put { L.puts pen.old (tokens_of_lines
             (map (line_inside payload.now) (root_lines (map as_entry self.old.entries.items))))
             pen.new }
         ensures same { self.new.entries ≡ self.old.entries }
-        ensures room { HasPathRoom payload.now self.old → HasPathRoom payload.now self.new }
     {
-        let mut inside = InsidePen::new(payload, &mut self.text, pen);
+        let mut inside = InsidePen::new(payload, pen);
         put_tree(&self.entries, &mut self.names, &mut inside);
     }
 }
@@ -97,29 +83,34 @@ pub(crate) struct InsideTree<'a> {
     blob: Blob<'a>,
     /// The nodes, unless the root is left out.
     nodes: Option<InsideNodes<'a>>,
-    ghost room: { IfSome nodes (λ nodes.
-        HasRoomForPaths path.items nodes.entries.items nodes.text.items) },
 }
 
 impl<'a> InsideTree<'a> {
-    ghost use Rattle.bi_describe.specs.MadeInsides.{HoldsInside};
+    ghost use Rattle.bi_describe.specs.MadeInsides.{HoldsInside, entries_inside};
 
-    /// Returns the devicetree that is this blob, inside the payload with this path.
+    /// Returns the devicetree that is this blob, inside the payload with this path. There is room
+    /// for so many bytes of long names of properties, and less after the call.
     ///
-    /// Errors: TooLarge at the limit, if the names of properties are longer than that; OutOfMemory.
+    /// Errors: TooLarge at the limit, if they are longer; OutOfMemory.
     pub(super) fn new(
         alloc: Global,
         path: Vec<u8>,
         blob: Blob<'a>,
+        room: &mut usize,
         limits: Limits,
     ) -> Result<InsideTree<'a>, Error>
         requires inside { IsBlobInside limits blob.file blob }
-        ensures holds { IfOk result (HoldsInside path.items (whole_devicetree (devicetree_of blob))) }
-        ensures failed { IfErr result (IsInsideError limits blob.file) }
+        ensures holds { IfOk result
+            (HoldsInside path.items (whole_devicetree (devicetree_of blob.entry))) }
+        ensures room { OnOk result
+            (room.old ≤ room.new + long_names (Some (devicetree_of blob.entry))) }
+        ensures failed { IfErr result
+            (IsNamesError limits.file room.old
+            (long_names (Some (devicetree_of blob.entry)))) }
     {
-        check_names(blob.names(), limits.file())?;
+        count_names(blob.names(), room, limits.file())?;
         let entries = entries_of_blob(alloc, &blob)?;
-        let nodes = Some(InsideNodes::new(alloc, &path, entries)?);
+        let nodes = Some(InsideNodes::new(alloc, entries)?);
         Ok(InsideTree { path, blob, nodes })
     }
 
@@ -127,7 +118,7 @@ impl<'a> InsideTree<'a> {
     ///
     /// Fails only if memory runs out.
     pub(super) fn leave_out(&mut self, alloc: Global, words: &[Ignored]) -> Result<(), AllocError>
-        ensures left_out { OnOk result ((payload : List ℕ) (tree : Devicetree)
+        ensures { OnOk result ((payload : List ℕ) (tree : Devicetree)
             → HoldsInside payload (whole_devicetree tree) self.old → HoldsInside payload
             (record {
               cpu = tree.cpu;
@@ -136,7 +127,7 @@ impl<'a> InsideTree<'a> {
                   (with_each_node plain_compared tree.root);
             }) self.new) }
     {
-        self.nodes = nodes_that_stay(alloc, &self.path, &self.nodes, words)?;
+        self.nodes = nodes_that_stay(alloc, &self.nodes, words)?;
         Ok(())
     }
 
@@ -150,7 +141,7 @@ impl<'a> InsideTree<'a> {
     }
 
     /// Puts the lines.
-    pub(super) fn put_lines<L: LinePen>(&mut self, pen: &mut L)
+    pub(super) fn put_lines<L: DeepPen>(&mut self, pen: &mut L)
         ensures put { (payload : List ℕ) (tree : ReducedTree) → HoldsInside payload tree self.old
             → L.puts pen.old (tokens_of_lines (inside_lines payload tree)) pen.new }
         ensures same { (payload : List ℕ) (tree : ReducedTree) → HoldsInside payload tree self.old
@@ -171,10 +162,18 @@ impl<'a> InsideTree<'a> {
         json.put(JsonToken::Name("devicetree"));
         json.put(JsonToken::BeginObject);
         put_members_of_blob(&self.blob, json);
+        self.put_root_member(json);
+        json.put(JsonToken::EndObject);
+    }
+
+    /// Puts the member of the root, if that is not left out.
+    fn put_root_member<J: JsonPen>(&self, json: &mut J)
+        ensures { (entries : List EntryModel) → entries_inside self.now.nodes ≡ Some entries
+            → J.puts json.old (root_tokens entries) json.new }
+    {
         if let Some(nodes) = &self.nodes {
             put_root(&nodes.entries, json);
         }
-        json.put(JsonToken::EndObject);
     }
 }
 
@@ -192,9 +191,25 @@ fn put_head<L: LinePen>(payload: &[u8], blob: &Blob, pen: &mut L)
         ],
         pen,
     );
+    put_reservations(payload, blob, pen);
+}
+
+/// Puts a line for each memory reservation. The payload has this path.
+fn put_reservations<L: LinePen>(payload: &[u8], blob: &Blob, pen: &mut L)
+    ensures { L.puts pen.old (tokens_of_lines
+        (map (inside_reservation_line payload.now) blob.now.reservations)) pen.new }
+{
     for index in 0..blob.reservation_count() {
-        put_reservation(payload, blob.reservation(index).unwrap_or_default(), pen);
+        put_reservation(payload, reservation_at(blob, index), pen);
     }
+}
+
+/// Returns the address and the size of a memory reservation. Requires: there is one at this index.
+fn reservation_at(blob: &Blob, index: usize) -> (u64, u64)
+    requires { index < length blob.now.reservations }
+    ensures { reservation_of result ≡ get_or blob.now.reservations index end_pair }
+{
+    blob.reservation(index).unwrap_or_default()
 }
 
 /// Puts the line of a memory reservation. The payload has this path.

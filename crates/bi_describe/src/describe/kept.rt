@@ -23,6 +23,7 @@ mod legacy;
 mod tree;
 
 use super::DescribedImage;
+use super::deep_pen::DeepPen;
 use super::insides::Insides;
 use crate::ignored::{Ignored, PayloadPlace};
 use bi_base::{Limits, are_bytes};
@@ -82,14 +83,14 @@ impl<'a, 'b> KeptImage<'a, 'b> {
     /// Puts the lines, but for those of these payloads, and those of what is inside the payloads.
     ///
     /// Fails only if memory runs out.
-    pub(crate) fn put_deep_lines<L: LinePen>(
+    pub(crate) fn put_deep_lines<L: DeepPen>(
         &self,
         alloc: Global,
         insides: &mut Insides,
         opened: &[&PayloadPlace],
         pen: &mut L,
     ) -> Result<(), AllocError>
-        ensures put { OnOk result ((meaning : ReducedMeaning)
+        ensures { OnOk result ((meaning : ReducedMeaning)
             (trees : Place → Option ReducedTree) → IsKeptImage meaning self.now
             → HoldInsides trees insides.old → L.puts pen.old (tokens_of_lines
             (lines_with_inside (shown_by trees opened.now) (reduced_lines meaning))) pen.new) }
@@ -152,8 +153,8 @@ pub(crate) fn kept_is_ascii(image: &BootImage)
     }
 }
 
-/// Does nothing. Its contract states that the lines of what stays of an image, and of what is inside
-/// its payloads, are ASCII, whatever is left out. Requires: the image was read.
+/// Does nothing. Its contract states that the lines of what stays of an image, and of what is
+/// inside its payloads, are ASCII, whatever is left out. Requires: the image was read.
 pub(crate) fn kept_deep_is_ascii(image: &BootImage, limits: Limits)
     requires held { IsHeldImage image.now }
     ensures { (words : List Word) (insides : Trees) (is_opened : Place → Bool)

@@ -1,7 +1,7 @@
 //! Reading a devicetree that is a payload.
 
-ghost use Rattle.std.specs.Prelude.{◌≡◌, ◌<◌, ◌≤◌, IfOk, IfErr, IfNone, IfSome, OnOk, None, flat_map};
-ghost use Rattle.std.specs.Prelude.{length, map};
+ghost use Rattle.std.specs.Prelude.{◌≡◌, ◌+◌, ◌<◌, IfOk, IfErr, IfNone, IfSome, OnOk, None};
+ghost use Rattle.std.specs.Prelude.{flat_map, length, map};
 ghost use Rattle.bi_base.specs.Reading.{too_large};
 ghost use Rattle.bi_base.specs.Slices.{bytes_of};
 ghost use Rattle.bi_blob.specs.Blob.{IsBlob};
@@ -45,23 +45,22 @@ pub(crate) fn read_blob<'a>(
     Ok(Some(blob))
 }
 
-/// Checks that the long names among these are together no longer than a limit. Reads no byte of a
-/// name.
+/// Counts the bytes of the long names among these: there is as much less room for more of them.
+/// Reads no byte of a name.
 ///
-/// Error: TooLarge at the limit, if they are longer.
-pub(super) fn check_names(names: &[&[u8]], limit: u32) -> Result<(), Fault>
+/// Error: TooLarge at the limit, if they are longer than the room.
+pub(super) fn count_names(names: &[&[u8]], room: &mut usize, limit: u32) -> Result<(), Fault>
     ensures ok { let long = flat_map name_if_long (bytes_of names.now) in
-        OnOk result (length long ≤ limit) }
+        OnOk result (room.new + length long ≡ room.old) }
     ensures fault { let long = flat_map name_if_long (bytes_of names.now) in
-        IfErr result (λ fault. (fault ≡ too_large limit) × (limit < length long)) }
+        IfErr result (λ fault. (fault ≡ too_large limit) × (room.old < length long)) }
 {
-    let mut room = limit as usize;
     for name in names {
         let length = long_name(name).len();
-        if length > room {
+        if length > *room {
             return refuse(Cause::TooLarge, limit);
         }
-        room -= length;
+        *room -= length;
     }
     Ok(())
 }

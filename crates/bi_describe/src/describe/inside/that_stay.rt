@@ -1,7 +1,7 @@
 //! The nodes of a devicetree that stay.
 
-ghost use Rattle.std.specs.Prelude.{◌≡◌, ◌↔◌, IfOk, IfSome, IsTrue};
-ghost use Rattle.bi_describe.specs.MadeInsides.{HasPathRoom, entries_inside, entries_that_stay};
+ghost use Rattle.std.specs.Prelude.{◌≡◌, ◌↔◌, IfOk, IsTrue};
+ghost use Rattle.bi_describe.specs.MadeInsides.{entries_inside, entries_that_stay};
 ghost use Rattle.bi_describe.specs.MadeWords.{ignored_words};
 
 use super::InsideNodes;
@@ -14,19 +14,17 @@ use std::alloc::{AllocError, Global};
 /// Fails only if memory runs out.
 pub(super) fn nodes_that_stay<'a>(
     alloc: Global,
-    payload: &[u8],
     nodes: &Option<InsideNodes<'a>>,
     words: &[Ignored],
 ) -> Result<Option<InsideNodes<'a>>, AllocError>
-    ensures entries { IfOk result (λ kept. entries_inside kept
+    ensures { IfOk result (λ kept. entries_inside kept
         ≡ entries_that_stay (ignored_words words.now) (entries_inside nodes.now)) }
-    ensures room { IfOk result (λ kept. IfSome kept (HasPathRoom payload.now)) }
 {
     let Some(nodes) = nodes else {
         return Ok(None);
     };
     match kept_root(alloc, &nodes.entries, words)? {
-        Some(entries) => Ok(Some(InsideNodes::new(alloc, payload, entries)?)),
+        Some(entries) => Ok(Some(InsideNodes::new(alloc, entries)?)),
         None => Ok(None),
     }
 }

@@ -3,6 +3,7 @@
 ghost use Rattle.std.specs.Prelude.{◌≡◌, ◌↔◌, ◌<◌, ◌≤◌, ◌+◌, ◌++◌, ◌^◌, IfOk, IsTrue, OnOk, []};
 ghost use Rattle.std.specs.Prelude.{length, map};
 ghost use Rattle.bi_common.specs.MadeFields.{bytes_of_names};
+ghost use Rattle.bi_describe.specs.DeepEntries.{last_begun as last_begun_of};
 ghost use Rattle.bi_describe.specs.ImagePayloads.{bytes_of_payload};
 ghost use Rattle.bi_describe.specs.KeptEntries.{is_entry_ignored as is_ignored_entry};
 ghost use Rattle.bi_describe.specs.KeptEntries.{is_entry_kept as is_kept_entry};
@@ -159,11 +160,19 @@ pub(super) fn are_same_unless_opened(
         if !is_same_unless_opened(one[index], other[index], last, opened) {
             return false;
         }
-        if let Entry::Begin(name) = one[index] {
-            last = name;
-        }
+        last = last_begun(one[index], last);
     }
     true
+}
+
+/// Returns the name of the last node that began after an entry. Before it, that was this name.
+fn last_begun<'a>(entry: Entry<'a>, last: &'a [u8]) -> &'a [u8]
+    ensures { result.now ≡ last_begun_of last.entry.now (as_entry entry.entry) }
+{
+    match entry {
+        Entry::Begin(name) => name,
+        _ => last,
+    }
 }
 
 /// Returns whether two entries are the same, or both are the payload of the image with this name,

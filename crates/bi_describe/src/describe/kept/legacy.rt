@@ -22,6 +22,7 @@ ghost use Rattle.bi_describe.specs.ReducedMeanings.{reduced_header_lines, reduce
 ghost use Rattle.bi_describe.specs.ReducedMeanings.{reduced_legacy_lines, time_lines};
 
 use crate::describe::deep::put_part_with_inside;
+use crate::describe::deep_pen::DeepPen;
 use crate::describe::insides::Insides;
 use crate::describe::legacy::{DescribedLegacy, put_part};
 use crate::describe::part::DescribedPart;
@@ -79,7 +80,7 @@ impl<'a> KeptLegacy<'a> {
     }
 
     /// Puts the lines, but for those of these parts, and those of what is inside the parts.
-    pub(super) fn put_deep_lines<L: LinePen>(
+    pub(super) fn put_deep_lines<L: DeepPen>(
         &self,
         insides: &mut Insides,
         opened: &[&PayloadPlace],
@@ -105,9 +106,7 @@ impl<'a> KeptLegacy<'a> {
             ↔ (unless_opened (is_one_of_places opened.now) (OfReducedLegacy image)
             ≡ unless_opened (is_one_of_places opened.now) (OfReducedLegacy others)) }
     {
-        are_same_fields(self.fields, other.fields)
-            && self.time == other.time
-            && are_same_unless_opened(&self.parts, &other.parts, opened)
+        have_same_headers(self, other) && are_same_unless_opened(&self.parts, &other.parts, opened)
     }
 
     /// Returns whether what stays of two images is the same.
@@ -115,9 +114,7 @@ impl<'a> KeptLegacy<'a> {
         ensures { (image others : ReducedLegacy) → IsKeptLegacy image self.now
             → IsKeptLegacy others other.now → IsTrue result ↔ (image ≡ others) }
     {
-        are_same_fields(self.fields, other.fields)
-            && self.time == other.time
-            && are_same_parts(&self.parts, &other.parts)
+        have_same_headers(self, other) && are_same_parts(&self.parts, &other.parts)
     }
 }
 
@@ -244,19 +241,27 @@ fn put_parts<L: LinePen>(parts: &[KeptPart], pen: &mut L)
 }
 
 /// Puts the lines of parts, but for those of these, and those of what is inside them.
-fn put_deep_parts<L: LinePen>(
+fn put_deep_parts<L: DeepPen>(
     parts: &[KeptPart],
     insides: &mut Insides,
     opened: &[&PayloadPlace],
     pen: &mut L,
 )
-    ensures put { (trees : Place → Option ReducedTree) → HoldInsides trees insides.old
+    ensures { (trees : Place → Option ReducedTree) → HoldInsides trees insides.old
         → L.puts pen.old (tokens_of_lines (lines_with_inside (shown_by trees opened.now)
         (reduced_part_lines (map numbered_part parts.now)))) pen.new }
 {
     for part in parts {
         put_part_with_inside(part.index, part.part, insides, opened, pen);
     }
+}
+
+/// Returns whether the fields and what stays of the time are the same.
+fn have_same_headers(one: &KeptLegacy, other: &KeptLegacy) -> bool
+    ensures { IsTrue result ↔ ((fields_alone (image_of one.now.fields [])
+        ≡ fields_alone (image_of other.now.fields [])) × (one.now.time ≡ other.now.time)) }
+{
+    are_same_fields(one.fields, other.fields) && one.time == other.time
 }
 
 /// Returns whether the fields but for the time are the same.

@@ -22,6 +22,7 @@ ghost use Rattle.bi_describe.specs.TreeEntries.{as_entry};
 
 use super::entries::{are_same_entries, are_same_unless_opened, kept_entries};
 use crate::describe::deep::put_tree_with_inside;
+use crate::describe::deep_pen::DeepPen;
 use crate::describe::entries::Entry;
 use crate::describe::fit::{DescribedFit, put_head};
 use crate::describe::insides::Insides;
@@ -80,7 +81,7 @@ impl<'a, 'b> KeptFit<'a, 'b> {
     /// Puts the lines, but for those of these payloads, and those of what is inside the payloads.
     ///
     /// Fails only if memory runs out.
-    pub(super) fn put_deep_lines<L: LinePen>(
+    pub(super) fn put_deep_lines<L: DeepPen>(
         &self,
         alloc: Global,
         insides: &mut Insides,
@@ -94,11 +95,13 @@ impl<'a, 'b> KeptFit<'a, 'b> {
     {
         put_head(self.blob.boot_cpu(), pen);
         put_reservation_lines(self.blob, pen);
-        if let Some(entries) = &self.entries {
-            let mut names = vec![in alloc; b"".as_slice(); most_open(entries)]?;
-            put_tree_with_inside(entries, &mut names, insides, opened, pen);
+        match &self.entries {
+            Some(entries) => {
+                put_deep_entries(alloc, entries, insides, opened, pen)?;
+                Ok(())
+            }
+            None => Ok(()),
         }
-        Ok(())
     }
 
     /// Returns whether what stays of two trees is the same but for these payloads. The others are
@@ -153,6 +156,26 @@ fn put_entries<L: LinePen>(alloc: Global, entries: &[Entry], pen: &mut L) -> Res
 {
     let mut names = vec![in alloc; b"".as_slice(); most_open(entries)]?;
     put_tree(entries, &mut names, pen);
+    Ok(())
+}
+
+/// Puts the lines of a tree with these entries, the root first, but for those of these payloads,
+/// and those of what is inside the payloads.
+///
+/// Fails only if memory runs out.
+fn put_deep_entries<L: DeepPen>(
+    alloc: Global,
+    entries: &[Entry],
+    insides: &mut Insides,
+    opened: &[&PayloadPlace],
+    pen: &mut L,
+) -> Result<(), AllocError>
+    ensures { OnOk result ((trees : Place → Option ReducedTree) → HoldInsides trees insides.old
+        → L.puts pen.old (tokens_of_lines (lines_with_inside (shown_by trees opened.now)
+        (root_lines (map as_entry entries.now)))) pen.new) }
+{
+    let mut names = vec![in alloc; b"".as_slice(); most_open(entries)]?;
+    put_tree_with_inside(entries, &mut names, insides, opened, pen);
     Ok(())
 }
 
