@@ -52,7 +52,7 @@ pub record HasEditElements (limit depth form : ℕ) (input : List ℕ) (elements
 
 -- ---- the edit that an element is for
 
--- The kind of an element for a field of a legacy header. The time is no field.
+-- The kind of an element for a field of a legacy header. The time has one kind for both images.
 abbrev pub kind_of_field : FieldValue → ℕ
 kind_of_field (field.Time time) = 3
 kind_of_field (field.Name name) = 5

@@ -167,8 +167,8 @@ fn edited_file(
     limit: u32,
     depth: u32,
 ) -> Result<EditedFile, Failure>
-    ensures made { IfOk result (λ made. IsEditedFile limit depth form input.now elements.now file.now
-        made.text.items made.notes) }
+    ensures made { IfOk result (λ made. IsEditedFile limit depth form input.now elements.now
+        file.now made.text.items made.notes) }
     ensures failed { IfErr result
         (IsEditCallFailure limit depth form input.now elements.now file.now) }
 {
@@ -318,7 +318,7 @@ fn setting<'a>(alloc: Global, word: &[u8]) -> Result<Option<Edit<'a>>, Error>
 }
 
 /// Returns the edit that gives the image that is printed as this word a payload. Returns None if
-/// and only if the word is no name. Fails if memory runs out.
+/// and only if the word is not a name. Fails if memory runs out.
 fn new_payload<'a>(alloc: Global, word: &[u8], payload: &'a [u8]) -> Result<Option<Edit<'a>>, Error>
     ensures some { IfOk result (λ found. IfSome found
         (GivesPayload word.now payload.entry.now)) }

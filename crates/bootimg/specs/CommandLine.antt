@@ -443,8 +443,8 @@ pub record IsEditPlan (options : ArgMatches) (plan : EditPlan) : Type 0 where
 abbrev pub HasBadEdits : ArgMatches → Type 0
 HasBadEdits options = NoneIs (IsEditPlan options) ⊎ HasNoFormChoice options
 
--- The failure of options of `update` that are no such plan: that nothing is requested, or else that
--- of a bad value.
+-- The failure of options of `update` that do not give such a plan: that nothing is requested, or
+-- else that of a bad value.
 abbrev pub IsEditPlanFailure : ArgMatches → Failure → Type 0
 IsEditPlanFailure options NoChange = AsksForNoEdit options
 IsEditPlanFailure options BadValue = AsksForEdits options × HasBadEdits options

@@ -148,6 +148,12 @@ offset_and_others =
 abbrev pub json_and_others : List ValuesOf
 json_and_others = with_value (codes "json") (codes "true") ∷ offset_and_others
 
+-- A command line with edits.
+abbrev pub edits_line : List ℕ
+edits_line =
+    codes
+    "update --set a --remove b --payload c --keep-form --remove d --offset 7 --limit 64 -o out in"
+
 -- Each option of each command, and the other names of two commands.
 pub record OptionsAreKnown : Type 0 where
   pub normalise : GivesValues
@@ -199,10 +205,7 @@ pub record OptionsAreKnown : Type 0 where
       ∷ with_value (codes "external") (codes "true")
       ∷ with_value (codes "align") (codes "8")
       ∷ offset_and_others)
-  pub update_edits : GivesValues
-      (codes
-      "update --set a --remove b --payload c --keep-form --remove d --offset 7 --limit 64 -o out in")
-      (codes "update")
+  pub update_edits : GivesValues edits_line (codes "update")
       ((codes "remove", codes "b" ∷ codes "d" ∷ [])
       ∷ with_value (codes "set") (codes "a")
       ∷ with_value (codes "payload") (codes "c")
