@@ -3,6 +3,7 @@ pub mod ReadableWords
 pub mod JoinedWords
 pub mod ShownBytes
 pub mod UnshownNames
+pub mod UnchangedBytes
 pub mod HashedImages
 pub mod VerdictCounts
 pub mod PrintedTexts

@@ -2,10 +2,11 @@
 
 ghost use Rattle.std.specs.Prelude.{◌≡◌, ◌<◌, ◌≤◌, ◌∷◌, flat_map, length, true};
 ghost use Rattle.std.specs.Fmt.{decimal, digit_glyph};
+ghost use Rattle.std.specs.List.{list_all};
 ghost use Rattle.std.specs.Option.{option_map};
 ghost use Rattle.bi_base.specs.Cells.{cell, cell8};
 ghost use Rattle.bi_common.specs.Shown.{path, hexadecimal_64, hexadecimal};
-ghost use Rattle.bi_common.specs.Shown.{shown_text, shown_byte};
+ghost use Rattle.bi_common.specs.Shown.{is_plain as is_plain_byte, shown_byte, shown_text};
 ghost use Rattle.bi_common.specs.ValueTexts.{hexadecimal_digits};
 ghost use Rattle.bi_common.specs.Lines.{digits_or_dash, name_or_dash, field_text};
 ghost use Rattle.bi_common.specs.MadeFields.{bytes_of_names, field_of};
@@ -186,6 +187,24 @@ fn put_shown<P: Pen>(name: &[u8], pen: &mut P)
 
 /// Puts the bytes of a name as they are printed.
 fn put_shown_bytes<P: Pen>(name: &[u8], pen: &mut P)
+    ensures { P.puts pen.old (flat_map shown_byte name.now) pen.new }
+{
+    if are_plain(name) {
+        pen.put(name);
+    } else {
+        put_each_shown(name, pen);
+    }
+}
+
+/// Returns whether each of these bytes is printed unchanged.
+fn are_plain(bytes: &[u8]) -> bool
+    ensures { result ≡ list_all is_plain_byte bytes.now }
+{
+    bytes.iter().all(|byte| is_plain(*byte))
+}
+
+/// Puts the bytes of a name as they are printed, one by one.
+fn put_each_shown<P: Pen>(name: &[u8], pen: &mut P)
     ensures { P.puts pen.old (flat_map shown_byte name.now) pen.new }
 {
     for byte in name {

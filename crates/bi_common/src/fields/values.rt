@@ -1,8 +1,9 @@
 //! The words for the value of a property.
 
 ghost use Rattle.std.specs.Prelude.{◌≡◌, ◌++◌, [], codes, false, flat_map};
-ghost use Rattle.std.specs.List.{join_with_byte};
+ghost use Rattle.std.specs.List.{join_with_byte, list_all};
 ghost use Rattle.bi_common.specs.DescribedValues.{end_texts, quoted_byte};
+ghost use Rattle.bi_common.specs.DescribedValues.{is_unescaped as is_unescaped_byte};
 ghost use Rattle.bi_common.specs.DescribedValues.{quoted_texts};
 ghost use Rattle.bi_common.specs.ValueTexts.{value_words, hexadecimal_digits};
 ghost use Rattle.bi_common.specs.ValueTexts.{are_quotable_texts as are_texts};
@@ -72,6 +73,31 @@ fn put_texts<P: Pen>(texts: &[u8], pen: &mut P)
 
 /// Puts the bytes of texts in quotes.
 fn put_quoted_bytes<P: Pen>(texts: &[u8], pen: &mut P)
+    ensures { P.puts pen.old (flat_map quoted_byte texts.now) pen.new }
+{
+    if are_unescaped(texts) {
+        pen.put(texts);
+    } else {
+        put_each_quoted(texts, pen);
+    }
+}
+
+/// Returns whether each of these bytes is put in quotes unchanged.
+fn are_unescaped(texts: &[u8]) -> bool
+    ensures { result ≡ list_all is_unescaped_byte texts.now }
+{
+    texts.iter().all(|byte| is_unescaped(*byte))
+}
+
+/// Returns whether a byte is put in quotes unchanged: it is neither a zero, a `"` nor a backslash.
+fn is_unescaped(byte: u8) -> bool
+    ensures { result ≡ is_unescaped_byte byte }
+{
+    byte != 0 && byte != b'"' && byte != b'\\'
+}
+
+/// Puts the bytes of texts in quotes, one by one.
+fn put_each_quoted<P: Pen>(texts: &[u8], pen: &mut P)
     ensures { P.puts pen.old (flat_map quoted_byte texts.now) pen.new }
 {
     for byte in texts {

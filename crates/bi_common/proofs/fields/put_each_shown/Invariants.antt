@@ -1,6 +1,6 @@
 use Rattle.std.proofs.Common.{take, flat_map}
 use Rattle.bi_common.specs.Shown.{shown_byte}
-use Rattle.bi_common.proofs.fields.put_shown_bytes.Given as goal
+use Rattle.bi_common.proofs.fields.put_each_shown.Given as goal
 
 -- The bytes before this one were put.
 abbrev pub invariant-loop-byte : goal.invariant-loop-byte
