@@ -5,9 +5,8 @@ use Rattle.bi_base.specs.declared.fault.Error.{Error}
 use Rattle.bi_base.specs.declared.fault.Error.TheVariants.{Refused, OutOfMemory as NoMemory, ReadFailed, WriteFailed}
 use Rattle.bi_base.specs.declared.fault.Fault.{Fault}
 use Rattle.bi_base.specs.Limits.{Limits}
-use Rattle.bi_fit.specs.Content.{FitModel, tree_of}
-use Rattle.bi_fit.specs.ImageTree.{ImageTree}
-use Rattle.bi_legacy.specs.Meaning.{LegacyImage}
+use Rattle.bi_common.specs.Lines.{Line, text_of_lines}
+use Rattle.bi_fit.specs.Content.{FitModel}
 use Rattle.bi_legacy.specs.Reading.{LegacyModel}
 use Rattle.bi_norm.specs.declared.image.BootImage.{BootImage}
 use Rattle.bi_norm.specs.declared.image.BootImage.TheVariants.{Legacy, Fit}
@@ -21,9 +20,9 @@ use Rattle.bi_describe.specs.declared.compare.CompareError.{CompareError}
 use Rattle.bi_describe.specs.declared.compare.CompareError.TheVariants.{OutOfMemory}
 use Rattle.bi_describe.specs.declared.compare.signed_lines.Sign.TheVariants.{Removed, Added}
 use Rattle.bi_describe.specs.Comparing.{AreTheSame, AreDifferent, IsComparison, IsComparisonOf, IsReadingError, IsDescribingError}
-use Rattle.bi_describe.specs.Comparing.{IsComparisonError, comparison, comparison_text, differences_or_reason}
+use Rattle.bi_describe.specs.Comparing.{IsComparisonError, comparison, comparison_by_lines, comparison_text, differences_or_reason}
 use Rattle.bi_describe.specs.Comparing.{lines_or, lines_to_compare, reason}
-use Rattle.bi_describe.specs.Descriptions.{description, description_lines}
+use Rattle.bi_describe.specs.Descriptions.{description_lines}
 use Rattle.bi_describe.specs.Describing.{CanBeDescribed}
 use Rattle.bi_describe.specs.Differences.{SignedLine, differences, sign_text, signed_text, text_of_differences}
 use Rattle.bi_norm.proofs.Comparisons.{opened_means}
@@ -93,29 +92,15 @@ error_of_other limits image other_image error described (inl memory) = inl memor
 error_of_other limits image other_image error described (inr describing) = inr (describing (meaning_of image) described)
 
 -- What differs between two images of one kind.
-abbrev pub described_apart : (one other : Meaning) → List SignedLine
-described_apart one other = differences_or_reason (description_lines one) (description_lines other)
+pub both_legacy : (image other : BootImage) (parsed other_parsed : LegacyModel) (own others : List Line) → image ≡ Legacy parsed →
+    other ≡ Legacy other_parsed →
+    differences_or_reason own others ≡ comparison_by_lines (meaning_of image) (meaning_of other) own others
+both_legacy image other parsed other_parsed own others is other_is = rw (is, other_is) refl
 
-two_legacy : (one other : LegacyImage) → described_apart (OfLegacy one) (OfLegacy other) ≡ comparison (OfLegacy one) (OfLegacy other)
-two_legacy one other = refl
-
-two_fit : (one other : ImageTree) → described_apart (OfFit one) (OfFit other) ≡ comparison (OfFit one) (OfFit other)
-two_fit one other = refl
-
-of_two : (one other same same_other : Meaning) → one ≡ same → other ≡ same_other →
-    described_apart same same_other ≡ comparison same same_other → described_apart one other ≡ comparison one other
-of_two one other same same_other is other_is known = subst (λ one. described_apart one other ≡ comparison one other) (sym is)
-    (subst (λ other. described_apart same other ≡ comparison same other) (sym other_is) known)
-
-pub both_legacy : (image other : BootImage) (parsed other_parsed : LegacyModel) → image ≡ Legacy parsed → other ≡ Legacy other_parsed →
-    described_apart (meaning_of image) (meaning_of other) ≡ comparison (meaning_of image) (meaning_of other)
-both_legacy image other parsed other_parsed is other_is = of_two (meaning_of image) (meaning_of other) (OfLegacy parsed.image)
-    (OfLegacy other_parsed.image) (ap meaning_of is) (ap meaning_of other_is) (two_legacy parsed.image other_parsed.image)
-
-pub both_fit : (image other : BootImage) (content other_content : FitModel) → image ≡ Fit content → other ≡ Fit other_content →
-    described_apart (meaning_of image) (meaning_of other) ≡ comparison (meaning_of image) (meaning_of other)
-both_fit image other content other_content is other_is = of_two (meaning_of image) (meaning_of other) (OfFit (tree_of content))
-    (OfFit (tree_of other_content)) (ap meaning_of is) (ap meaning_of other_is) (two_fit (tree_of content) (tree_of other_content))
+pub both_fit : (image other : BootImage) (content other_content : FitModel) (own others : List Line) → image ≡ Fit content →
+    other ≡ Fit other_content →
+    differences_or_reason own others ≡ comparison_by_lines (meaning_of image) (meaning_of other) own others
+both_fit image other content other_content own others is other_is = rw (is, other_is) refl
 
 -- The text of lines is not empty.
 pub some_text : (line : SignedLine) (later : List SignedLine) → text_of_differences (line ∷ later) ≢ []
@@ -132,17 +117,15 @@ some_or [] line = some_text line []
 some_or (first ∷ later) line = some_text first later
 
 -- What differs is not nothing.
-some_comparison : (one other : Meaning) → text_of_differences (comparison one other) ≢ []
-some_comparison (OfLegacy one) (OfFit other) =
+pub some_comparison : (one other : Meaning) (own others : List Line) → text_of_differences (comparison_by_lines one other own others) ≢ []
+some_comparison (OfLegacy one) (OfFit other) own others =
     some_text (record { sign = Removed; text = codes "kind legacy" }) (record { sign = Added; text = codes "kind fit" } ∷ [])
-some_comparison (OfFit one) (OfLegacy other) =
+some_comparison (OfFit one) (OfLegacy other) own others =
     some_text (record { sign = Removed; text = codes "kind fit" }) (record { sign = Added; text = codes "kind legacy" } ∷ [])
-some_comparison (OfLegacy one) (OfLegacy other) =
-    some_or (differences (lines_to_compare (description_lines (OfLegacy one))) (lines_to_compare (description_lines (OfLegacy other))))
-    (reason (description (OfLegacy one)) (description (OfLegacy other)))
-some_comparison (OfFit one) (OfFit other) =
-    some_or (differences (lines_to_compare (description_lines (OfFit one))) (lines_to_compare (description_lines (OfFit other))))
-    (reason (description (OfFit one)) (description (OfFit other)))
+some_comparison (OfLegacy one) (OfLegacy other) own others =
+    some_or (differences (lines_to_compare own) (lines_to_compare others)) (reason (text_of_lines own) (text_of_lines others))
+some_comparison (OfFit one) (OfFit other) own others =
+    some_or (differences (lines_to_compare own) (lines_to_compare others)) (reason (text_of_lines own) (text_of_lines others))
 
 -- Two meanings that are the same have no differences.
 pub same_compared : (format : Format) (limits : Limits) (one other : Meaning) (text : List ℕ) → text ≡ comparison_text format true [] →
@@ -158,7 +141,8 @@ different_compared format limits one other text lines described other_described 
   lines = lines;
   differences = AreDifferent described other_described is;
   empty = (
-    (λ empty. absurd (some_comparison one other (ap text_of_differences (sym is) ∙ empty))),
+    (λ empty. absurd (some_comparison one other (description_lines one) (description_lines other)
+        (ap text_of_differences (sym is) ∙ empty))),
     (λ is_same. absurd (true≢false (sym is_same))),
   );
   is_text = is_text;

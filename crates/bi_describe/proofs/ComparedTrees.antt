@@ -13,7 +13,7 @@ use Rattle.bi_describe.specs.Descriptions.{digest_of_payload, plain_node}
 abbrev pub as_described : Nodes ComparedNode → Nodes DescribedNode
 as_described nodes = with_each described_node nodes
 
-plain_described : (nodes : Nodes PropertyMap) → as_described (with_each plain_compared nodes) ≡ with_each plain_node nodes
+pub plain_described : (nodes : Nodes PropertyMap) → as_described (with_each plain_compared nodes) ≡ with_each plain_node nodes
 plain_described none = refl
 plain_described (node name own children later) =
     ap₂ (node name (plain_node own)) (plain_described children) (plain_described later)

@@ -21,7 +21,7 @@ use Rattle.bi_describe.proofs.TreeLines.{lines_of_tree}
 -- What a description is made from has the lines and the tokens of the description.
 
 -- The digests of parts are those of their bytes.
-digests_of_bytes : (parts : List DescribedPart) → map digest_of_part parts ≡ map digest_of_payload (bytes_of_parts parts)
+pub digests_of_bytes : (parts : List DescribedPart) → map digest_of_part parts ≡ map digest_of_payload (bytes_of_parts parts)
 digests_of_bytes [] = refl
 digests_of_bytes (part ∷ later) = ap (λ digests. digest_of_part part ∷ digests) (digests_of_bytes later)
 

@@ -1,7 +1,7 @@
 use Rattle.std.proofs.Common.{◌≡◌, List, [], ◌∷◌, ◌++◌, codes, flat_map, map, refl, sym, ap, ap₂, ◌∙◌, append_assoc, append-nil}
 use Rattle.std.specs.FinMap.{entries}
 use Rattle.std.proofs.lemmas.Grind.{flat_map-append}
-use Rattle.bi_blob.specs.Tree.{Nodes, none, node, Property, PropertyMap}
+use Rattle.bi_blob.specs.Tree.{Nodes, none, node, Property, PropertyMap, with_each}
 use Rattle.bi_fdt.specs.Content.{Blob}
 use Rattle.bi_fit.specs.Content.{FitModel, tree_of}
 use Rattle.bi_fit.specs.ImageTree.{ImageTree}
@@ -16,7 +16,7 @@ use Rattle.bi_describe.specs.Descriptions.{described_nodes, plain_node}
 use Rattle.bi_describe.specs.EntryTokens.{entry_tokens}
 use Rattle.bi_describe.specs.TreeEntries.{EntryModel, NodeBegins, NodeEnds, PropertyEntry, node_entries, own_entries, payload_entries}
 use Rattle.bi_describe.specs.TreeEntries.{property_entries, tree_entries}
-use Rattle.bi_describe.proofs.ComparedTrees.{as_described, nodes_described}
+use Rattle.bi_describe.proofs.ComparedTrees.{as_described, nodes_described, plain_described}
 
 -- The tokens of the entries of a flattened image tree are those of its JSON.
 
@@ -91,6 +91,24 @@ root_tokens tree =
     (append-nil (one EndObject))
     ∙ ap (λ nodes. member_tokens (node_members (plain_node tree.root.own) (node_objects nodes)) ++ one EndObject)
     (nodes_described tree.root.children tree.payloads)
+
+-- The root of a devicetree, and its end. It has no images.
+pub devicetree_tokens : (own : PropertyMap) (children : Nodes PropertyMap) →
+    tokens_of (own_entries (plain_compared own) ++ node_entries (with_each plain_compared children)) ++ entry_tokens NodeEnds
+    ≡ member_tokens (node_members (plain_node own) (node_objects (with_each plain_node children))) ++ one EndObject
+devicetree_tokens own children =
+    let nodes : Nodes ComparedNode = with_each plain_compared children in
+    let properties : List EntryModel = property_entries own in
+    ap (λ (tokens : List JsonToken). tokens ++ entry_tokens NodeEnds)
+    (flat_map-append entry_tokens properties (node_entries nodes)
+    ∙ ap (λ (tokens : List JsonToken). tokens_of properties ++ tokens) (tokens_of_nodes nodes))
+    ∙ append_assoc (tokens_of properties) (value_tokens (node_objects (as_described nodes))) (entry_tokens NodeEnds)
+    ∙ ap (λ (end : List JsonToken). tokens_of properties ++ (value_tokens (node_objects (as_described nodes)) ++ end))
+    (sym (append-nil (entry_tokens NodeEnds)))
+    ∙ own_tokens (plain_compared own) (node_objects (as_described nodes)) []
+    ∙ ap (λ (end : List JsonToken). member_tokens (node_members (plain_node own) (node_objects (as_described nodes))) ++ end)
+    (append-nil (one EndObject))
+    ∙ ap (λ nodes. member_tokens (node_members (plain_node own) (node_objects nodes)) ++ one EndObject) (plain_described children)
 
 -- A flattened image tree that was read.
 pub tokens_of_tree : (content : FitModel) →

@@ -85,11 +85,11 @@ nodes_kept words more above (node name own children later) =
         (λ i. node name (own_kept words more inner own i) (below i) (rest i))
 
 -- what stays of what stays of a root, and the root.
-abbrev kept_again : List Ignored → Option (Root ComparedNode) → Option (Root ComparedNode)
+abbrev pub kept_again : List Ignored → Option (Root ComparedNode) → Option (Root ComparedNode)
 kept_again words None = None
 kept_again words (Some root) = kept_root words root
 
-root_kept : (words more : List Ignored) (root : Root ComparedNode) →
+pub root_kept : (words more : List Ignored) (root : Root ComparedNode) →
     kept_again more (kept_root words root) ≡ kept_root (words ++ more) root
 root_kept words more root = by (is_node_ignored words []) (is_node_ignored more []) refl refl
   where
@@ -121,7 +121,7 @@ parts_kept words more (part ∷ later) = by (is_part_ignored words part.0) (is_p
     by false false is also rest = rw (is, also, all false false is also) (ap (λ (parts : List (ℕ × List ℕ)). part ∷ parts) rest)
 
 -- The time that stays of one that stays.
-abbrev kept_time_again : List Ignored → Option ℕ → Option ℕ
+abbrev pub kept_time_again : List Ignored → Option ℕ → Option ℕ
 kept_time_again words None = None
 kept_time_again words (Some time) = kept_time words time
 
@@ -140,7 +140,7 @@ time_kept words more time = by (is_time_ignored words) (is_time_ignored more) re
 -- ---- the law
 
 -- What stays of what stays.
-abbrev reduced_again : List Ignored → ReducedMeaning → ReducedMeaning
+abbrev pub reduced_again : List Ignored → ReducedMeaning → ReducedMeaning
 reduced_again words (OfReducedLegacy image) =
     OfReducedLegacy (record {
       fields = image.fields;
@@ -150,7 +150,7 @@ reduced_again words (OfReducedLegacy image) =
 reduced_again words (OfReducedTree tree) =
     OfReducedTree (record { cpu = tree.cpu; reservations = tree.reservations; root = kept_again words tree.root })
 
-meaning_kept : (words more : List Ignored) (meaning : Meaning) →
+pub meaning_kept : (words more : List Ignored) (meaning : Meaning) →
     reduced_again more (meaning_without words meaning) ≡ meaning_without (words ++ more) meaning
 meaning_kept words more (OfLegacy image) = (λ i. OfReducedLegacy (record {
   fields = fields_alone image;

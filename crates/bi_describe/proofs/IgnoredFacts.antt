@@ -72,24 +72,24 @@ first_part (OfReducedLegacy image) = first_of image.parts
 first_part (OfReducedTree tree) = []
 
 -- The payload of the first image, if the tree begins with images.
-abbrev payload_of_node : Nodes ComparedNode → ComparedPayload
+abbrev pub payload_of_node : Nodes ComparedNode → ComparedPayload
 payload_of_node none = NoImage
 payload_of_node (node name own children later) = own.payload
 
-abbrev children_of_first : Nodes ComparedNode → Nodes ComparedNode
+abbrev pub children_of_first : Nodes ComparedNode → Nodes ComparedNode
 children_of_first none = none
 children_of_first (node name own children later) = children
 
-abbrev payload_of_root : Option (Root ComparedNode) → ComparedPayload
+abbrev pub payload_of_root : Option (Root ComparedNode) → ComparedPayload
 payload_of_root None = NoImage
 payload_of_root (Some root) = payload_of_node (children_of_first root.children)
 
-abbrev first_payload : ReducedMeaning → ComparedPayload
+abbrev pub first_payload : ReducedMeaning → ComparedPayload
 first_payload (OfReducedLegacy image) = NoImage
 first_payload (OfReducedTree tree) = payload_of_root tree.root
 
-same_bytes : (one other : List ℕ) → ImageWith (Some one) ≡ ImageWith (Some other) → one ≡ other
-same_bytes one other same = cc
+pub same_image_bytes : (one other : List ℕ) → ImageWith (Some one) ≡ ImageWith (Some other) → one ≡ other
+same_image_bytes one other same = cc
 
 -- The kind.
 abbrev is_of_legacy : ReducedMeaning → Bool
@@ -103,7 +103,7 @@ same_without_is_known = record {
   other_part = λ same. begin_apart 97 99 [] [] refl (ap first_part same);
   no_image = refl;
   payload = λ same. begin_apart 99 100 [] [] refl
-      (later_same (later_same (same_bytes (codes "abc") (codes "abd") (ap first_payload same))));
+      (later_same (later_same (same_image_bytes (codes "abc") (codes "abd") (ap first_payload same))));
   kinds = λ same. true≢false (ap is_of_legacy same);
 }
 

@@ -19,14 +19,15 @@ use Rattle.bi_legacy.specs.Text.{IsLegacyImage}
 use Rattle.bi_legacy.proofs.ImageOfFile.{image_of_file}
 use Rattle.bi_norm.specs.Meaning.{Meaning, OfLegacy, OfFit, Means}
 use Rattle.bi_common.specs.CommonLines.{named_code, reservation_object}
-use Rattle.bi_common.specs.Json.{Json, json_array, json_members, json_string, json_values}
+use Rattle.bi_common.specs.Json.{Json, Member, json_array, json_members, json_string, json_values}
 use Rattle.bi_common.specs.Shown.{hexadecimal_64}
 use Rattle.bi_common.specs.ValueTexts.{are_quotable_texts, hexadecimal_digits, is_printable, is_quotable}
 use Rattle.bi_common.proofs.JsonSizes.{part_sizes_small}
 use Rattle.bi_common.proofs.JsonTexts.{json_lines_are_json}
 use Rattle.bi_common.proofs.PrintedTexts.{ArePrinted, known_printed}
 use Rattle.bi_common.proofs.PrintedWords.{digits_of_bytes, name_printed}
-use Rattle.bi_describe.specs.DescriptionJson.{digest_object, fit_object, legacy_object, meaning_object, node_members, node_objects}
+use Rattle.bi_describe.specs.DescriptionJson.{digest_object, digest_object_with, fit_object, fit_object_with, legacy_object}
+use Rattle.bi_describe.specs.DescriptionJson.{legacy_object_with, meaning_object, node_members, node_members_with, node_objects_with}
 use Rattle.bi_describe.specs.DescriptionJson.{property_object, value_member}
 use Rattle.bi_describe.specs.Descriptions.{PayloadDigest, NodePayload, NotAnImage, OfImage, DescribedNode, described_nodes}
 use Rattle.bi_describe.specs.Descriptions.{digest_of_payload}
@@ -74,16 +75,21 @@ code_read (entry ∷ later) are code small = by (entry.code == code) (code_read 
     by true rest = known_small entry.name first.0
     by false rest = rest
 
+pub digest_read_with : (later : List Member) (digest : PayloadDigest) → IsShownDigest digest → CanReadMembers (json_members later) →
+    CanReadValue (digest_object_with later digest)
+digest_read_with later digest shown can = (refl, (shown.small, (refl, (digits_small digest.sha256 shown.bytes, can))))
+
 digest_read : (digest : PayloadDigest) → IsShownDigest digest → CanReadValue (digest_object digest)
-digest_read digest shown = (refl, (shown.small, (refl, (digits_small digest.sha256 shown.bytes, tt))))
+digest_read digest shown = digest_read_with [] digest shown tt
 
 parts_read : (parts : List (List ℕ)) → AllByRecursion (λ (part : List ℕ). length part < 2 ^ 64) parts →
     CanReadValues (json_values (map (λ part. digest_object (digest_of_payload part)) parts))
 parts_read [] small = tt
 parts_read (part ∷ later) small = (digest_read (digest_of_payload part) (digest_shown part small.0), parts_read later small.1)
 
-legacy_read : (image : LegacyImage) → IsLegacyImage image → CanReadValue (legacy_object image)
-legacy_read image is = (
+pub legacy_read_with : (parts : List Json) (image : LegacyImage) → IsLegacyImage image → CanReadValues (json_values parts) →
+    CanReadValue (legacy_object_with parts image)
+legacy_read_with parts image is can = (
   refl,
   (
     known_small (codes "legacy") refl,
@@ -119,7 +125,7 @@ legacy_read image is = (
                                   refl,
                                   (
                                     code_read compression_names refl image.compression is.ranges.compression,
-                                    (refl, (parts_read image.parts (part_sizes_small image is), tt)),
+                                    (refl, (can, tt)),
                                   ),
                                 ),
                               ),
@@ -139,6 +145,11 @@ legacy_read image is = (
   ),
 )
 
+legacy_read : (image : LegacyImage) → IsLegacyImage image → CanReadValue (legacy_object image)
+legacy_read image is =
+    legacy_read_with (map (λ part. digest_object (digest_of_payload part)) image.parts) image is
+    (parts_read image.parts (part_sizes_small image is))
+
 -- ---- flattened image trees
 
 value_read : (value : List ℕ) → AreBytes value → CanReadMembers (json_members (value_member value ∷ []))
@@ -157,43 +168,47 @@ properties_read (property ∷ later) good = (
   properties_read later good.1,
 )
 
-own_read : (own : DescribedNode) (children : List Json) → AreBlobProperties (entries own.properties) → IsShownPayload own.payload →
-    CanReadValues (json_values children) → CanReadMembers (json_members (node_members own children))
-own_read own children good shown can = by own.payload shown
+pub own_read_with : (later : List Member) (own : DescribedNode) (children : List Json) → CanReadMembers (json_members later) →
+    AreBlobProperties (entries own.properties) → IsShownPayload own.payload → CanReadValues (json_values children) →
+    CanReadMembers (json_members (node_members_with later own children))
+own_read_with later own children can_later good shown can = by own.payload shown
   where
     lasts : CanReadMembers (json_members (node_members (plain_node own.properties) children))
     lasts = (refl, (properties_read (entries own.properties) good, (refl, (can, tt))))
 
     by : (payload : NodePayload) → IsShownPayload payload →
-        CanReadMembers (json_members (node_members (record own { payload = payload }) children))
+        CanReadMembers (json_members (node_members_with later (record own { payload = payload }) children))
     by NotAnImage shown = lasts
     by (OfImage None) shown = (refl, (tt, lasts))
-    by (OfImage (Some digest)) shown = (refl, (digest_read digest shown, lasts))
+    by (OfImage (Some digest)) shown = (refl, (digest_read_with later digest shown can_later, lasts))
 
-nodes_read : (nodes : Nodes DescribedNode) → AreShown nodes → CanReadValues (json_values (node_objects nodes))
-nodes_read none shown = tt
-nodes_read (node name own children later) shown = (
+pub nodes_read_with : (inside : List ℕ → List Member) → ((name : List ℕ) → CanReadMembers (json_members (inside name))) →
+    (nodes : Nodes DescribedNode) → AreShown nodes → CanReadValues (json_values (node_objects_with inside nodes))
+nodes_read_with inside can none shown = tt
+nodes_read_with inside can (node name own children later) shown = (
   (
     refl,
     (
       printed_small _ (name_printed name shown.0.name_bytes),
-      own_read own (node_objects children) shown.0.properties shown.0.payload (nodes_read children shown.1),
+      own_read_with (inside name) own (node_objects_with inside children) (can name) shown.0.properties shown.0.payload
+          (nodes_read_with inside can children shown.1),
     ),
   ),
-  nodes_read later shown.2,
+  nodes_read_with inside can later shown.2,
 )
 
-reservations_read : (reservations : List Reservation) → CanReadValues (json_values (map reservation_object reservations))
+pub reservations_read : (reservations : List Reservation) → CanReadValues (json_values (map reservation_object reservations))
 reservations_read [] = tt
 reservations_read (reservation ∷ later) =
     ((refl, (address_small reservation.address, (refl, (address_small reservation.size, tt)))), reservations_read later)
 
-fit_read : (file : List ℕ) (tree : ImageTree) → IsFitFile file tree → CanReadValue (fit_object tree)
-fit_read file tree is =
+pub fit_read_with : (inside : List ℕ → List Member) → ((name : List ℕ) → CanReadMembers (json_members (inside name))) →
+    (file : List ℕ) (tree : ImageTree) → IsFitFile file tree → CanReadValue (fit_object_with inside tree)
+fit_read_with inside can file tree is =
     let nodes : Nodes DescribedNode = described_nodes tree.root.children tree.payloads in
     let good = file_means_image_tree file tree is in
-    let root = own_read (plain_node tree.root.own) (node_objects nodes) (root_shown file tree is) tt
-    (nodes_read nodes (all_shown file tree is)) in (
+    let root = own_read_with [] (plain_node tree.root.own) (node_objects_with inside nodes) tt (root_shown file tree is) tt
+    (nodes_read_with inside can nodes (all_shown file tree is)) in (
       refl,
       (
         known_small (codes "fit") refl,
@@ -206,6 +221,9 @@ fit_read file tree is =
         ),
       ),
     )
+
+fit_read : (file : List ℕ) (tree : ImageTree) → IsFitFile file tree → CanReadValue (fit_object tree)
+fit_read file tree is = fit_read_with (λ name. []) (λ name. tt) file tree is
 
 -- The JSON of the description of what a file means.
 pub can_read : (limits : Limits) (file : List ℕ) (meaning : Meaning) → Means limits file meaning → CanReadValue (meaning_object meaning)

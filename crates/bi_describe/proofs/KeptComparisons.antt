@@ -2,7 +2,6 @@ use Rattle.std.proofs.Common.{◌≡◌, ◌↔◌, ◌⊎◌, ◌∙◌, ◌++�
 use Rattle.std.proofs.Common.{refl, sym, ap, subst, true≢false}
 use Rattle.std.proofs.lemmas.Grind.{flat_map-append}
 use Rattle.bi_base.specs.Limits.{Limits}
-use Rattle.bi_fit.specs.ImageTree.{ImageTree}
 use Rattle.bi_legacy.specs.Meaning.{LegacyImage}
 use Rattle.bi_norm.specs.Meaning.{Meaning, OfLegacy, OfFit}
 use Rattle.bi_norm.specs.declared.image.BootImage.{BootImage}
@@ -15,77 +14,63 @@ use Rattle.bi_common.specs.LineTokens.{LineToken, line_tokens, tokens_of_lines}
 use Rattle.bi_common.specs.Lines.{Line, Text, Name, Hexadecimal}
 use Rattle.bi_describe.specs.declared.compare.CompareError.{CompareError}
 use Rattle.bi_describe.specs.declared.compare.CompareError.TheVariants.{OutOfMemory}
-use Rattle.bi_describe.specs.declared.compare.signed_lines.Sign.TheVariants.{Removed, Added}
 use Rattle.bi_describe.specs.declared.describe.kept.KeptImage.{KeptImage}
 use Rattle.bi_describe.specs.declared.describe.kept.KeptImage.TheVariants.{Legacy, Fit}
 use Rattle.bi_describe.specs.declared.describe.kept.legacy.KeptLegacy.{KeptLegacy}
 use Rattle.bi_describe.specs.declared.describe.kept.tree.KeptFit.{KeptFit}
-use Rattle.bi_describe.specs.Comparing.{IsDescribingError, IsReadingError, comparison_text, differences_or_reason, lines_to_compare, reason}
+use Rattle.bi_describe.specs.Comparing.{IsDescribingError, IsReadingError, comparison_by_lines, comparison_text, differences_or_reason}
 use Rattle.bi_describe.specs.ComparingWithout.{AreComparedWithout, AreMeanings, IgnoringOptionsModel, IsComparisonWithout, IsIgnoringError}
-use Rattle.bi_describe.specs.ComparingWithout.{comparison_without, lines_without, text_without}
+use Rattle.bi_describe.specs.ComparingWithout.{lines_without, text_without}
 use Rattle.bi_describe.specs.Describing.{CanBeDescribed}
-use Rattle.bi_describe.specs.Differences.{SignedLine, differences, text_of_differences}
+use Rattle.bi_describe.specs.Differences.{text_of_differences}
 use Rattle.bi_describe.specs.Ignoring.{Ignored}
 use Rattle.bi_describe.specs.KeptImages.{IsKeptImage}
 use Rattle.bi_describe.specs.ReducedMeanings.{AreSameWithout, meaning_without, reduced_header_lines, reduced_lines, time_lines}
-use Rattle.bi_common.specs.Lines.{text_of_lines}
-use Rattle.bi_describe.proofs.ComparedImages.{memory_error, some_or, some_text}
+use Rattle.bi_describe.proofs.ComparedImages.{memory_error, some_comparison}
 
 -- Two files that were read are compared without what is left out of both.
 
 -- What differs between two images of the same kind.
-abbrev stay_apart : List Ignored → (one other : Meaning) → List SignedLine
-stay_apart words one other = differences_or_reason (reduced_lines (meaning_without words one)) (reduced_lines (meaning_without words other))
+abbrev lines_apart : (own others : List Line) → (one other : Meaning) → Type 0
+lines_apart own others one other = differences_or_reason own others ≡ comparison_by_lines one other own others
 
-legacy_apart : (words : List Ignored) (one other : Meaning) (a b : KeptLegacy) → IsKeptImage (meaning_without words one) (Legacy a) →
-    IsKeptImage (meaning_without words other) (Legacy b) → stay_apart words one other ≡ comparison_without words one other
-legacy_apart words (OfLegacy one) (OfLegacy other) a b is also = refl
-legacy_apart words (OfLegacy one) (OfFit other) a b is also = absurd also
-legacy_apart words (OfFit one) other a b is also = absurd is
+legacy_apart : (words : List Ignored) (one other : Meaning) (a b : KeptLegacy) (own others : List Line) →
+    IsKeptImage (meaning_without words one) (Legacy a) → IsKeptImage (meaning_without words other) (Legacy b) →
+    lines_apart own others one other
+legacy_apart words (OfLegacy one) (OfLegacy other) a b own others is also = refl
+legacy_apart words (OfLegacy one) (OfFit other) a b own others is also = absurd also
+legacy_apart words (OfFit one) other a b own others is also = absurd is
 
-fits_apart : (words : List Ignored) (one other : Meaning) (a b : KeptFit) → IsKeptImage (meaning_without words one) (Fit a) →
-    IsKeptImage (meaning_without words other) (Fit b) → stay_apart words one other ≡ comparison_without words one other
-fits_apart words (OfFit one) (OfFit other) a b is also = refl
-fits_apart words (OfFit one) (OfLegacy other) a b is also = absurd also
-fits_apart words (OfLegacy one) other a b is also = absurd is
+fits_apart : (words : List Ignored) (one other : Meaning) (a b : KeptFit) (own others : List Line) →
+    IsKeptImage (meaning_without words one) (Fit a) → IsKeptImage (meaning_without words other) (Fit b) →
+    lines_apart own others one other
+fits_apart words (OfFit one) (OfFit other) a b own others is also = refl
+fits_apart words (OfFit one) (OfLegacy other) a b own others is also = absurd also
+fits_apart words (OfLegacy one) other a b own others is also = absurd is
 
-pub two_legacy_stay : (words : List Ignored) (one other : Meaning) (image others : KeptImage) (a b : KeptLegacy) → image ≡ Legacy a →
-    others ≡ Legacy b → IsKeptImage (meaning_without words one) image → IsKeptImage (meaning_without words other) others →
-    stay_apart words one other ≡ comparison_without words one other
-two_legacy_stay words one other image others a b is also kept other_kept =
-    legacy_apart words one other a b (subst (IsKeptImage (meaning_without words one)) is kept)
+pub two_legacy_stay : (words : List Ignored) (one other : Meaning) (image other_image : KeptImage) (a b : KeptLegacy)
+    (own others : List Line) → image ≡ Legacy a → other_image ≡ Legacy b → IsKeptImage (meaning_without words one) image →
+    IsKeptImage (meaning_without words other) other_image → lines_apart own others one other
+two_legacy_stay words one other image other_image a b own others is also kept other_kept =
+    legacy_apart words one other a b own others (subst (IsKeptImage (meaning_without words one)) is kept)
     (subst (IsKeptImage (meaning_without words other)) also other_kept)
 
-pub two_fits_stay : (words : List Ignored) (one other : Meaning) (image others : KeptImage) (a b : KeptFit) → image ≡ Fit a →
-    others ≡ Fit b → IsKeptImage (meaning_without words one) image → IsKeptImage (meaning_without words other) others →
-    stay_apart words one other ≡ comparison_without words one other
-two_fits_stay words one other image others a b is also kept other_kept =
-    fits_apart words one other a b (subst (IsKeptImage (meaning_without words one)) is kept)
+pub two_fits_stay : (words : List Ignored) (one other : Meaning) (image other_image : KeptImage) (a b : KeptFit)
+    (own others : List Line) → image ≡ Fit a → other_image ≡ Fit b → IsKeptImage (meaning_without words one) image →
+    IsKeptImage (meaning_without words other) other_image → lines_apart own others one other
+two_fits_stay words one other image other_image a b own others is also kept other_kept =
+    fits_apart words one other a b own others (subst (IsKeptImage (meaning_without words one)) is kept)
     (subst (IsKeptImage (meaning_without words other)) also other_kept)
-
--- What differs is not nothing.
-some_without : (words : List Ignored) (one other : Meaning) → text_of_differences (comparison_without words one other) ≡ [] → ⊥
-some_without words (OfLegacy one) (OfFit other) =
-    some_text (record { sign = Removed; text = codes "kind legacy" }) (record { sign = Added; text = codes "kind fit" } ∷ [])
-some_without words (OfFit one) (OfLegacy other) =
-    some_text (record { sign = Removed; text = codes "kind fit" }) (record { sign = Added; text = codes "kind legacy" } ∷ [])
-some_without words (OfLegacy one) (OfLegacy other) =
-    some_or (differences (lines_to_compare (reduced_lines (meaning_without words (OfLegacy one)))) (lines_to_compare
-    (reduced_lines (meaning_without words (OfLegacy other)))))
-    (reason (text_of_lines (reduced_lines (meaning_without words (OfLegacy one))))
-    (text_of_lines (reduced_lines (meaning_without words (OfLegacy other)))))
-some_without words (OfFit one) (OfFit other) =
-    some_or (differences (lines_to_compare (reduced_lines (meaning_without words (OfFit one)))) (lines_to_compare
-    (reduced_lines (meaning_without words (OfFit other)))))
-    (reason (text_of_lines (reduced_lines (meaning_without words (OfFit one))))
-    (text_of_lines (reduced_lines (meaning_without words (OfFit other)))))
 
 -- There are differences if and only if meanings are not the same.
 none_if_same : (words : List Ignored) (one other : Meaning) (same : Bool) →
     (text_of_differences (lines_without words one other same) ≡ []) ↔ IsTrue same
 none_if_same words one other true = (λ empty. refl, λ is. refl)
-none_if_same words one other false =
-    (λ empty. absurd (some_without words one other empty), λ is. absurd (true≢false (sym is)))
+none_if_same words one other false = (
+  (λ empty. absurd (some_comparison one other (reduced_lines (meaning_without words one)) (reduced_lines (meaning_without words other))
+      empty)),
+  (λ is. absurd (true≢false (sym is))),
+)
 
 -- The result of comparing what stays.
 pub compared_without : (options : IgnoringOptionsModel) (one other : Meaning) (same : Bool) (text : List ℕ) →

@@ -70,6 +70,33 @@ legacy_as_meanings one other = (ap OfReducedLegacy, same_of_legacy one other)
 pub trees_as_meanings : (one other : ReducedTree) → (one ≡ other) ↔ (OfReducedTree one ≡ OfReducedTree other)
 trees_as_meanings one other = (ap OfReducedTree, same_of_tree one other)
 
+-- What holds of two legacy images, or of two trees, holds of the meanings that stay of two images.
+pub legacy_images_by : (Same : (one other : ReducedMeaning) → Type 0) (one other : KeptImage) (a b : KeptLegacy) → one ≡ Legacy a →
+    other ≡ Legacy b → ((image others : ReducedLegacy) → IsKeptLegacy image a → IsKeptLegacy others b →
+    Same (OfReducedLegacy image) (OfReducedLegacy others)) → (meaning other_meaning : ReducedMeaning) → IsKeptImage meaning one →
+    IsKeptImage other_meaning other → Same meaning other_meaning
+legacy_images_by Same one other a b is also same meaning other_meaning kept other_kept =
+    by meaning other_meaning (subst (IsKeptImage meaning) is kept) (subst (IsKeptImage other_meaning) also other_kept)
+  where
+    by : (meaning other_meaning : ReducedMeaning) → IsKeptImage meaning (Legacy a) → IsKeptImage other_meaning (Legacy b) →
+        Same meaning other_meaning
+    by (OfReducedLegacy image) (OfReducedLegacy others) kept other_kept = same image others kept other_kept
+    by (OfReducedLegacy image) (OfReducedTree others) kept other_kept = absurd other_kept
+    by (OfReducedTree tree) other_meaning kept other_kept = absurd kept
+
+pub fit_images_by : (Same : (one other : ReducedMeaning) → Type 0) (one other : KeptImage) (a b : KeptFit) → one ≡ Fit a →
+    other ≡ Fit b → ((tree others : ReducedTree) → IsKeptTree tree a → IsKeptTree others b →
+    Same (OfReducedTree tree) (OfReducedTree others)) → (meaning other_meaning : ReducedMeaning) → IsKeptImage meaning one →
+    IsKeptImage other_meaning other → Same meaning other_meaning
+fit_images_by Same one other a b is also same meaning other_meaning kept other_kept =
+    by meaning other_meaning (subst (IsKeptImage meaning) is kept) (subst (IsKeptImage other_meaning) also other_kept)
+  where
+    by : (meaning other_meaning : ReducedMeaning) → IsKeptImage meaning (Fit a) → IsKeptImage other_meaning (Fit b) →
+        Same meaning other_meaning
+    by (OfReducedTree tree) (OfReducedTree others) kept other_kept = same tree others kept other_kept
+    by (OfReducedTree tree) (OfReducedLegacy others) kept other_kept = absurd other_kept
+    by (OfReducedLegacy image) other_meaning kept other_kept = absurd kept
+
 -- Whether two legacy images are the same decides whether their meanings are.
 pub legacy_images_same : (result : Bool) (one other : KeptImage) (a b : KeptLegacy) → one ≡ Legacy a → other ≡ Legacy b →
     ((image others : ReducedLegacy) → IsKeptLegacy image a → IsKeptLegacy others b → IsTrue result ↔ (image ≡ others)) →

@@ -1,7 +1,7 @@
 use Rattle.std.proofs.Common.{◌≡◌, ℕ, zero, suc, ◌+◌, ◌-◌, ◌<◌, ◌≤◌, Bool, true, false, get_or, List, [], ◌∷◌, ◌++◌, append-nil}
 use Rattle.std.proofs.Common.{append_assoc, arith, length}
 use Rattle.std.proofs.Common.{length-append, map, take, drop, flat_map, refl, sym, ap, ◌∙◌, Some, None, Option, ◌⊎◌, inl, inr}
-use Rattle.std.proofs.Common.{codes}
+use Rattle.std.proofs.Common.{codes, bytes_eq, ◌||◌, if◌then◌else◌}
 use Rattle.std.specs.Option.{option_map}
 use Rattle.std.proofs.lemmas.Bool.{and_parts, le-leb, leb-true, lt-ltb, ltb-true, ne_eqb}
 use Rattle.std.proofs.lemmas.Grind.{flat_map-append}
@@ -11,14 +11,18 @@ use Rattle.bi_base.specs.MemoryPens.{MemoryPuts}
 use Rattle.bi_common.specs.LineTokens.{LineToken, NextField, EndOfLine, end_of_line, has_word, line_token_text, line_tokens, line_writing}
 use Rattle.bi_common.specs.LineTokens.{one_field}
 use Rattle.bi_common.specs.LineTokens.{tokens_of_lines}
-use Rattle.bi_common.specs.Lines.{Field, Line, line_text, text_of_lines}
+use Rattle.bi_common.specs.Lines.{Decimal, Digits, Field, Hexadecimal, Hexadecimal64, Line, Name, Path, Text, Value, line_text}
+use Rattle.bi_common.specs.Lines.{text_of_lines}
 use Rattle.bi_common.specs.Tokens.{fact_after, tokens_text}
 use Rattle.bi_common.proofs.WrittenLines.{text_of_tokens}
+use Rattle.bi_describe.specs.declared.compare.line_keeper.KeyPart.{KeyPart}
+use Rattle.bi_describe.specs.declared.compare.line_keeper.KeyPart.TheVariants as part
 use Rattle.bi_describe.specs.declared.compare.line_keeper.Mark.{Mark}
 use Rattle.bi_describe.specs.declared.compare.line_keeper.OpenLine.{OpenLine}
-use Rattle.bi_describe.specs.Differences.{ComparedLine, key_of_line, line_bytes, line_to_compare, words_of_key}
+use Rattle.bi_describe.specs.Differences.{ComparedLine, plain_key, is_inside_word, key_of_line, line_bytes, line_to_compare, words_of_key}
 use Rattle.bi_describe.specs.LineMarks.{marks_fit, cut_line, cut_lines, mark_of}
-use Rattle.bi_describe.specs.LineKeeping.{Keeping, Keeps, KeeperPuts, line_after_word, end_mark, keep_token, keep_tokens}
+use Rattle.bi_describe.specs.LineKeeping.{Keeping, Keeps, KeeperPuts, is_in_key, line_after_word, end_mark, keep_token, keep_tokens}
+use Rattle.bi_describe.specs.LineKeeping.{part_after}
 use Rattle.bi_describe.specs.LineKeeping.{keep_tokens-append}
 use Rattle.bi_describe.specs.LineKeeping.{new_keeping, new_line, kept_length}
 
@@ -48,20 +52,48 @@ words_text words =
     ∙ ap (tokens_text line_writing false) (sym (append-nil (line_tokens words)))
     ∙ text_of_tokens (words ∷ []) ∙ append-nil (line_text words))
 
--- The text of a line begins with that of its key.
+-- How many words the key of a line has.
+abbrev inside_count : Line → ℕ
+inside_count [] = 0
+inside_count (path ∷ []) = 1
+inside_count (path ∷ second ∷ later) = suc (words_of_key second)
+
+abbrev key_count : Line → ℕ
+key_count [] = 0
+key_count (first ∷ later) = if is_inside_word first then suc (inside_count later) else words_of_key first
+
+-- The key is the first words.
+inside_taken : (later : Line) → take 1 later ++ plain_key (drop 1 later) ≡ take (inside_count later) later
+inside_taken [] = refl
+inside_taken (path ∷ []) = refl
+inside_taken (path ∷ second ∷ later) = refl
+
+count_taken : (is : Bool) (first : Field) (later : Line) →
+    (if is then first ∷ (take 1 later ++ plain_key (drop 1 later)) else plain_key (first ∷ later))
+    ≡ take (if is then suc (inside_count later) else words_of_key first) (first ∷ later)
+count_taken true first later = ap (λ rest. first ∷ rest) (inside_taken later)
+count_taken false first later = refl
+
+key_taken : (words : Line) → key_of_line words ≡ take (key_count words) words
+key_taken [] = refl
+key_taken (first ∷ later) = count_taken (is_inside_word first) first later
+
+-- The text of a line begins with that of its first words, and so with that of its key.
+words_before : (count : ℕ) (words : Line) → (rest : List ℕ) × (line_bytes words ≡ line_bytes (take count words) ++ rest)
+words_before count words = (
+  _,
+  sym (words_text words)
+      ∙ ap (text_from false) (sym (take-append-drop count words))
+      ∙ ap (tokens_text line_writing false) (flat_map-append one_field (take count words) (drop count words))
+      ∙ text_in_turn false (take count words) (flat_map one_field (drop count words))
+      ∙ ap (λ text. text ++ tokens_text line_writing (fact_after line_writing false (flat_map one_field (take count words)))
+      (flat_map one_field (drop count words))) (words_text (take count words)),
+)
+
 key_before : (words : Line) → (rest : List ℕ) × (line_bytes words ≡ line_bytes (key_of_line words) ++ rest)
-key_before [] = ([], refl)
-key_before (first ∷ later) =
-    let words : Line = first ∷ later in
-    let count = words_of_key first in (
-      _,
-      sym (words_text words)
-          ∙ ap (text_from false) (sym (take-append-drop count words))
-          ∙ ap (tokens_text line_writing false) (flat_map-append one_field (take count words) (drop count words))
-          ∙ text_in_turn false (take count words) (flat_map one_field (drop count words))
-          ∙ ap (λ text. text ++ tokens_text line_writing (fact_after line_writing false (flat_map one_field (take count words)))
-          (flat_map one_field (drop count words))) (words_text (take count words)),
-    )
+key_before words =
+    let (rest, is) = words_before (key_count words) words in
+    (rest, is ∙ ap (λ key. line_bytes key ++ rest) (sym (key_taken words)))
 
 -- ---- what is kept
 
@@ -85,7 +117,7 @@ abbrev keeping : (text : List ℕ) → List Mark → (start key_end missing : �
 keeping text marks start key_end missing has_word = record {
   text = text;
   marks = marks;
-  line = record { start = start; key_end = key_end; missing = Some missing; has_word = has_word };
+  line = record { start = start; key_end = key_end; next = part.Named missing; has_word = has_word };
 }
 
 -- The key ends where it ended, if no word of it is missing.
@@ -110,15 +142,77 @@ key_ends (suc missing) (word ∷ words) text marks start counted is_later is =
     (has_word is_later (NextField word)) (omega arith)
     ∙ ap length (append_assoc text own _))
 
+-- A key has a word.
+named_count : (one two : Bool) → (if one then 3 else if two then 2 else 1) ≡ suc ((if one then 3 else if two then 2 else 1) - 1)
+named_count true two = refl
+named_count false true = refl
+named_count false false = refl
+
+has_count : (first : Field) → words_of_key first ≡ suc (words_of_key first - 1)
+has_count (Text word) =
+    named_count (bytes_eq word (codes "property") || bytes_eq word (codes "reservation"))
+    (bytes_eq word (codes "node") || (bytes_eq word (codes "payload") || bytes_eq word (codes "part")))
+has_count (Name name) = refl
+has_count (Decimal number) = refl
+has_count (Hexadecimal number) = refl
+has_count (Hexadecimal64 number) = refl
+has_count (Digits bytes) = refl
+has_count (Path names) = refl
+has_count (Value value) = refl
+
+-- What is kept before a word of a line.
+abbrev before_word : (text : List ℕ) → List Mark → (start key_end : ℕ) → KeyPart → (has_word : Bool) → Keeping
+before_word text marks start key_end next has_word = record {
+  text = text;
+  marks = marks;
+  line = record { start = start; key_end = key_end; next = next; has_word = has_word };
+}
+
+-- The key ends after as many words as the next one says.
+counted_kept : (word : Field) (words : Line) (text : List ℕ) (marks : List Mark) (start key_end : ℕ) (next : KeyPart) (is_later : Bool) →
+    is_in_key next ≡ true → part_after next word ≡ part.Named (words_of_key word - 1) →
+    (keep_tokens (before_word text marks start key_end next is_later) (flat_map one_field (word ∷ words))).line.key_end
+    ≡ length (text ++ text_from is_later (take (words_of_key word) (word ∷ words)))
+unfolding one_field
+counted_kept word words text marks start key_end next is_later in_key is =
+    let own = line_token_text is_later (NextField word) in
+    let count = words_of_key word - 1 in
+    rw (in_key, is) (key_ends count words (text ++ own) marks start count (has_word is_later (NextField word)) refl
+    ∙ ap length (append_assoc text own _)
+    ∙ ap (λ n. length (text ++ text_from is_later (take n (word ∷ words)))) (sym (has_count word)))
+
+-- After the first word of a line that is inside a payload.
+inside_kept : (later : Line) (text : List ℕ) (marks : List Mark) (start : ℕ) (is_later : Bool) →
+    (keep_tokens (before_word text marks start (length text) part.Payload is_later) (flat_map one_field later)).line.key_end
+    ≡ length (text ++ text_from is_later (take (inside_count later) later))
+unfolding one_field
+inside_kept [] text marks start is_later = ap length (sym (append-nil text))
+inside_kept (path ∷ []) text marks start is_later =
+    ap (λ own. length (text ++ own)) (sym (append-nil (line_token_text is_later (NextField path))))
+inside_kept (path ∷ second ∷ later) text marks start is_later =
+    let own = line_token_text is_later (NextField path) in
+    counted_kept second later (text ++ own) marks start (length (text ++ own)) part.Second (has_word is_later (NextField path)) refl refl
+    ∙ ap length (append_assoc text own _)
+
+first_kept : (is : Bool) (first : Field) (later : Line) (text : List ℕ) (marks : List Mark) → is_inside_word first ≡ is →
+    (keep_tokens (fresh text marks) (flat_map one_field (first ∷ later))).line.key_end
+    ≡ length (text ++ text_from false (take (if is then suc (inside_count later) else words_of_key first) (first ∷ later)))
+unfolding one_field
+first_kept true first later text marks is =
+    let own = line_token_text false (NextField first) in
+    rw is (inside_kept later (text ++ own) marks (length text) (has_word false (NextField first)) ∙ ap length (append_assoc text own _))
+first_kept false first later text marks is =
+    counted_kept first later text marks (length text) (length text) part.First false refl
+    (ap (λ inside. if inside then part.Payload else part.Named (words_of_key first - 1)) is)
+
 -- The key of a line.
 key_kept : (words : Line) (text : List ℕ) (marks : List Mark) →
     (keep_tokens (fresh text marks) (flat_map one_field words)).line.key_end ≡ length (text ++ line_bytes (key_of_line words))
-unfolding one_field
 key_kept [] text marks = ap length (sym (append-nil text))
 key_kept (first ∷ later) text marks =
-    let count = words_of_key first in
-    key_ends count (first ∷ later) text marks (length text) count false refl
-    ∙ ap (λ key. length (text ++ key)) (words_text (take count (first ∷ later)))
+    first_kept (is_inside_word first) first later text marks refl
+    ∙ ap (λ key. length (text ++ key)) (words_text (take (key_count (first ∷ later)) (first ∷ later)))
+    ∙ ap (λ key. length (text ++ line_bytes key)) (sym (key_taken (first ∷ later)))
 
 -- The end of a line.
 line_ended : (words : Line) (text : List ℕ) (kept : Keeping) → kept.text ≡ text ++ line_bytes words → kept.line.start ≡ length text →

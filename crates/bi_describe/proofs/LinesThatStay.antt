@@ -5,13 +5,13 @@ use Rattle.std.specs.FinMap.{entries}
 use Rattle.std.specs.FinMap.Entries.{where_key}
 use Rattle.std.specs.List.{AllByRecursion}
 use Rattle.bi_base.proofs.ListMembers.{each-append, each-back, each-front}
-use Rattle.bi_blob.specs.Tree.{Nodes, none, node, Property}
+use Rattle.bi_blob.specs.Tree.{Nodes, none, node, Property, Root}
 use Rattle.bi_fit.specs.ImageTree.{ImageTree}
 use Rattle.bi_legacy.specs.Meaning.{LegacyImage}
 use Rattle.bi_norm.specs.Meaning.{Meaning, OfLegacy, OfFit}
 use Rattle.bi_common.specs.CommonLines.{header_lines, reservation_line}
 use Rattle.bi_common.specs.Lines.{Line}
-use Rattle.bi_describe.specs.ComparedNodes.{ComparedNode, nodes_to_compare, described_node, described_payload}
+use Rattle.bi_describe.specs.ComparedNodes.{ComparedNode, described_node, described_payload}
 use Rattle.bi_describe.specs.Descriptions.{description_lines, digest_of_payload, fit_lines, head_lines, legacy_lines, node_lines, own_lines}
 use Rattle.bi_describe.specs.Descriptions.{part_lines, payload_lines, plain_node, property_line, tree_lines}
 use Rattle.bi_describe.specs.Ignoring.{Ignored, is_node_ignored, is_part_ignored, is_property_ignored, is_time_ignored}
@@ -81,25 +81,28 @@ module _ (P : Line → Type 0) (words : List Ignored) where
           (own_stays inner own (each-front P own_ones (below ++ after) each))
           (each-append P (node_lines inner (as_described (kept_nodes words inner children))) _ in_children in_later))
 
-  root_stays : (tree : ImageTree) → Each (tree_lines tree) →
-      Each (reduced_root_lines (kept_root words (compared_root tree.root tree.payloads)))
-  root_stays tree each = by (is_node_ignored words []) refl
+  pub stays_of_root : (root : Root ComparedNode) →
+      Each (own_lines [] (described_node root.own) ++ node_lines [] (as_described root.children)) →
+      Each (reduced_root_lines (kept_root words root))
+  stays_of_root root each = by (is_node_ignored words []) refl
     where
       own_ones : List Line
-      own_ones = own_lines [] (plain_node tree.root.own)
+      own_ones = own_lines [] (described_node root.own)
 
       below : List Line
-      below = node_lines [] (as_described (nodes_to_compare tree.root.children tree.payloads))
+      below = node_lines [] (as_described root.children)
 
-      all : Each (own_ones ++ below)
-      all = subst (λ nodes. Each (own_ones ++ node_lines [] nodes)) (sym (nodes_described tree.root.children tree.payloads)) each
-
-      by : (b : Bool) → is_node_ignored words [] ≡ b →
-          Each (reduced_root_lines (kept_root words (compared_root tree.root tree.payloads)))
+      by : (b : Bool) → is_node_ignored words [] ≡ b → Each (reduced_root_lines (kept_root words root))
       by true is = rw is tt
-      by false is = rw is (each-append P (own_lines [] (described_node (kept_own words [] (compared_root tree.root tree.payloads).own))) _
-          (own_stays [] (compared_root tree.root tree.payloads).own (each-front P own_ones below all))
-          (nodes_stay [] (nodes_to_compare tree.root.children tree.payloads) (each-back P own_ones below all)))
+      by false is = rw is (each-append P (own_lines [] (described_node (kept_own words [] root.own))) _
+          (own_stays [] root.own (each-front P own_ones below each)) (nodes_stay [] root.children (each-back P own_ones below each)))
+
+  root_stays : (tree : ImageTree) → Each (tree_lines tree) →
+      Each (reduced_root_lines (kept_root words (compared_root tree.root tree.payloads)))
+  root_stays tree each =
+      stays_of_root (compared_root tree.root tree.payloads)
+      (subst (λ nodes. Each (own_lines [] (plain_node tree.root.own) ++ node_lines [] nodes))
+      (sym (nodes_described tree.root.children tree.payloads)) each)
 
   tree_stays : (tree : ImageTree) → Each (fit_lines tree) → Each (reduced_tree_lines (reduced_tree words tree))
   tree_stays tree each =

@@ -23,7 +23,8 @@ use Rattle.bi_fit.proofs.NormalTrees.{held_means}
 use Rattle.bi_norm.specs.Meaning.{OfFit}
 use Rattle.bi_common.specs.declared.format.Format.{Format}
 use Rattle.bi_common.specs.declared.format.Format.TheVariants as forms
-use Rattle.bi_common.specs.Json.{Json, JsonMembers, JsonValues, json_members, json_text, json_values, members_text, string_byte}
+use Rattle.bi_common.specs.Json.{Json, JsonMembers, JsonValues, Member, json_line, json_members, json_text, json_values, members_text}
+use Rattle.bi_common.specs.Json.{string_byte}
 use Rattle.bi_common.specs.Json.{values_text}
 use Rattle.bi_common.specs.Json.{json_null, json_bool, json_number, json_string, array_of, object_of, no_value, next_value, no_member}
 use Rattle.bi_common.specs.Json.{next_member}
@@ -31,7 +32,8 @@ use Rattle.bi_common.specs.Lines.{Line, line_text, text_of_lines}
 use Rattle.bi_common.specs.Shown.{Words, path, line, shown_byte, shown_text}
 use Rattle.bi_common.specs.ValueTexts.{value_words}
 use Rattle.bi_describe.specs.Describing.{IsImageError, description_text}
-use Rattle.bi_describe.specs.DescriptionJson.{description_json, fit_object, node_members, node_objects, property_object}
+use Rattle.bi_describe.specs.DescriptionJson.{description_json, fit_object_with, node_members, node_members_with, node_objects}
+use Rattle.bi_describe.specs.DescriptionJson.{node_objects_with, property_object}
 use Rattle.bi_describe.specs.Descriptions.{DescribedNode, NodePayload, NotAnImage, OfImage, plain_node, described_images}
 use Rattle.bi_describe.specs.Descriptions.{described_children}
 use Rattle.bi_describe.specs.Descriptions.{described_nodes, description, node_lines, own_lines, property_line, tree_lines}
@@ -51,7 +53,7 @@ pub shown_as_long : (name : List ℕ) → length name ≤ length (shown_text nam
 shown_as_long name = search (rules, bytes_eq-Decides, bytes_shown)
 
 -- A line is at least as long as its third word.
-third_word : (first second third : List ℕ) (later : Words) → length third ≤ length (line (first ∷ second ∷ third ∷ later))
+pub third_word : (first second third : List ℕ) (later : Words) → length third ≤ length (line (first ∷ second ∷ third ∷ later))
 third_word first second third [] = search (rules, length-append)
 third_word first second third (word ∷ later) = search (rules, length-append)
 
@@ -116,7 +118,7 @@ same_node name own children others later more below after =
     ap (λ nodes. node name own nodes later) below ∙ ap (λ nodes. node name own others nodes) after
 
 -- The described nodes have the properties of the nodes of the tree: those that are not image nodes,
-plain_properties : (nodes : Nodes PropertyMap) → properties_by_node (with_each plain_node nodes) ≡ nodes
+pub plain_properties : (nodes : Nodes PropertyMap) → properties_by_node (with_each plain_node nodes) ≡ nodes
 plain_properties none = refl
 plain_properties (node name own children later) =
     same_node name own _ _ _ _ (plain_properties children) (plain_properties later)
@@ -169,7 +171,7 @@ all_shown tree is = properties_shown ArePropertiesByName tree.root.children is.i
     is.apart
 
 -- The lines of a tree are at least as long as the long names of its properties,
-abbrev long_bytes_of : ImageTree → ℕ
+abbrev pub long_bytes_of : ImageTree → ℕ
 long_bytes_of tree = long_bytes (names_of_nodes (as_nodes tree.root))
 
 tree_long : (tree : ImageTree) → IsImageTree tree → long_bytes_of tree ≤ length (text_of_lines (tree_lines tree))
@@ -185,24 +187,24 @@ tree_long tree is =
     omega (arith, same, lines, names, one, two)
 
 -- and so is the description,
-lines_long : (tree : ImageTree) → IsImageTree tree → long_bytes_of tree ≤ length (description (OfFit tree))
+pub lines_long : (tree : ImageTree) → IsImageTree tree → long_bytes_of tree ≤ length (description (OfFit tree))
 lines_long tree is = search (rules, length-append, flat_map-append, tree_long)
 
 -- ---- also in JSON
 
 -- How long the strings of a value are together, without the names of members.
 abbrev mutual
-  strings_length : Json → ℕ
+  pub strings_length : Json → ℕ
   strings_length (json_string bytes) = length bytes
   strings_length (array_of values) = values_length values
   strings_length (object_of members) = members_length members
   strings_length value = 0
 
-  values_length : JsonValues → ℕ
+  pub values_length : JsonValues → ℕ
   values_length no_value = 0
   values_length (next_value value later) = strings_length value + values_length later
 
-  members_length : JsonMembers → ℕ
+  pub members_length : JsonMembers → ℕ
   members_length no_member = 0
   members_length (next_member name value later) = strings_length value + members_length later
 
@@ -214,7 +216,7 @@ string_long [] = omega arith
 string_long (byte ∷ later) = search (rules, length-append, string_byte_long, string_long later)
 
 mutual
-  value_long : (value : Json) → strings_length value ≤ length (json_text value)
+  pub value_long : (value : Json) → strings_length value ≤ length (json_text value)
   value_long json_null = omega arith
   value_long (json_bool value) = omega arith
   value_long (json_number number) = omega arith
@@ -230,7 +232,7 @@ mutual
   members_long is_later no_member = omega arith
   members_long is_later (next_member name value later) = search (rules, length-append, value_long value, members_long true later)
 
-properties_in_json : (properties : List Property) →
+pub properties_in_json : (properties : List Property) →
     long_bytes (map (λ property. property.0) properties) ≤ values_length (json_values (map property_object properties))
 properties_in_json [] = omega arith
 properties_in_json (property ∷ later) =
@@ -240,39 +242,52 @@ properties_in_json (property ∷ later) =
     let rest = properties_in_json later in
     omega (arith, names, short, shown, rest)
 
-own_in_json : (own : DescribedNode) (children : List Json) →
+own_in_json_with : (after : List Member) (own : DescribedNode) (children : List Json) →
     values_length (json_values (map property_object (entries own.properties))) + values_length (json_values children)
-    ≤ members_length (json_members (node_members own children))
-own_in_json own children = by own.payload
+    ≤ members_length (json_members (node_members_with after own children))
+own_in_json_with after own children = by own.payload
   where
     by : (payload : NodePayload) →
         values_length (json_values (map property_object (entries own.properties))) + values_length (json_values children)
-        ≤ members_length (json_members (node_members (record own { payload = payload }) children))
+        ≤ members_length (json_members (node_members_with after (record own { payload = payload }) children))
     by NotAnImage = omega arith
     by (OfImage payload) = omega arith
 
-nodes_in_json : (nodes : Nodes DescribedNode) →
-    long_bytes (names_of_nodes (properties_by_node nodes)) ≤ values_length (json_values (node_objects nodes))
-nodes_in_json none = omega arith
-nodes_in_json (node name own children later) =
+pub own_in_json : (own : DescribedNode) (children : List Json) →
+    values_length (json_values (map property_object (entries own.properties))) + values_length (json_values children)
+    ≤ members_length (json_members (node_members own children))
+own_in_json own children = own_in_json_with [] own children
+
+nodes_in_json_with : (inside : List ℕ → List Member) (nodes : Nodes DescribedNode) →
+    long_bytes (names_of_nodes (properties_by_node nodes)) ≤ values_length (json_values (node_objects_with inside nodes))
+nodes_in_json_with inside none = omega arith
+nodes_in_json_with inside (node name own children later) =
     let names = long_bytes_of_node name own.properties (properties_by_node children) (properties_by_node later) in
-    let first = own_in_json own (node_objects children) in
+    let first = own_in_json_with (inside name) own (node_objects_with inside children) in
     let one = properties_in_json (entries own.properties) in
-    let two = nodes_in_json children in
-    let three = nodes_in_json later in
+    let two = nodes_in_json_with inside children in
+    let three = nodes_in_json_with inside later in
     omega (arith, names, first, one, two, three)
 
-json_long : (tree : ImageTree) → IsImageTree tree → long_bytes_of tree ≤ length (description_json (OfFit tree))
-json_long tree is =
+pub nodes_in_json : (nodes : Nodes DescribedNode) →
+    long_bytes (names_of_nodes (properties_by_node nodes)) ≤ values_length (json_values (node_objects nodes))
+nodes_in_json nodes = nodes_in_json_with (λ name. []) nodes
+
+pub json_long_with : (inside : List ℕ → List Member) (tree : ImageTree) → IsImageTree tree →
+    long_bytes_of tree ≤ length (json_line (fit_object_with inside tree))
+json_long_with inside tree is =
     let nodes : Nodes DescribedNode = described_nodes tree.root.children tree.payloads in
     let same = ap (λ nodes. long_bytes (names_of_nodes nodes)) (all_shown tree is) in
     let names = long_bytes_of_node [] tree.root.own tree.root.children none in
-    let root = own_in_json (plain_node tree.root.own) (node_objects nodes) in
+    let root = own_in_json (plain_node tree.root.own) (node_objects_with inside nodes) in
     let one = properties_in_json (entries tree.root.own) in
-    let two = nodes_in_json nodes in
-    let text = value_long (fit_object tree) in
-    let line = length-append (json_text (fit_object tree)) (10 ∷ []) in
+    let two = nodes_in_json_with inside nodes in
+    let text = value_long (fit_object_with inside tree) in
+    let line = length-append (json_text (fit_object_with inside tree)) (10 ∷ []) in
     omega (arith, same, names, root, one, two, text, line)
+
+json_long : (tree : ImageTree) → IsImageTree tree → long_bytes_of tree ≤ length (description_json (OfFit tree))
+json_long tree is = json_long_with (λ name. []) tree is
 
 -- An image with different long names that are together longer than the limit is too long to describe, in any form.
 pub refused_names : (format : Format) (limits : Limits) (content : FitModel) (limit : ℕ) (e : Error) → IsHeld content →

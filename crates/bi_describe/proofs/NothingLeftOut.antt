@@ -19,7 +19,7 @@ use Rattle.bi_common.specs.CommonLines.{header_lines, reservation_line}
 use Rattle.bi_describe.specs.ComparedNodes.{ComparedNode, ComparedPayload, NoImage, ImageWith, compared_children, compared_images}
 use Rattle.bi_describe.specs.ComparedNodes.{nodes_to_compare}
 use Rattle.bi_describe.specs.ComparedNodes.{plain_compared}
-use Rattle.bi_describe.specs.Comparing.{comparison, differences_or_reason}
+use Rattle.bi_describe.specs.Comparing.{comparison, comparison_by_lines}
 use Rattle.bi_describe.specs.ComparingWithout.{comparison_without}
 use Rattle.bi_describe.specs.Descriptions.{description_lines, digest_of_payload, head_lines, node_lines, own_lines, part_line, part_lines}
 use Rattle.bi_describe.specs.Descriptions.{plain_node}
@@ -53,8 +53,8 @@ nodes_stay above (node name own children later) =
     let after = nodes_stay above later in
     (λ i. node name (own_stays i) (below i) (after i))
 
-root_stays : (root : Root ComparedNode) → kept_root [] root ≡ Some root
-root_stays root = (λ i. Some (record {
+pub whole_root_stays : (root : Root ComparedNode) → kept_root [] root ≡ Some root
+whole_root_stays root = (λ i. Some (record {
   own = record { properties = properties_stay [] root.own.properties i; payload = root.own.payload };
   children = nodes_stay [] root.children i;
 }))
@@ -183,7 +183,7 @@ whole_tree tree =
 
 tree_stays : (tree : ImageTree) → meaning_without [] (OfFit tree) ≡ OfReducedTree (whole_tree tree)
 tree_stays tree =
-    ap (λ root. OfReducedTree (record (whole_tree tree) { root = root })) (root_stays (compared_root tree.root tree.payloads))
+    ap (λ root. OfReducedTree (record (whole_tree tree) { root = root })) (whole_root_stays (compared_root tree.root tree.payloads))
 
 -- The lines are those of the description.
 pub all_lines : (meaning : Meaning) → reduced_lines (meaning_without [] meaning) ≡ description_lines meaning
@@ -219,10 +219,7 @@ same_whole (OfFit one) (OfFit other) is also same =
 
 -- What differs is what differs between the descriptions.
 same_differences : (one other : Meaning) → comparison_without [] one other ≡ comparison one other
-same_differences (OfLegacy one) (OfFit other) = refl
-same_differences (OfFit one) (OfLegacy other) = refl
-same_differences (OfLegacy one) (OfLegacy other) = ap₂ differences_or_reason (all_lines (OfLegacy one)) (all_lines (OfLegacy other))
-same_differences (OfFit one) (OfFit other) = ap₂ differences_or_reason (all_lines (OfFit one)) (all_lines (OfFit other))
+same_differences one other = ap₂ (comparison_by_lines one other) (all_lines one) (all_lines other)
 
 is_whole : (limits : Limits) (file : List ℕ) (meaning : Meaning) → Means limits file meaning → IsWhole meaning
 is_whole limits file (OfLegacy image) means = 0

@@ -20,6 +20,10 @@ pub part_digests_from : (parts : List DescribedPart) (index : ℕ) (part : Descr
 part_digests_from parts index part is within = ap (λ (left : List DescribedPart). map digest_of_part left)
     (parts_from parts index part is within)
 
+pub part_bytes_from : (parts : List DescribedPart) (index : ℕ) (part : DescribedPart) → part ≡ get_or parts index part →
+    index < length parts → bytes_of_parts (drop index parts) ≡ part.bytes.now ∷ bytes_of_parts (drop (index + 1) parts)
+part_bytes_from parts index part is within = ap bytes_of_parts (parts_from parts index part is within)
+
 -- The parts that stay of those from one on.
 abbrev pub kept_from : List Ignored → (index : ℕ) → List DescribedPart → List (ℕ × List ℕ)
 kept_from words index parts = flat_map (kept_part words) (numbered_parts index (bytes_of_parts parts))

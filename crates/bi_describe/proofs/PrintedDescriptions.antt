@@ -59,7 +59,7 @@ properties_can names are [] good = tt
 properties_can names are (property ∷ later) good =
     ((refl, (are, (good.0.name_bytes, (good.0.value_bytes, tt)))), properties_can names are later good.1)
 
-own_can : (names : List (List ℕ)) → AllByRecursion AreBytes names → (own : DescribedNode) → AreBlobProperties (entries own.properties) →
+pub own_can : (names : List (List ℕ)) → AllByRecursion AreBytes names → (own : DescribedNode) → AreBlobProperties (entries own.properties) →
     IsShownPayload own.payload → CanPrintLines (own_lines names own)
 own_can names are own properties payload = (
   (refl, (are, tt)),
@@ -67,7 +67,7 @@ own_can names are own properties payload = (
       (payload_can names are own.payload payload) (properties_can names are (entries own.properties) properties),
 )
 
-nodes_can : (above : List (List ℕ)) → AllByRecursion AreBytes above → (nodes : Nodes DescribedNode) → AreShown nodes →
+pub nodes_can : (above : List (List ℕ)) → AllByRecursion AreBytes above → (nodes : Nodes DescribedNode) → AreShown nodes →
     CanPrintLines (node_lines above nodes)
 nodes_can above are none shown = tt
 nodes_can above are (node name own children later) shown =
@@ -106,6 +106,11 @@ pub fit_is_ascii : (format : Format) (content : FitModel) → IsHeld content →
 fit_is_ascii Lines content held =
     line_texts_are_ascii (fit_lines (tree_of content)) (fit_can content.blob.file (tree_of content) (held_means content held))
 fit_is_ascii Json content held = json_lines_are_ascii (fit_object (tree_of content))
+
+-- What a pen in memory has of a text is the text.
+pub written_text : (text : List ℕ) (begin end : Option (List ℕ)) (items : List ℕ) → begin ≡ Some [] → end ≡ Some items →
+    MemoryPuts begin text end → items ≡ text
+written_text text begin end items begins ends put = rw (begins, ends) at put
 
 -- What a pen in memory has of a text that is ASCII is UTF-8.
 pub written_utf8 : (text : List ℕ) (begin end : Option (List ℕ)) (items : List ℕ) → IsAscii text → begin ≡ Some [] → end ≡ Some items →

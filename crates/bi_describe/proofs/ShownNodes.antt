@@ -44,7 +44,7 @@ abbrev pub AreShown : Nodes DescribedNode → Type 0
 AreShown none = ⊤
 AreShown (node name own children later) = IsShownNode name own × AreShown children × AreShown later
 
-plain_shown : (nodes : Nodes PropertyMap) → AreNodes ArePropertiesByName nodes → HaveByteNames nodes →
+pub plain_shown : (nodes : Nodes PropertyMap) → AreNodes ArePropertiesByName nodes → HaveByteNames nodes →
     AreShown (with_each plain_node nodes)
 plain_shown none are bytes = tt
 plain_shown (node name own children later) are bytes = (

@@ -49,7 +49,7 @@ after_slash [] rest plain some = absurd (some refl)
 after_slash (byte ∷ later) rest plain some = rw (plain.0) (no_two (byte ∷ later) rest plain some)
 
 -- Two slashes are there, whatever is around them.
-two_there : (before rest : List ℕ) → has_two_slashes (before ++ (47 ∷ 47 ∷ rest)) ≡ true
+pub two_there : (before rest : List ℕ) → has_two_slashes (before ++ (47 ∷ 47 ∷ rest)) ≡ true
 two_there [] rest = refl
 two_there (byte ∷ []) rest = by (byte == 47)
   where
@@ -161,9 +161,12 @@ steps_no_two (name ∷ later) are =
     after_slash (shown_text name) (steps_text later) (shown_no_slash name are.0.is_name.no_slash) (some_shown name)
     ∙ steps_no_two later are.1
 
+pub names_no_two : (names : List (List ℕ)) → AllByRecursion IsChildNameOfBytes names → has_two_slashes (path names) ≡ false
+names_no_two [] are = refl
+names_no_two (name ∷ names) are = steps_no_two (name ∷ names) are
+
 path_no_two : (names : List (List ℕ)) → IsNodePath names → has_two_slashes (path names) ≡ false
-path_no_two [] is = refl
-path_no_two (name ∷ names) is = steps_no_two (name ∷ names) is.are_names
+path_no_two names is = names_no_two names is.are_names
 
 -- and neither has that of a payload with a slash after it.
 payload_no_two : (payload : PayloadPlace) → IsPayloadPlace payload → has_two_slashes (payload_path payload ++ 47 ∷ []) ≡ false

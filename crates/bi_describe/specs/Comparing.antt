@@ -59,13 +59,20 @@ kinds_differ kind other_kind =
     record { sign = sign.Removed; text = kind } ∷ record { sign = sign.Added; text = other_kind }
     ∷ []
 
--- What differs between two meanings that are not the same. If they are of different kinds, that is
--- all.
+-- What differs between two meanings that are not the same, of which these lines are compared. If
+-- they are of different kinds, that is all.
+abbrev pub comparison_by_lines : (one other : Meaning) → (lines other_lines : List Line)
+    → List SignedLine
+comparison_by_lines (OfLegacy one) (OfFit other) lines other_lines =
+    kinds_differ (codes "kind legacy") (codes "kind fit")
+comparison_by_lines (OfFit one) (OfLegacy other) lines other_lines =
+    kinds_differ (codes "kind fit") (codes "kind legacy")
+comparison_by_lines one other lines other_lines = differences_or_reason lines other_lines
+
+-- That is the lines of their descriptions.
 abbrev pub comparison : (one other : Meaning) → List SignedLine
-comparison (OfLegacy one) (OfFit other) = kinds_differ (codes "kind legacy") (codes "kind fit")
-comparison (OfFit one) (OfLegacy other) = kinds_differ (codes "kind fit") (codes "kind legacy")
 comparison one other =
-    differences_or_reason (description_lines one) (description_lines other)
+    comparison_by_lines one other (description_lines one) (description_lines other)
 
 -- The lines are what differs between two meanings: none if they are the same. If they are not, both
 -- can be described.

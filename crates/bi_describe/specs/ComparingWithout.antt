@@ -1,12 +1,12 @@
-use Rattle.std.specs.Prelude.{◌≡◌, ◌↔◌, ◌⊎◌, Bool, IsTrue, ℕ, List, [], codes, if◌then◌else◌}
+use Rattle.std.specs.Prelude.{◌≡◌, ◌↔◌, ◌⊎◌, Bool, IsTrue, ℕ, List, [], if◌then◌else◌}
 use Rattle.bi_base.specs.Limits.{Limits}
 use Rattle.bi_norm.specs.Comparing.{MeansOnly}
-use Rattle.bi_norm.specs.Meaning.{Meaning, OfLegacy, OfFit}
+use Rattle.bi_norm.specs.Meaning.{Meaning}
 use Rattle.bi_common.specs.declared.format.Format.{Format}
 use Rattle.bi_common.specs.declared.format.Format.TheVariants.{Lines}
 use Rattle.bi_describe.specs.declared.compare.CompareError.{CompareError}
-use Rattle.bi_describe.specs.Comparing.{IsReadingError, IsDescribingError, comparison_text}
-use Rattle.bi_describe.specs.Comparing.{differences_or_reason, kinds_differ}
+use Rattle.bi_describe.specs.Comparing.{IsReadingError, IsDescribingError, comparison_by_lines}
+use Rattle.bi_describe.specs.Comparing.{comparison_text}
 use Rattle.bi_describe.specs.Describing.{CanBeDescribed}
 use Rattle.bi_describe.specs.Differences.{SignedLine, text_of_differences}
 use Rattle.bi_describe.specs.Ignoring.{Ignored}
@@ -23,12 +23,8 @@ pub record IgnoringOptionsModel : Type 0 where
 -- What differs between two meanings that are not the same. If they are of different kinds, that is
 -- all, and nothing is left out; or else it is what differs between the lines that stay of both.
 abbrev pub comparison_without : List Ignored → (one other : Meaning) → List SignedLine
-comparison_without words (OfLegacy one) (OfFit other) =
-    kinds_differ (codes "kind legacy") (codes "kind fit")
-comparison_without words (OfFit one) (OfLegacy other) =
-    kinds_differ (codes "kind fit") (codes "kind legacy")
 comparison_without words one other =
-    differences_or_reason (reduced_lines (meaning_without words one))
+    comparison_by_lines one other (reduced_lines (meaning_without words one))
     (reduced_lines (meaning_without words other))
 
 -- The lines that differ: none if the meanings are the same.

@@ -16,23 +16,27 @@ use Rattle.bi_describe.specs.Descriptions.{described_nodes}
 
 -- The JSON that `describe` writes: it depends on the meaning alone (profile of this project).
 
--- A payload, or a part of a legacy image: its size and its SHA-256.
-abbrev pub digest_object : PayloadDigest → Json
-digest_object digest =
-    json_object
-    ((codes "size", json_number digest.size)
-    ∷ (codes "sha256", json_string (hexadecimal_digits digest.sha256)) ∷ [])
+-- The members for the size and the SHA-256 of a payload.
+abbrev pub digest_members : PayloadDigest → List Member
+digest_members digest =
+    (codes "size", json_number digest.size)
+    ∷ (codes "sha256", json_string (hexadecimal_digits digest.sha256)) ∷ []
 
--- A legacy image.
+-- A payload, or a part of a legacy image: its size and its SHA-256, and these members after them.
+abbrev pub digest_object_with : (later : List Member) → PayloadDigest → Json
+digest_object_with later digest = json_object (digest_members digest ++ later)
+
+abbrev pub digest_object : PayloadDigest → Json
+digest_object digest = digest_object_with [] digest
+
+-- A legacy image whose parts have these objects.
+abbrev pub legacy_object_with : (parts : List Json) → LegacyImage → Json
+legacy_object_with parts image =
+    json_object (header_members image ++ (codes "parts", json_array parts) ∷ [])
+
 abbrev pub legacy_object : LegacyImage → Json
 legacy_object image =
-    json_object
-    (header_members image
-    ++ (
-      codes "parts",
-      json_array
-          (map (λ part. digest_object (digest_of_payload part)) image.parts),
-    ) ∷ [])
+    legacy_object_with (map (λ part. digest_object (digest_of_payload part)) image.parts) image
 
 -- The member for the value of a property: its texts, if it is one or more texts, or else its
 -- bytes.
@@ -47,34 +51,51 @@ abbrev pub property_object : Property → Json
 property_object property =
     json_object (name_member (codes "name") property.0 ∷ value_member property.1 ∷ [])
 
--- The payload of an image, if it has one.
+-- The payload of an image, if it has one, with these members after its SHA-256.
+abbrev pub payload_or_null_with : (later : List Member) → Option PayloadDigest → Json
+payload_or_null_with later None = json_null
+payload_or_null_with later (Some digest) = digest_object_with later digest
+
 abbrev pub payload_or_null : Option PayloadDigest → Json
-payload_or_null None = json_null
-payload_or_null (Some digest) = digest_object digest
+payload_or_null payload = payload_or_null_with [] payload
 
 -- The member for the payload of an image node. Any other node has none.
+abbrev pub payload_members_with : (later : List Member) → NodePayload → List Member
+payload_members_with later NotAnImage = []
+payload_members_with later (OfImage payload) =
+    (codes "payload", payload_or_null_with later payload) ∷ []
+
 abbrev pub payload_members : NodePayload → List Member
-payload_members NotAnImage = []
-payload_members (OfImage payload) = (codes "payload", payload_or_null payload) ∷ []
+payload_members payload = payload_members_with [] payload
 
 -- The members of a node after its name, if it has children with these values. Its properties are in
 -- byte order of their names.
-abbrev pub node_members : DescribedNode → (children : List Json) → List Member
-node_members own children =
-    payload_members own.payload
+abbrev pub node_members_with : (later : List Member) → DescribedNode → (children : List Json)
+    → List Member
+node_members_with later own children =
+    payload_members_with later own.payload
     ++ (codes "properties", json_array (map property_object (entries own.properties)))
     ∷ (codes "children", json_array children) ∷ []
 
--- These nodes, each with those below it.
-abbrev pub node_objects : Nodes DescribedNode → List Json
-node_objects none = []
-node_objects (node name own children later) =
-    json_object (name_member (codes "name") name ∷ node_members own (node_objects children))
-    ∷ node_objects later
+abbrev pub node_members : DescribedNode → (children : List Json) → List Member
+node_members own children = node_members_with [] own children
 
--- A flattened image tree.
-abbrev pub fit_object : ImageTree → Json
-fit_object tree =
+-- These nodes, each with those below it. By the name of an image: the members after the SHA-256 of
+-- its payload.
+abbrev pub node_objects_with : (inside : List ℕ → List Member) → Nodes DescribedNode → List Json
+node_objects_with inside none = []
+node_objects_with inside (node name own children later) =
+    json_object
+    (name_member (codes "name") name
+    ∷ node_members_with (inside name) own (node_objects_with inside children))
+    ∷ node_objects_with inside later
+
+abbrev pub node_objects : Nodes DescribedNode → List Json
+node_objects nodes = node_objects_with (λ name. []) nodes
+
+-- A flattened image tree, with these members after the SHA-256 of a payload.
+abbrev pub fit_object_with : (inside : List ℕ → List Member) → ImageTree → Json
+fit_object_with inside tree =
     json_object
     ((codes "kind", json_string (codes "fit"))
     ∷ (codes "boot_cpu", json_number tree.cpu)
@@ -83,8 +104,11 @@ fit_object tree =
       codes "root",
       json_object
           (node_members (plain_node tree.root.own)
-          (node_objects (described_nodes tree.root.children tree.payloads))),
+          (node_objects_with inside (described_nodes tree.root.children tree.payloads))),
     ) ∷ [])
+
+abbrev pub fit_object : ImageTree → Json
+fit_object tree = fit_object_with (λ name. []) tree
 
 -- What a boot image means.
 abbrev pub meaning_object : Meaning → Json

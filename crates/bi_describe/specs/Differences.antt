@@ -1,4 +1,5 @@
-use Rattle.std.specs.Prelude.{ℕ, ◌&&◌, ◌||◌, Bool, false, List, [], ◌∷◌, ◌++◌, codes, take}
+use Rattle.std.specs.Prelude.{ℕ, ◌&&◌, ◌||◌, Bool, false, List, [], ◌∷◌, ◌++◌, codes, drop}
+use Rattle.std.specs.Prelude.{take}
 use Rattle.std.specs.Prelude.{Option, Some, None, flat_map, bytes_eq, if◌then◌else◌}
 use Rattle.std.specs.List.{join_with_byte, list_any}
 use Rattle.bi_common.specs.Lines.{Field, Line, Text, field_texts}
@@ -22,12 +23,25 @@ abbrev pub words_of_key : (first : Field) → ℕ
 words_of_key (Text word) = words_of_key_named word
 words_of_key word = 1
 
+-- The first words of a line that is not `inside` something.
+abbrev pub plain_key : Line → Line
+plain_key [] = []
+plain_key (first ∷ later) = take (words_of_key first) (first ∷ later)
+
+-- The line is about what is inside a payload, by its first word.
+abbrev pub is_inside_word : (first : Field) → Bool
+is_inside_word (Text word) = bytes_eq word (codes "inside")
+is_inside_word word = false
+
 -- The key of a line, which names what the line is about: of `property` the first three words, of
 -- `node`, `payload` and `part` the first two, of `reservation` all three, of any other the first
--- word.
+-- word; of `inside` the first two, and the key of the line that follows them, which is that of
+-- `boot-cpu` or `reservation`.
 abbrev pub key_of_line : Line → Line
 key_of_line [] = []
-key_of_line (first ∷ later) = take (words_of_key first) (first ∷ later)
+key_of_line (first ∷ later) =
+    if is_inside_word first then first ∷ (take 1 later ++ plain_key (drop 1 later))
+    else plain_key (first ∷ later)
 
 -- A line as it is compared: its text without the newline, and that of its key.
 pub record ComparedLine : Type 0 where

@@ -16,11 +16,15 @@ abbrev pub payload_path : PayloadPlace → List ℕ
 payload_path (OfImageNamed name) = path (images_name ∷ name ∷ [])
 payload_path (OfPart index) = codes "part-" ++ decimal index
 
--- The path of a node, by the names of the nodes on the way to it in its tree. Inside a payload it
--- is the path of the payload, a slash, and the path in its tree.
+-- The path of a node inside the payload with this path, by the names of the nodes on the way to it
+-- in its tree: the path of the payload, a slash, and the path in its tree.
+abbrev pub inside_path : (payload : List ℕ) → (names : List (List ℕ)) → List ℕ
+inside_path payload names = payload ++ (codes "/" ++ path names)
+
+-- The path of a node, by the names of the nodes on the way to it in its tree.
 abbrev pub path_in : TreePlace → (names : List (List ℕ)) → List ℕ
 path_in Itself names = path names
-path_in (Inside payload) names = payload_path payload ++ (codes "/" ++ path names)
+path_in (Inside payload) names = inside_path (payload_path payload) names
 
 abbrev pub place_path : NodePlace → List ℕ
 place_path place = path_in place.tree place.names

@@ -35,8 +35,8 @@ pub data Ignored : Type 0 where
 abbrev pub are_names_equal : (one other : List (List ℕ)) → Bool
 are_names_equal one other = pointwise bytes_eq one other
 
--- The place is that of the node with these names, of the tree of the image itself. What is inside a
--- payload is not looked at: a word for that leaves out nothing.
+-- The place is that of the node with these names, of the tree of the image itself. A word for
+-- something inside a payload leaves out nothing of that tree.
 abbrev pub is_place_of_in : TreePlace → (one other : List (List ℕ)) → Bool
 is_place_of_in Itself one other = are_names_equal one other
 is_place_of_in (Inside payload) one other = false

@@ -1,13 +1,14 @@
-use Rattle.std.specs.Prelude.{◌≡◌, ℕ, ◌-◌, ◌==◌, ⊤, false, List, [], ◌∷◌, ◌++◌, codes, length}
-use Rattle.std.specs.Prelude.{Option, None, Some, refl, if◌then◌else◌}
+use Rattle.std.specs.Prelude.{◌≡◌, ℕ, ◌-◌, ◌==◌, ⊤, Bool, true, false, not, List, [], ◌∷◌, ◌++◌}
+use Rattle.std.specs.Prelude.{Option, None, Some, codes, length, refl, if◌then◌else◌}
 use Rattle.std.proofs.Common.{sym, ap, ◌∙◌}
-use Rattle.std.specs.Option.{unwrap_or}
 use Rattle.bi_common.specs.LineTokens.{LineToken, NextField, EndOfLine, has_word, line_token_text}
 use Rattle.bi_common.specs.Lines.{Field}
 use Rattle.bi_common.specs.Tokens.{PutsInTurn, PutsNothing}
+use Rattle.bi_describe.specs.declared.compare.line_keeper.KeyPart.{KeyPart}
+use Rattle.bi_describe.specs.declared.compare.line_keeper.KeyPart.TheVariants as part
 use Rattle.bi_describe.specs.declared.compare.line_keeper.Mark.{Mark}
 use Rattle.bi_describe.specs.declared.compare.line_keeper.OpenLine.{OpenLine}
-use Rattle.bi_describe.specs.Differences.{words_of_key}
+use Rattle.bi_describe.specs.Differences.{is_inside_word, words_of_key}
 
 -- A pen that keeps lines, as contracts see it.
 
@@ -24,21 +25,32 @@ kept_length (Some text) = length text
 
 -- A line without words, which begins here.
 abbrev pub new_line : (start : ℕ) → OpenLine
-new_line start = record { start = start; key_end = start; missing = None; has_word = false }
+new_line start = record { start = start; key_end = start; next = part.First; has_word = false }
 
 abbrev pub new_keeping : Keeping
 new_keeping = record { text = []; marks = []; line = new_line 0 }
 
+-- Whether a word is in the key.
+abbrev pub is_in_key : KeyPart → Bool
+is_in_key (part.Named missing) = not (missing == 0)
+is_in_key next = true
+
+-- The next word after a word.
+abbrev pub part_after : KeyPart → Field → KeyPart
+part_after part.First word =
+    if is_inside_word word then part.Payload else part.Named (words_of_key word - 1)
+part_after part.Payload word = part.Second
+part_after part.Second word = part.Named (words_of_key word - 1)
+part_after (part.Named missing) word = part.Named (missing - 1)
+
 -- A line after a word, which ends here.
 abbrev pub line_after_word : OpenLine → Field → (end : ℕ) → OpenLine
-line_after_word line word end =
-    let missing = unwrap_or line.missing (words_of_key word) in
-    record {
-      start = line.start;
-      key_end = if missing == 0 then line.key_end else end;
-      missing = Some (missing - 1);
-      has_word = has_word line.has_word (NextField word);
-    }
+line_after_word line word end = record {
+  start = line.start;
+  key_end = if is_in_key line.next then end else line.key_end;
+  next = part_after line.next word;
+  has_word = has_word line.has_word (NextField word);
+}
 
 -- How long a line is, which ends here.
 abbrev pub end_mark : OpenLine → (end : ℕ) → Mark

@@ -49,3 +49,8 @@ read_legacy_tokens image parts =
     one BeginObject
     ++ (member_tokens (header_members image) ++ (member_tokens (described_parts_member parts ∷ [])
     ++ one EndObject))
+
+-- The members of a devicetree before its root.
+abbrev pub blob_members : Blob → List Member
+blob_members blob =
+    (codes "boot_cpu", json_number blob.cpu) ∷ reservations_member blob.reservations ∷ []

@@ -1,5 +1,6 @@
 //! Comparing what two boot images mean: whether it is the same, and what differs.
 
+mod deep;
 mod differences;
 mod ignoring;
 mod json;
@@ -16,11 +17,14 @@ ghost use Rattle.bi_norm.specs.Meaning.{Meaning, Means};
 ghost use Rattle.bi_norm.specs.Reading.{IsBootImageReadError, meaning_of, IsReadBootImage};
 ghost use Rattle.bi_common.specs.declared.format.Format.TheVariants.{Lines, Json};
 ghost use Rattle.bi_common.specs.HeldImages.{IsHeldImage};
+ghost use Rattle.bi_common.specs.Lines.{Line};
 ghost use Rattle.bi_describe.specs.Comparing.{IsComparison, IsComparisonError, IsComparisonOf};
-ghost use Rattle.bi_describe.specs.Comparing.{IsReadingError, IsDescribingError, comparison};
-ghost use Rattle.bi_describe.specs.Comparing.{comparison_text};
+ghost use Rattle.bi_describe.specs.Comparing.{IsReadingError, IsDescribingError};
+ghost use Rattle.bi_describe.specs.Comparing.{comparison_by_lines, comparison_text};
 ghost use Rattle.bi_describe.specs.ComparingWithout.{AreComparedWithout, IsComparisonWithout};
 ghost use Rattle.bi_describe.specs.ComparingWithout.{IsIgnoringError};
+ghost use Rattle.bi_describe.specs.DeepComparing.{AreComparedDeepWithout, IsDeepComparison};
+ghost use Rattle.bi_describe.specs.DeepComparing.{IsDeepComparisonError, IsDeepIgnoringError};
 ghost use Rattle.bi_describe.specs.DescribedImages.{IsDescribed};
 ghost use Rattle.bi_describe.specs.Describing.{CanBeDescribed};
 ghost use Rattle.bi_describe.specs.Descriptions.{description_lines};
@@ -33,6 +37,7 @@ use crate::describe::{DescribedImage, describe_image, description_is_ascii};
 use bi_base::{Error, Fault, Limits};
 use bi_common::format::Format;
 use bi_norm::BootImage;
+use deep::{compare_deep_images, compare_deep_without};
 pub use ignoring::IgnoringOptions;
 use ignoring::compare_kept;
 use json::comparison_json;
@@ -159,6 +164,59 @@ pub fn compare_ignoring(
     let image = read_one(alloc, one, limits)?;
     let other_image = read_other(alloc, other, limits)?;
     Ok(compare_without(alloc, &image, &other_image, limits, options)?)
+}
+
+/// Returns what differs between what two boot images mean, in a form: the differences of their deep
+/// descriptions, which are empty if and only if both mean the same. No limit applies to them.
+///
+/// The errors are those of `compare`, but it is the deep descriptions that may be too long.
+pub fn compare_deep(
+    alloc: Global,
+    one: &[u8],
+    other: &[u8],
+    limits: Limits,
+    format: Format,
+) -> Result<Comparison, CompareError>
+    ensures compared { IfOk result (λ comparison. IsDeepComparison format limits one.now other.now
+        comparison.same (string_bytes comparison.differences)) }
+    ensures failed { IfErr result (IsDeepComparisonError limits one.now other.now) }
+{
+    let image = read_one(alloc, one, limits)?;
+    let other_image = read_other(alloc, other, limits)?;
+    let same = mean_the_same(alloc, &image, &other_image)?;
+    if same {
+        return Ok(Comparison {
+            same,
+            differences: print(alloc, format, true, &[])?,
+        });
+    }
+    let differences = compare_deep_images(alloc, &image, &other_image, limits, format)?;
+    Ok(Comparison { same, differences })
+}
+
+/// Does what `compare_ignoring` does, with the devicetrees that are inside payloads or parts. A
+/// word for something inside a payload opens it, if it is a devicetree in both images: then it is
+/// compared by its boot processor, its memory reservations and its tree, without what the words
+/// leave out, and not by its bytes. The differences are those of the lines of the deep descriptions
+/// that stay, without the lines of the payloads that are opened.
+///
+/// The errors are those of `compare_ignoring`, but it is the deep descriptions that may be too
+/// long.
+pub fn compare_ignoring_deep(
+    alloc: Global,
+    one: &[u8],
+    other: &[u8],
+    limits: Limits,
+    options: IgnoringOptions,
+) -> Result<Comparison, CompareError>
+    ensures compared { IfOk result (λ comparison. AreComparedDeepWithout
+        (ignoring_model options.entry) limits one.now other.now comparison.same
+        (string_bytes comparison.differences)) }
+    ensures failed { IfErr result (IsDeepIgnoringError limits one.now other.now) }
+{
+    let image = read_one(alloc, one, limits)?;
+    let other_image = read_other(alloc, other, limits)?;
+    Ok(compare_deep_without(alloc, &image, &other_image, limits, options)?)
 }
 
 /// Compares what stays of two images. Requires: the images were read.
@@ -391,10 +449,9 @@ fn differing_lines<'a>(
     kept: &'a KeptLines,
     other_kept: &'a KeptLines,
 ) -> Result<Vec<SignedLine<'a>>, AllocError>
-    ensures { IfOk result (λ lines.
-        KeepsLines (description_lines (meaning_of image.now)) kept.entry.now
-        → KeepsLines (description_lines (meaning_of other.now)) other_kept.entry.now
-        → made_lines lines.items ≡ comparison (meaning_of image.now) (meaning_of other.now)) }
+    ensures { IfOk result (λ lines. (own others : List Line) → KeepsLines own kept.entry.now
+        → KeepsLines others other_kept.entry.now → made_lines lines.items
+        ≡ comparison_by_lines (meaning_of image.now) (meaning_of other.now) own others) }
 {
     match (image, other) {
         (BootImage::Legacy(_), BootImage::Fit(_)) => {

@@ -1,5 +1,6 @@
 //! What `compare` leaves out, and the words for it.
 
+mod inside;
 mod matching;
 mod path_words;
 
@@ -14,6 +15,9 @@ ghost use Rattle.bi_describe.specs.IgnoredErrors.{IsParseError};
 ghost use Rattle.bi_describe.specs.MadeWords.{ignored_word, ignored_words};
 
 use bi_base::Error;
+pub(crate) use inside::{
+    has_image, has_part, is_payload_ignored, is_payload_of_one, payload_of_word, words_inside,
+};
 pub(crate) use matching::{is_node_ignored, is_part_ignored, is_property_ignored, is_time_ignored};
 use path_words::path_word;
 use std::alloc::{AllocError, Global};
@@ -89,8 +93,8 @@ impl Ignored {
     /// `signatures`, or several of these with a comma between each two. Or it is one word: PATH, or
     /// PATH, a space and the name of a property, both as a description prints them. PATH is the
     /// path of a node, or `part-` and the index of a part of a legacy image. The path of a node
-    /// inside a payload is the path of the payload, `/`, and the path in its tree: such a word
-    /// leaves out nothing, since nothing that is inside a payload is compared by itself.
+    /// inside a payload is the path of the payload, `/`, and the path in its tree: such a word has
+    /// an effect only if what is inside is compared by itself, as by `compare_ignoring_deep`.
     ///
     /// Errors: BadValue with the index of the first value that is of another form, as the empty one
     /// is; OutOfMemory.

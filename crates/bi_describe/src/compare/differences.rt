@@ -1,16 +1,18 @@
 //! The differences of two lists of lines.
 
-ghost use Rattle.std.specs.Prelude.{◌≡◌, ◌++◌, ◌∷◌, [], IfOk, OnOk, ℕ, List, flat_map};
+ghost use Rattle.std.specs.Prelude.{◌≡◌, ◌++◌, ◌∷◌, [], IfOk, OnOk, ℕ, List, drop, flat_map, take};
 ghost use Rattle.bi_describe.specs.Differences.{differences as differences_of};
 ghost use Rattle.bi_describe.specs.Differences.{lines_only_in as only_in};
 ghost use Rattle.bi_describe.specs.Differences.{signed_lines as signed_lines_of};
-ghost use Rattle.bi_describe.specs.Differences.{added_lines, is_counterpart_by, only_line};
-ghost use Rattle.bi_describe.specs.Differences.{removed_lines};
-ghost use Rattle.bi_describe.specs.LineSets.{HasLineTexts, HasKeys, HasFirst, set_has, text_at};
+ghost use Rattle.bi_describe.specs.Differences.{added_lines, has_text, is_counterpart_by};
+ghost use Rattle.bi_describe.specs.Differences.{only_line, removed_lines};
+ghost use Rattle.bi_describe.specs.LineSets.{HasLineTexts, HasKeys, HasFirst, HasMissing, set_has};
+ghost use Rattle.bi_describe.specs.LineSets.{missing_line, numbered_text, text_at};
 ghost use Rattle.bi_describe.specs.MadeLines.{compared_line, compared_lines, made_line};
 ghost use Rattle.bi_describe.specs.MadeLines.{made_lines};
 
 use super::signed_lines::{ComparedLine, Sign, SignedLine};
+use bi_base::crc32;
 use std::alloc::{AllocError, Global};
 use std::collections::{BTreeMap, BTreeSet};
 
@@ -34,52 +36,142 @@ pub(super) fn differences<'a>(
 fn lines_only_in<'a>(
     alloc: Global,
     lines: &[ComparedLine<'a>],
-    others: &[ComparedLine],
+    others: &[ComparedLine<'a>],
 ) -> Result<Vec<ComparedLine<'a>>, AllocError>
     ensures { IfOk result (λ only. compared_lines only.items
         ≡ only_in (compared_lines lines.now) (compared_lines others.now)) }
 {
-    let texts = texts_of(alloc, others)?;
-    let mut only = Vec::new(alloc);
-    for line in lines {
-        push_only(&mut only, line, &texts)?;
+    let apart = lines_apart(alloc, lines, others)?;
+    if apart.is_empty() {
+        return Ok(apart);
     }
-    Ok(only)
+    let missing = missing_texts(alloc, &apart, others)?;
+    missing_lines(alloc, &apart, &missing)
 }
 
-/// Appends a line, if its text is not one of these.
-fn push_only<'a>(
+/// Returns the lines of the first list that are not equal to the line at the same place of the
+/// second one. All others are in the second one.
+fn lines_apart<'a>(
+    alloc: Global,
+    lines: &[ComparedLine<'a>],
+    others: &[ComparedLine],
+) -> Result<Vec<ComparedLine<'a>>, AllocError>
+    ensures { IfOk result (λ apart.
+        only_in (compared_lines apart.items) (compared_lines others.now)
+        ≡ only_in (compared_lines lines.now) (compared_lines others.now)) }
+{
+    let mut apart = Vec::new(alloc);
+    for index in 0..lines.len() {
+        push_apart(&mut apart, &lines[index], others, index)?;
+    }
+    Ok(apart)
+}
+
+/// Appends a line, if it is not equal to the line at this place of the others.
+fn push_apart<'a>(
     lines: &mut Vec<ComparedLine<'a>>,
     line: &ComparedLine<'a>,
-    texts: &BTreeSet<&str>,
+    others: &[ComparedLine],
+    index: usize,
 ) -> Result<(), AllocError>
-    ensures { OnOk result (compared_lines lines.new.items ≡ compared_lines lines.old.items
-        ++ only_line (set_has texts.now) (compared_line line.now)) }
+    ensures { OnOk result (only_in (compared_lines lines.new.items) (compared_lines others.now)
+        ≡ only_in (compared_lines lines.old.items) (compared_lines others.now)
+        ++ only_line (has_text (compared_lines others.now)) (compared_line line.now)) }
 {
-    if !texts.contains(line.text) {
+    if !is_text_at(others, index, line.text) {
         lines.push(*line)?;
     }
     Ok(())
 }
 
+/// Returns whether the line at this place is there and has this text.
+fn is_text_at(lines: &[ComparedLine], index: usize, text: &str) -> bool
+    ensures { result ≡ has_text (take 1 (drop index (compared_lines lines.now))) text.now }
+{
+    match lines.get(index) {
+        Some(line) => line.text == text,
+        None => false,
+    }
+}
+
+/// Returns the texts of the lines of the first list that no line of the second one has.
+fn missing_texts<'a>(
+    alloc: Global,
+    lines: &[ComparedLine<'a>],
+    others: &[ComparedLine<'a>],
+) -> Result<BTreeSet<(u32, &'a str)>, AllocError>
+    ensures { IfOk result (HasMissing (compared_lines lines.now) (compared_lines others.now)) }
+{
+    let mut missing = texts_of(alloc, lines)?;
+    for line in others {
+        missing.remove(&numbered(line.text));
+    }
+    Ok(missing)
+}
+
+/// Returns the lines whose texts are missing.
+fn missing_lines<'a>(
+    alloc: Global,
+    lines: &[ComparedLine<'a>],
+    missing: &BTreeSet<(u32, &'a str)>,
+) -> Result<Vec<ComparedLine<'a>>, AllocError>
+    ensures { IfOk result (λ only. compared_lines only.items
+        ≡ flat_map (missing_line missing.now) (compared_lines lines.now)) }
+{
+    let mut only = Vec::new(alloc);
+    for line in lines {
+        push_missing(&mut only, line, missing)?;
+    }
+    Ok(only)
+}
+
+/// Appends a line, if its text is missing.
+fn push_missing<'a>(
+    lines: &mut Vec<ComparedLine<'a>>,
+    line: &ComparedLine<'a>,
+    missing: &BTreeSet<(u32, &'a str)>,
+) -> Result<(), AllocError>
+    ensures { OnOk result (compared_lines lines.new.items ≡ compared_lines lines.old.items
+        ++ missing_line missing.now (compared_line line.now)) }
+{
+    if missing.contains(&numbered(line.text)) {
+        lines.push(*line)?;
+    }
+    Ok(())
+}
+
+/// Returns a text with its number, which is its checksum. To order two such pairs, their texts are
+/// read only if their numbers are the same.
+fn numbered(text: &str) -> (u32, &str)
+    ensures { result ≡ numbered_text text.entry }
+{
+    (crc32(text.as_bytes()), text)
+}
+
 /// Returns the texts of these lines.
-fn texts_of<'a>(alloc: Global, lines: &[ComparedLine<'a>]) -> Result<BTreeSet<&'a str>, AllocError>
+fn texts_of<'a>(
+    alloc: Global,
+    lines: &[ComparedLine<'a>],
+) -> Result<BTreeSet<(u32, &'a str)>, AllocError>
     ensures { IfOk result (HasLineTexts (compared_lines lines.now)) }
 {
     let mut texts = BTreeSet::new(alloc);
     for line in lines {
-        texts.insert(line.text)?;
+        texts.insert(numbered(line.text))?;
     }
     Ok(texts)
 }
 
 /// Returns the keys of these lines.
-fn keys_of<'a>(alloc: Global, lines: &[ComparedLine<'a>]) -> Result<BTreeSet<&'a str>, AllocError>
+fn keys_of<'a>(
+    alloc: Global,
+    lines: &[ComparedLine<'a>],
+) -> Result<BTreeSet<(u32, &'a str)>, AllocError>
     ensures { IfOk result (HasKeys (compared_lines lines.now)) }
 {
     let mut keys = BTreeSet::new(alloc);
     for line in lines {
-        keys.insert(line.key)?;
+        keys.insert(numbered(line.key))?;
     }
     Ok(keys)
 }
@@ -88,16 +180,17 @@ fn keys_of<'a>(alloc: Global, lines: &[ComparedLine<'a>]) -> Result<BTreeSet<&'a
 fn first_by_key<'a>(
     alloc: Global,
     lines: &[ComparedLine<'a>],
-) -> Result<BTreeMap<&'a str, &'a str>, AllocError>
+) -> Result<BTreeMap<(u32, &'a str), &'a str>, AllocError>
     ensures { IfOk result (HasFirst (compared_lines lines.now)) }
 {
     let mut first = BTreeMap::new(alloc);
     // The first line of a key is inserted last, so it stays.
     for index in (0..lines.len()).rev() {
-        first.insert(lines[index].key, lines[index].text)?;
+        first.insert(numbered(lines[index].key), lines[index].text)?;
     }
     Ok(first)
 }
+
 /// Returns the lines that were removed, each with its counterpart, and then the lines that were
 /// added without the counterparts.
 fn signed_lines<'a>(
@@ -120,7 +213,7 @@ fn signed_lines<'a>(
 fn push_removed<'a>(
     lines: &mut Vec<SignedLine<'a>>,
     removed: &[ComparedLine<'a>],
-    first: &BTreeMap<&str, &'a str>,
+    first: &BTreeMap<(u32, &'a str), &'a str>,
 ) -> Result<(), AllocError>
     ensures { OnOk result (made_lines lines.new.items ≡ made_lines lines.old.items
         ++ flat_map (removed_lines (text_at first.now)) (compared_lines removed.now)) }
@@ -135,13 +228,13 @@ fn push_removed<'a>(
 fn push_removed_line<'a>(
     lines: &mut Vec<SignedLine<'a>>,
     line: &ComparedLine<'a>,
-    first: &BTreeMap<&str, &'a str>,
+    first: &BTreeMap<(u32, &'a str), &'a str>,
 ) -> Result<(), AllocError>
     ensures { OnOk result (made_lines lines.new.items ≡ made_lines lines.old.items
         ++ removed_lines (text_at first.now) (compared_line line.now)) }
 {
     push(lines, Sign::Removed, line.text)?;
-    match first.get(line.key) {
+    match first.get(&numbered(line.key)) {
         Some(text) => push(lines, Sign::Added, text),
         None => Ok(()),
     }
@@ -151,8 +244,8 @@ fn push_removed_line<'a>(
 fn push_added<'a>(
     lines: &mut Vec<SignedLine<'a>>,
     added: &[ComparedLine<'a>],
-    first: &BTreeMap<&str, &str>,
-    keys: &BTreeSet<&str>,
+    first: &BTreeMap<(u32, &'a str), &'a str>,
+    keys: &BTreeSet<(u32, &'a str)>,
 ) -> Result<(), AllocError>
     ensures { OnOk result (made_lines lines.new.items ≡ made_lines lines.old.items
         ++ flat_map (added_lines (set_has keys.now) (text_at first.now))
@@ -168,8 +261,8 @@ fn push_added<'a>(
 fn push_added_line<'a>(
     lines: &mut Vec<SignedLine<'a>>,
     line: &ComparedLine<'a>,
-    first: &BTreeMap<&str, &str>,
-    keys: &BTreeSet<&str>,
+    first: &BTreeMap<(u32, &'a str), &'a str>,
+    keys: &BTreeSet<(u32, &'a str)>,
 ) -> Result<(), AllocError>
     ensures { OnOk result (made_lines lines.new.items ≡ made_lines lines.old.items
         ++ added_lines (set_has keys.now) (text_at first.now) (compared_line line.now)) }
@@ -190,9 +283,14 @@ fn push<'a>(lines: &mut Vec<SignedLine<'a>>, sign: Sign, text: &'a str) -> Resul
 }
 
 /// Returns whether a line that was added is the counterpart of one that was removed.
-fn is_counterpart(line: &ComparedLine, first: &BTreeMap<&str, &str>, keys: &BTreeSet<&str>) -> bool
+fn is_counterpart<'a>(
+    line: &ComparedLine<'a>,
+    first: &BTreeMap<(u32, &'a str), &'a str>,
+    keys: &BTreeSet<(u32, &'a str)>,
+) -> bool
     ensures { result ≡ is_counterpart_by (set_has keys.now) (text_at first.now)
         (compared_line line.now) }
 {
-    keys.contains(line.key) && first.get(line.key).copied() == Some(line.text)
+    let key = numbered(line.key);
+    keys.contains(&key) && first.get(&key).copied() == Some(line.text)
 }

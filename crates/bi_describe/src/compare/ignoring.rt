@@ -2,16 +2,17 @@
 
 ghost use Rattle.std.specs.Prelude.{◌≡◌, IfOk, List, string_bytes};
 ghost use Rattle.bi_norm.specs.Meaning.{Meaning};
-ghost use Rattle.bi_describe.specs.Comparing.{comparison_text};
-ghost use Rattle.bi_describe.specs.ComparingWithout.{IsComparisonWithout, comparison_without};
-ghost use Rattle.bi_describe.specs.ComparingWithout.{lines_without, text_without};
+ghost use Rattle.bi_common.specs.Lines.{Line};
+ghost use Rattle.bi_describe.specs.Comparing.{comparison_by_lines, comparison_text};
+ghost use Rattle.bi_describe.specs.ComparingWithout.{IsComparisonWithout, lines_without};
+ghost use Rattle.bi_describe.specs.ComparingWithout.{text_without};
 ghost use Rattle.bi_describe.specs.Ignoring.{Ignored as Word};
 ghost use Rattle.bi_describe.specs.KeptImages.{IsKeptImage, IsKeptAscii};
 ghost use Rattle.bi_describe.specs.KeptLines.{KeepsLines};
 ghost use Rattle.bi_describe.specs.MadeLines.{made_lines};
 ghost use Rattle.bi_describe.specs.MadeOptions.{ignoring_model};
 ghost use Rattle.bi_describe.specs.MadeWords.{ignored_words};
-ghost use Rattle.bi_describe.specs.ReducedMeanings.{meaning_without, reduced_lines};
+ghost use Rattle.bi_describe.specs.ReducedMeanings.{meaning_without};
 
 use super::kept_lines::KeptLines;
 use super::reasons::{differences_or_reason, kinds_differ};
@@ -113,7 +114,7 @@ fn text_of_kept(
 /// Returns what differs between what stays of two images, whose lines are kept.
 ///
 /// Fails only if memory runs out.
-fn lines_of_kept<'a>(
+pub(super) fn lines_of_kept<'a>(
     alloc: Global,
     image: &KeptImage,
     other: &KeptImage,
@@ -121,11 +122,10 @@ fn lines_of_kept<'a>(
     other_kept: &'a KeptLines,
 ) -> Result<Vec<SignedLine<'a>>, AllocError>
     ensures { IfOk result (λ lines. (words : List Word) (meaning other_meaning : Meaning)
-        → IsKeptImage (meaning_without words meaning) image.now
+        (own others : List Line) → IsKeptImage (meaning_without words meaning) image.now
         → IsKeptImage (meaning_without words other_meaning) other.now
-        → KeepsLines (reduced_lines (meaning_without words meaning)) kept.entry.now
-        → KeepsLines (reduced_lines (meaning_without words other_meaning)) other_kept.entry.now
-        → made_lines lines.items ≡ comparison_without words meaning other_meaning) }
+        → KeepsLines own kept.entry.now → KeepsLines others other_kept.entry.now
+        → made_lines lines.items ≡ comparison_by_lines meaning other_meaning own others) }
 {
     match (image, other) {
         (KeptImage::Legacy(_), KeptImage::Fit(_)) => kinds_differ(alloc, "kind legacy", "kind fit"),

@@ -1,7 +1,7 @@
 //! The lines of a description, kept in one text.
 
-ghost use Rattle.std.specs.Prelude.{◌≡◌, ◌<◌, ◌≤◌, ◌+◌, IfOk, IsAscii, IsTrue, drop, length};
-ghost use Rattle.std.specs.Prelude.{string_bytes};
+ghost use Rattle.std.specs.Prelude.{◌≡◌, ◌<◌, ◌≤◌, ◌+◌, IfOk, IsAscii, IsTrue, Option, drop};
+ghost use Rattle.std.specs.Prelude.{length, string_bytes};
 ghost use Rattle.bi_common.specs.Lines.{text_of_lines};
 ghost use Rattle.bi_describe.specs.DescribedImages.{described_lines};
 ghost use Rattle.bi_describe.specs.LineMarks.{marks_fit, cut_line as line_cut};
@@ -11,7 +11,10 @@ ghost use Rattle.bi_describe.specs.MadeLines.{compared_line, compared_lines};
 use super::line_keeper::{LineKeeper, Mark};
 use super::signed_lines::ComparedLine;
 use crate::describe::DescribedImage;
+use crate::describe::deep::DeepImage;
+use crate::describe::insides::Insides;
 use crate::describe::kept::KeptImage;
+use crate::ignored::PayloadPlace;
 use std::alloc::{AllocError, Global};
 
 /// The lines of a description.
@@ -27,8 +30,13 @@ pub(super) struct KeptLines {
 
 impl KeptLines {
     ghost use Rattle.bi_describe.specs.KeptImages.{IsKeptImage, IsKeptAscii};
+    ghost use Rattle.bi_describe.specs.DeepAscii.{IsAsciiDeep, IsAsciiShown};
+    ghost use Rattle.bi_describe.specs.DeepDescriptions.{deep_lines, lines_with_inside};
+    ghost use Rattle.bi_describe.specs.Devicetrees.{DeepMeaning};
+    ghost use Rattle.bi_describe.specs.Ignoring.{PayloadPlace as PlaceOf};
     ghost use Rattle.bi_describe.specs.KeptLines.{KeepsLines};
-    ghost use Rattle.bi_describe.specs.ReducedMeanings.{ReducedMeaning, reduced_lines};
+    ghost use Rattle.bi_describe.specs.MadeInsides.{HoldInsides, HoldsDeep, shown_by};
+    ghost use Rattle.bi_describe.specs.ReducedMeanings.{ReducedMeaning, ReducedTree, reduced_lines};
 
     /// Returns the lines of a description. Requires: they are ASCII.
     ///
@@ -60,6 +68,58 @@ impl KeptLines {
     {
         let mut keeper = LineKeeper::new(alloc);
         image.put_lines(alloc, &mut keeper)?;
+        let (text, marks) = keeper.into_parts()?;
+        match String::from_utf8(text) {
+            Ok(text) => Ok(KeptLines { text, marks }),
+            Err(_) => unreachable!(),
+        }
+    }
+
+    /// Returns the lines of a deep description, which is no longer than the limit.
+    ///
+    /// Fails only if memory runs out, or if the description is longer.
+    pub(super) fn of_deep(
+        alloc: Global,
+        deep: &mut DeepImage,
+        limit: usize,
+    ) -> Result<KeptLines, AllocError>
+        requires { IsAsciiDeep deep.old }
+        ensures kept { IfOk result (λ lines. (meaning : DeepMeaning) → HoldsDeep meaning deep.old
+            → KeepsLines (deep_lines meaning) lines) }
+        ensures within { IfOk result (λ lines. length (string_bytes lines.text) ≤ limit) }
+        ensures same { (meaning : DeepMeaning) → HoldsDeep meaning deep.old
+            → HoldsDeep meaning deep.new }
+    {
+        let mut keeper = LineKeeper::with_limit(alloc, limit);
+        deep.put_lines(&mut keeper);
+        let (text, marks) = keeper.into_parts()?;
+        if limit < text.len() {
+            return Err(AllocError);
+        }
+        match String::from_utf8(text) {
+            Ok(text) => Ok(KeptLines { text, marks }),
+            Err(_) => unreachable!(),
+        }
+    }
+
+    /// Returns the lines of what stays of an image, but for those of these payloads, and of what is
+    /// inside.
+    ///
+    /// Fails only if memory runs out.
+    pub(super) fn of_kept_deep(
+        alloc: Global,
+        image: &KeptImage,
+        insides: &mut Insides,
+        opened: &[&PayloadPlace],
+    ) -> Result<KeptLines, AllocError>
+        requires { IsAsciiShown image.now insides.old opened.now }
+        ensures { IfOk result (λ lines. (meaning : ReducedMeaning)
+            (trees : PlaceOf → Option ReducedTree) → IsKeptImage meaning image.now
+            → HoldInsides trees insides.old → KeepsLines
+            (lines_with_inside (shown_by trees opened.now) (reduced_lines meaning)) lines) }
+    {
+        let mut keeper = LineKeeper::new(alloc);
+        image.put_deep_lines(alloc, insides, opened, &mut keeper)?;
         let (text, marks) = keeper.into_parts()?;
         match String::from_utf8(text) {
             Ok(text) => Ok(KeptLines { text, marks }),

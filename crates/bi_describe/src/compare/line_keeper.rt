@@ -3,16 +3,21 @@
 ghost use Rattle.std.specs.Prelude.{◌≡◌, ◌⊎◌, ◌++◌, ◌∷◌, ℕ, List, [], Option, Some, None, IfOk};
 ghost use Rattle.std.specs.Option.{option_map};
 ghost use Rattle.bi_base.specs.MemoryPens.{MemoryPuts, memory_puts_nothing, memory_puts_in_turn};
-ghost use Rattle.bi_common.specs.LineTokens.{NextField, is_nothing, line_token_text, space};
+ghost use Rattle.bi_common.specs.Lines.{Text};
 ghost use Rattle.bi_common.specs.MadeFields.{field_of};
 ghost use Rattle.bi_describe.specs.Differences.{words_of_key as words_of, words_of_key_named};
 ghost use Rattle.bi_describe.specs.LineKeeping.{Keeping, Keeps, KeeperPuts, line_after_word};
-ghost use Rattle.bi_describe.specs.LineKeeping.{end_mark};
+ghost use Rattle.bi_describe.specs.Differences.{is_inside_word as is_inside_of};
+ghost use Rattle.bi_describe.specs.IgnoredWords.{inside_path};
+ghost use Rattle.bi_describe.specs.LineKeeping.{end_mark, is_in_key as is_part_in_key};
+ghost use Rattle.bi_describe.specs.LineKeeping.{part_after as next_part};
 ghost use Rattle.bi_describe.specs.LineKeeping.{keeper_puts_nothing, keeper_puts_in_turn};
 ghost use Rattle.bi_describe.specs.LineKeeping.{new_keeping, new_line, kept_length};
 
+use crate::describe::deep_pen::DeepPen;
+use crate::line_words::{has_word_after, put_next, put_next_path};
 use bi_base::Pen;
-use bi_common::fields::{Field, put_field};
+use bi_common::fields::Field;
 use bi_common::lines::LinePen;
 use std::alloc::{AllocError, Global};
 use std::marker::Model;
@@ -24,6 +29,19 @@ pub(super) struct Mark {
     pub(super) key: usize,
 }
 
+/// What the next word of a line is to its key.
+#[derive(Clone, Copy)]
+enum KeyPart {
+    /// The first word of the line, which says how many words the key has.
+    First,
+    /// The path of the payload that the line is inside of.
+    Payload,
+    /// The word after that, which says how many words the key still has.
+    Second,
+    /// A word of the key, if so many are still to come, or else a word after it.
+    Named(usize),
+}
+
 /// The line that is put.
 #[derive(Clone, Copy)]
 struct OpenLine {
@@ -31,8 +49,8 @@ struct OpenLine {
     start: usize,
     /// Where its key ends.
     key_end: usize,
-    /// How many words are still to come of its key, once the line has a word.
-    missing: Option<usize>,
+    /// What the next word is to its key.
+    next: KeyPart,
     /// Whether something was printed.
     has_word: bool,
 }
@@ -45,7 +63,7 @@ impl OpenLine {
         OpenLine {
             start,
             key_end: start,
-            missing: None,
+            next: KeyPart::First,
             has_word: false,
         }
     }
@@ -54,16 +72,25 @@ impl OpenLine {
     fn line_after_word(self, word: Field, end: usize) -> OpenLine
         ensures { result ≡ line_after_word self (field_of word.entry) end }
     {
-        let missing = match self.missing {
-            Some(missing) => missing,
-            None => words_of_key(word),
-        };
         OpenLine {
             start: self.start,
-            key_end: if missing == 0 { self.key_end } else { end },
-            missing: Some(missing.saturating_sub(1)),
-            has_word: !is_empty_value(word) || self.has_word,
+            key_end: if self.next.is_in_key() {
+                end
+            } else {
+                self.key_end
+            },
+            next: self.next.part_after(word),
+            has_word: has_word_after(word, self.has_word),
         }
+    }
+
+    /// Returns the line after the path of a node inside a payload, which ends here. No line begins
+    /// with a path, so to the key it is a word like any other.
+    fn line_after_path(self, end: usize) -> OpenLine
+        ensures { (payload : List ℕ) (names : List (List ℕ))
+            → result ≡ line_after_word self (Text (inside_path payload names)) end }
+    {
+        self.line_after_word(Field::Text(b"/"), end)
     }
 
     /// Returns how long the line is, which ends here.
@@ -74,6 +101,42 @@ impl OpenLine {
             len: end.saturating_sub(self.start),
             key: self.key_end.saturating_sub(self.start),
         }
+    }
+}
+
+impl KeyPart {
+    /// Returns whether the word is in the key.
+    fn is_in_key(self) -> bool
+        ensures { result ≡ is_part_in_key self }
+    {
+        match self {
+            KeyPart::Named(missing) => missing != 0,
+            _ => true,
+        }
+    }
+
+    /// Returns what the next word is to the key, if this one is a word.
+    fn part_after(self, word: Field) -> KeyPart
+        ensures { result ≡ next_part self (field_of word.entry) }
+    {
+        match self {
+            KeyPart::First if is_inside_word(word) => KeyPart::Payload,
+            KeyPart::First | KeyPart::Second => {
+                KeyPart::Named(words_of_key(word).saturating_sub(1))
+            }
+            KeyPart::Payload => KeyPart::Second,
+            KeyPart::Named(missing) => KeyPart::Named(missing.saturating_sub(1)),
+        }
+    }
+}
+
+/// Returns whether a line is about what is inside a payload, by its first word.
+fn is_inside_word(first: Field) -> bool
+    ensures { result ≡ is_inside_of (field_of first.entry) }
+{
+    match first {
+        Field::Text(word) => word == b"inside".as_slice(),
+        _ => false,
     }
 }
 
@@ -100,40 +163,13 @@ fn words_of_key_of(word: &[u8]) -> usize
     1
 }
 
-/// Returns whether a field is an empty value, for which nothing is printed.
-fn is_empty_value(word: Field) -> bool
-    ensures { result ≡ is_nothing (field_of word.entry) }
-{
-    match word {
-        Field::Value(value) => value.is_empty(),
-        _ => false,
-    }
-}
-
-/// Puts a word, after a space if it is not the first of its line. Puts nothing for an empty value.
-fn put_next<P: Pen>(word: Field, is_later: bool, pen: &mut P)
-    ensures { P.puts pen.old (line_token_text is_later (NextField (field_of word.entry))) pen.new }
-{
-    if !is_empty_value(word) {
-        put_space(is_later, pen);
-        put_field(word, pen);
-    }
-}
-
-/// Puts what comes before a word: a space, if it is not the first of its line.
-fn put_space<P: Pen>(is_later: bool, pen: &mut P)
-    ensures { P.puts pen.old (space is_later) pen.new }
-{
-    if is_later {
-        pen.put(b" ");
-    }
-}
-
-/// A pen that keeps a text in memory. Contracts see it as the text, or as nothing if an allocation
-/// has failed.
+/// A pen that keeps a text in memory, up to a limit. Contracts see it as the text, or as nothing if
+/// an allocation has failed or the text would be longer than the limit.
 #[derive(Drop)]
 struct TextPen {
     text: Option<Vec<u8>>,
+    /// How long the text may be.
+    limit: usize,
 }
 
 impl Model for TextPen {
@@ -143,12 +179,13 @@ impl Model for TextPen {
 }
 
 impl TextPen {
-    /// Returns a pen without a text.
-    fn new(alloc: Global) -> TextPen
+    /// Returns a pen without a text, which may be as long as the limit.
+    fn new(alloc: Global, limit: usize) -> TextPen
         ensures { result ≡ Some [] }
     {
         TextPen {
             text: Some(Vec::new(alloc)),
+            limit,
         }
     }
 
@@ -173,7 +210,7 @@ impl TextPen {
     fn into_vec(self) -> Result<Vec<u8>, AllocError>
         ensures { IfOk result (λ text. self ≡ Some text.items) }
     {
-        let TextPen { text } = self;
+        let TextPen { text, .. } = self;
         text.ok_or(AllocError)
     }
 }
@@ -181,10 +218,12 @@ impl TextPen {
 impl Pen for TextPen {
     ghost puts = { MemoryPuts };
 
-    /// Appends the given bytes to the text. If memory runs out, the text is dropped.
+    /// Appends the given bytes to the text. If memory runs out, or the text would be longer than
+    /// the limit, the text is dropped.
     fn put(&mut self, bytes: &[u8]) {
         if let Some(text) = &mut self.text {
-            if text.extend_from_slice(bytes).is_err() {
+            let room = self.limit.saturating_sub(text.len());
+            if room < bytes.len() || text.extend_from_slice(bytes).is_err() {
                 self.text = None;
             }
         }
@@ -221,8 +260,16 @@ impl LineKeeper {
     pub(super) fn new(alloc: Global) -> LineKeeper
         ensures { result ≡ Some new_keeping }
     {
+        LineKeeper::with_limit(alloc, usize::MAX)
+    }
+
+    /// Returns a pen without lines, whose text may be as long as the limit. A longer one fails, as
+    /// if memory ran out.
+    pub(super) fn with_limit(alloc: Global, limit: usize) -> LineKeeper
+        ensures { result ≡ Some new_keeping }
+    {
         LineKeeper {
-            text: TextPen::new(alloc),
+            text: TextPen::new(alloc, limit),
             marks: Vec::new(alloc),
             line: OpenLine::new(0),
         }
@@ -237,12 +284,12 @@ impl LineKeeper {
     }
 }
 
-/// Appends a mark. If memory runs out, the text is dropped.
+/// Appends a mark, unless an allocation has failed. If memory runs out, the text is dropped.
 fn push_mark(marks: &mut Vec<Mark>, mark: Mark, text: &mut TextPen)
     ensures { (text.new ≡ None) ⊎ ((text.new ≡ text.old)
         × (marks.new.items ≡ marks.old.items ++ mark ∷ [])) }
 {
-    if marks.push(mark).is_err() {
+    if text.has_failed() || marks.push(mark).is_err() {
         text.fail();
     }
 }
@@ -265,4 +312,11 @@ impl LinePen for LineKeeper {
     ghost puts_nothing = { keeper_puts_nothing };
 
     ghost puts_in_turn = { keeper_puts_in_turn };
+}
+
+impl DeepPen for LineKeeper {
+    fn put_path_inside(&mut self, payload: &[u8], names: &[&[u8]]) {
+        put_next_path(payload, names, self.line.has_word, &mut self.text);
+        self.line = self.line.line_after_path(self.text.len());
+    }
 }

@@ -7,6 +7,8 @@ ghost use Rattle.bi_common.specs.declared.format.Format.{Format};
 ghost use Rattle.bi_common.specs.JsonTokens.{json_tokens};
 ghost use Rattle.bi_common.specs.LineTokens.{tokens_of_lines};
 ghost use Rattle.bi_common.specs.PayloadBounds.{IsOverPayloadBound};
+ghost use Rattle.bi_describe.specs.DeepDescribing.{IsDeepImageError};
+ghost use Rattle.bi_describe.specs.Devicetrees.{AreInside, Insides};
 ghost use Rattle.bi_describe.specs.ReadDescription.{read_lines, read_tokens};
 ghost use Rattle.bi_describe.specs.Describing.{IsImageError};
 ghost use Rattle.bi_describe.specs.DescriptionJson.{fit_object};
@@ -33,7 +35,7 @@ pub(crate) struct DescribedFit<'a, 'b> {
     pub(crate) blob: &'b Blob<'a>,
     pub(crate) entries: Vec<Entry<'a>>,
     /// Room for the names of all nodes that are open at once.
-    names: Vec<&'a [u8]>,
+    pub(super) names: Vec<&'a [u8]>,
     ghost room: { most_open 0 (map as_entry entries.items) ≤ length names.items },
 }
 
@@ -61,10 +63,13 @@ impl<'a, 'b> DescribedFit<'a, 'b> {
             ≡ json_tokens (fit_object (tree_of fit.entry.now))) }
         ensures failed { IfErr result (λ error. (format : Format)
             → IsImageError format limits (OfFit (tree_of fit.now)) error) }
+        ensures deep_failed { IfErr result (λ error. (format : Format) (insides : Insides)
+            → AreInside limits (OfFit (tree_of fit.now)) insides
+            → IsDeepImageError format limits (OfFit (tree_of fit.now)) error) }
     {
         let bounded = BoundedFit::new(fit, limits)?;
         let order = fit.name_order(alloc, limits.file())?;
-        let entries = entries_of(alloc, bounded, &order)?;
+        let entries = entries_of(alloc, bounded, &order.properties)?;
         let names = vec![in alloc; b"".as_slice(); most_open(&entries)]?;
         Ok(DescribedFit {
             blob: fit.blob(),

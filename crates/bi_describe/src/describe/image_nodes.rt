@@ -5,10 +5,10 @@ ghost use Rattle.bi_blob.specs.Tree.{AreDistinct, EachOwn, names};
 ghost use Rattle.bi_fdt.specs.Views.{node_of, table_of_node};
 ghost use Rattle.bi_fit.specs.NormalNodes.{HasDistinctNames, alone, properties_by_name};
 ghost use Rattle.bi_fit.specs.Content.{IsHeld, tree_of};
-ghost use Rattle.bi_fit.specs.NameOrders.{IsNameOrder};
 ghost use Rattle.bi_describe.specs.ImagePayloads.{bytes_of_payload, bytes_of_payloads};
 ghost use Rattle.bi_describe.specs.MadeEntries.{begin_entries, image_entries, images_entries};
 ghost use Rattle.bi_describe.specs.MadeEntries.{root_children_entries};
+ghost use Rattle.bi_describe.specs.PropertyOrders.{IsByName};
 ghost use Rattle.bi_describe.specs.TreeEntries.{NodeEnds, tree_entries, as_entry};
 
 use super::digests::payloads_of;
@@ -17,8 +17,7 @@ use super::image_payload::ImagePayload;
 use super::nodes::{add_children, add_node, begin_node};
 use super::properties::{add_image_properties, add_properties};
 use bi_common::payload_bounds::BoundedFit;
-use bi_fdt::NodeRef;
-use bi_fit::NameOrder;
+use bi_fdt::{NodeRef, PropertyOrder};
 use std::alloc::{AllocError, Global};
 
 /// Returns the entries of a flattened image tree: those of the properties of the root, and those of
@@ -26,10 +25,10 @@ use std::alloc::{AllocError, Global};
 pub(super) fn entries_of<'a>(
     alloc: Global,
     bounded: BoundedFit<'_, 'a>,
-    order: &NameOrder<'a>,
+    order: &PropertyOrder,
 ) -> Result<Vec<Entry<'a>>, AllocError>
     requires held { IsHeld bounded.fit.now }
-    requires order { IsNameOrder bounded.fit.now.blob.table order.now }
+    requires order { IsByName bounded.fit.now.blob.table order.now }
     ensures { IfOk result (λ entries. map as_entry entries.items
         ≡ tree_entries (tree_of bounded.entry.fit.now)) }
 {
@@ -48,9 +47,9 @@ fn add_root_children<'a>(
     entries: &mut Vec<Entry<'a>>,
     root: NodeRef<'a, '_>,
     payloads: &[ImagePayload<'a>],
-    order: &NameOrder<'a>,
+    order: &PropertyOrder,
 ) -> Result<(), AllocError>
-    requires order { IsNameOrder (table_of_node root) order.now }
+    requires order { IsByName (table_of_node root) order.now }
     requires distinct { EachOwn HasDistinctNames (node_of root).children }
     requires names { AreDistinct (names (node_of root).children) }
     ensures { OnOk result (map as_entry entries.new.items ≡ map as_entry entries.old.items
@@ -76,9 +75,9 @@ fn add_images<'a>(
     entries: &mut Vec<Entry<'a>>,
     node: NodeRef<'a, '_>,
     payloads: &[ImagePayload<'a>],
-    order: &NameOrder<'a>,
+    order: &PropertyOrder,
 ) -> Result<(), AllocError>
-    requires order { IsNameOrder (table_of_node node) order.now }
+    requires order { IsByName (table_of_node node) order.now }
     requires distinct { EachOwn HasDistinctNames (alone (node_of node)) }
     ensures { OnOk result (map as_entry entries.new.items ≡ map as_entry entries.old.items
         ++ (begin_entries (node_of node.entry).name (properties_by_name (node_of node.entry).own)
@@ -98,9 +97,9 @@ fn add_image_nodes<'a>(
     entries: &mut Vec<Entry<'a>>,
     node: NodeRef<'a, '_>,
     payloads: &[ImagePayload<'a>],
-    order: &NameOrder<'a>,
+    order: &PropertyOrder,
 ) -> Result<(), AllocError>
-    requires order { IsNameOrder (table_of_node node) order.now }
+    requires order { IsByName (table_of_node node) order.now }
     requires distinct { EachOwn HasDistinctNames (node_of node).children }
     ensures { OnOk result (map as_entry entries.new.items ≡ map as_entry entries.old.items
         ++ images_entries (node_of node.entry).children
@@ -124,9 +123,9 @@ fn add_image<'a>(
     entries: &mut Vec<Entry<'a>>,
     node: NodeRef<'a, '_>,
     payload: &ImagePayload<'a>,
-    order: &NameOrder<'a>,
+    order: &PropertyOrder,
 ) -> Result<(), AllocError>
-    requires order { IsNameOrder (table_of_node node) order.now }
+    requires order { IsByName (table_of_node node) order.now }
     requires distinct { EachOwn HasDistinctNames (alone (node_of node)) }
     ensures { OnOk result (map as_entry entries.new.items ≡ map as_entry entries.old.items
         ++ image_entries (node_of node.entry) (bytes_of_payload payload.now)) }

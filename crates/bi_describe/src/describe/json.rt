@@ -6,8 +6,8 @@ ghost use Rattle.bi_fit.specs.Judgement.{listed_names};
 ghost use Rattle.bi_common.specs.CommonLines.{reservations_member};
 ghost use Rattle.bi_common.specs.Json.{json_string};
 ghost use Rattle.bi_common.specs.JsonTokens.{json_tokens, member_tokens, value_tokens};
-ghost use Rattle.bi_describe.specs.ReadDescription.{processor_members, read_tokens};
-ghost use Rattle.bi_describe.specs.DescriptionJson.{digest_object, payload_or_null};
+ghost use Rattle.bi_describe.specs.ReadDescription.{blob_members, processor_members, read_tokens};
+ghost use Rattle.bi_describe.specs.DescriptionJson.{digest_members, digest_object, payload_or_null};
 ghost use Rattle.bi_describe.specs.DescriptionJson.{property_object, value_member};
 ghost use Rattle.bi_describe.specs.EntryTokens.{entry_tokens, root_tokens};
 ghost use Rattle.bi_describe.specs.ImagePayloads.{bytes_of_payload};
@@ -20,9 +20,7 @@ use super::entries::{Entry, PayloadDigest};
 use super::image_payload::ImagePayload;
 use bi_common::common_lines::put_reservations;
 use bi_common::fields::{Field, are_quotable_texts};
-use bi_common::json_writer::{
-    JsonPen, JsonToken, JsonValue, put_member, put_members, put_object, put_value,
-};
+use bi_common::json_writer::{JsonPen, JsonToken, JsonValue, put_member, put_members, put_value};
 use bi_fdt::Blob;
 use bi_fit::split_name;
 
@@ -37,8 +35,17 @@ pub(super) fn put_fit<J: JsonPen>(blob: &Blob, entries: &[Entry], json: &mut J)
     json.put(JsonToken::EndObject);
 }
 
+/// Puts the members of the boot processor and of the memory reservations of a devicetree.
+pub(super) fn put_members_of_blob<J: JsonPen>(blob: &Blob, json: &mut J)
+    ensures { J.puts json.old (member_tokens (blob_members blob.now)) json.new }
+{
+    let boot_cpu = JsonValue::Number(u64::from(blob.boot_cpu()));
+    put_member(("boot_cpu", boot_cpu), json);
+    put_reservations_member(blob, json);
+}
+
 /// Puts the members of the kind and of the boot processor.
-fn put_processor_members<J: JsonPen>(blob: &Blob, json: &mut J)
+pub(super) fn put_processor_members<J: JsonPen>(blob: &Blob, json: &mut J)
     ensures { J.puts json.old (member_tokens (processor_members blob.now.cpu)) json.new }
 {
     let members = [
@@ -49,7 +56,7 @@ fn put_processor_members<J: JsonPen>(blob: &Blob, json: &mut J)
 }
 
 /// Puts the member of the memory reservations.
-fn put_reservations_member<J: JsonPen>(blob: &Blob, json: &mut J)
+pub(super) fn put_reservations_member<J: JsonPen>(blob: &Blob, json: &mut J)
     ensures { J.puts json.old (member_tokens (reservations_member blob.now.reservations ∷ []))
         json.new }
 {
@@ -60,7 +67,7 @@ fn put_reservations_member<J: JsonPen>(blob: &Blob, json: &mut J)
 }
 
 /// Puts the member of the root of a tree with these entries.
-fn put_root<J: JsonPen>(entries: &[Entry], json: &mut J)
+pub(super) fn put_root<J: JsonPen>(entries: &[Entry], json: &mut J)
     ensures { J.puts json.old (root_tokens (map as_entry entries.now)) json.new }
 {
     json.put(JsonToken::Name("root"));
@@ -79,7 +86,7 @@ fn put_entries<J: JsonPen>(entries: &[Entry], json: &mut J)
 }
 
 /// Puts the tokens of an entry.
-fn put_entry<J: JsonPen>(entry: Entry, json: &mut J)
+pub(super) fn put_entry<J: JsonPen>(entry: Entry, json: &mut J)
     ensures { J.puts json.old (entry_tokens (as_entry entry.entry)) json.new }
 {
     match entry {
@@ -124,11 +131,20 @@ fn put_payload_value<J: JsonPen>(digest: Option<PayloadDigest>, json: &mut J)
 pub(super) fn put_digest<J: JsonPen>(digest: PayloadDigest, json: &mut J)
     ensures { J.puts json.old (json_tokens (digest_object (digest_made digest))) json.new }
 {
+    json.put(JsonToken::BeginObject);
+    put_digest_members(digest, json);
+    json.put(JsonToken::EndObject);
+}
+
+/// Puts the members of the size and the SHA-256 of a payload.
+pub(super) fn put_digest_members<J: JsonPen>(digest: PayloadDigest, json: &mut J)
+    ensures { J.puts json.old (member_tokens (digest_members (digest_made digest))) json.new }
+{
     let members = [
         ("size", JsonValue::Number(digest.size as u64)),
         ("sha256", JsonValue::String(Field::Sha256(digest.sha256))),
     ];
-    put_object(&members, json);
+    put_members(&members, json);
 }
 
 /// Puts what begins the properties of a node.
@@ -149,7 +165,7 @@ fn put_children_begin<J: JsonPen>(json: &mut J)
 }
 
 /// Puts what ends the children of a node, and the node.
-fn put_end<J: JsonPen>(json: &mut J)
+pub(super) fn put_end<J: JsonPen>(json: &mut J)
     ensures { J.puts json.old (entry_tokens NodeEnds) json.new }
 {
     json.put(JsonToken::EndArray);

@@ -33,7 +33,7 @@ pub(super) fn most_open(entries: &[Entry]) -> usize
 }
 
 /// Returns the greater of two numbers.
-fn greater(one: usize, other: usize) -> usize
+pub(super) fn greater(one: usize, other: usize) -> usize
     ensures { result ≡ max one other }
 {
     if one < other { other } else { one }
@@ -99,7 +99,7 @@ pub(super) fn open_after<'a>(entry: Entry<'a>, names: &mut [&'a [u8]], count: us
 }
 
 /// Puts the line of an entry, if it has one. These are the names of the open nodes.
-fn put_entry<'a, L: LinePen>(entry: Entry<'a>, names: &[&'a [u8]], pen: &mut L)
+pub(super) fn put_entry<'a, L: LinePen>(entry: Entry<'a>, names: &[&'a [u8]], pen: &mut L)
     ensures { L.puts pen.old (tokens_of_lines
         (lines_of_entry (bytes_of_names names.now) (as_entry entry.entry))) pen.new }
 {
@@ -112,7 +112,7 @@ fn put_entry<'a, L: LinePen>(entry: Entry<'a>, names: &[&'a [u8]], pen: &mut L)
 }
 
 /// Puts the line of a node.
-fn put_node<L: LinePen>(names: &[&[u8]], pen: &mut L)
+pub(super) fn put_node<L: LinePen>(names: &[&[u8]], pen: &mut L)
     ensures { L.puts pen.old (line_tokens (node_line (bytes_of_names names.now))) pen.new }
 {
     put_line(&[Field::Text(b"node"), Field::Path(names)], pen);

@@ -4,14 +4,13 @@ ghost use Rattle.std.specs.Prelude.{◌≡◌, ◌++◌, map, OnOk};
 ghost use Rattle.bi_blob.specs.Tree.{EachOwn};
 ghost use Rattle.bi_fdt.specs.Views.{node_of, table_of_node};
 ghost use Rattle.bi_fit.specs.NormalNodes.{HasDistinctNames, alone, properties_by_name};
-ghost use Rattle.bi_fit.specs.NameOrders.{IsNameOrder};
 ghost use Rattle.bi_describe.specs.MadeEntries.{begin_entries, plain_entries};
+ghost use Rattle.bi_describe.specs.PropertyOrders.{IsByName};
 ghost use Rattle.bi_describe.specs.TreeEntries.{as_entry};
 
 use super::entries::Entry;
 use super::properties::add_properties;
-use bi_fdt::NodeRef;
-use bi_fit::NameOrder;
+use bi_fdt::{NodeRef, PropertyOrder};
 use std::alloc::AllocError;
 
 /// Appends the entries of a node, and of all nodes below it. Requires: the order is that of the
@@ -20,9 +19,9 @@ use std::alloc::AllocError;
 pub(super) fn add_node<'a>(
     entries: &mut Vec<Entry<'a>>,
     node: NodeRef<'a, '_>,
-    order: &NameOrder<'a>,
+    order: &PropertyOrder,
 ) -> Result<(), AllocError>
-    requires order { IsNameOrder (table_of_node node) order.now }
+    requires order { IsByName (table_of_node node) order.now }
     requires distinct { EachOwn HasDistinctNames (alone (node_of node)) }
     ensures { OnOk result (map as_entry entries.new.items ≡ map as_entry entries.old.items
         ++ plain_entries (alone (node_of node.entry))) }
@@ -39,9 +38,9 @@ pub(super) fn add_node<'a>(
 pub(super) fn add_children<'a>(
     entries: &mut Vec<Entry<'a>>,
     node: NodeRef<'a, '_>,
-    order: &NameOrder<'a>,
+    order: &PropertyOrder,
 ) -> Result<(), AllocError>
-    requires order { IsNameOrder (table_of_node node) order.now }
+    requires order { IsByName (table_of_node node) order.now }
     requires distinct { EachOwn HasDistinctNames (node_of node).children }
     ensures { OnOk result (map as_entry entries.new.items ≡ map as_entry entries.old.items
         ++ plain_entries (node_of node.entry).children) }
@@ -59,9 +58,9 @@ pub(super) fn add_children<'a>(
 pub(super) fn begin_node<'a>(
     entries: &mut Vec<Entry<'a>>,
     node: NodeRef<'a, '_>,
-    order: &NameOrder<'a>,
+    order: &PropertyOrder,
 ) -> Result<(), AllocError>
-    requires order { IsNameOrder (table_of_node node) order.now }
+    requires order { IsByName (table_of_node node) order.now }
     requires distinct { HasDistinctNames (node_of node).own }
     ensures { OnOk result (map as_entry entries.new.items ≡ map as_entry entries.old.items
         ++ begin_entries (node_of node.entry).name

@@ -4,12 +4,12 @@ ghost use Rattle.std.specs.Prelude.{◌≡◌, ◌++◌, map, OnOk};
 ghost use Rattle.bi_fdt.specs.Views.{node_of, table_of_node};
 ghost use Rattle.bi_fit.specs.NormalNodes.{HasDistinctNames, properties_by_name};
 ghost use Rattle.bi_fit.specs.ImageTree.{without_payload};
-ghost use Rattle.bi_fit.specs.NameOrders.{IsNameOrder};
+ghost use Rattle.bi_describe.specs.PropertyOrders.{IsByName};
 ghost use Rattle.bi_describe.specs.TreeEntries.{as_entry, property_entries};
 
 use super::entries::Entry;
-use bi_fdt::NodeRef;
-use bi_fit::{NameOrder, is_payload_name};
+use bi_fdt::{NodeRef, PropertyOrder};
+use bi_fit::is_payload_name;
 use std::alloc::AllocError;
 
 /// Appends the entries of the properties of a node, in byte order of their names. Requires: the
@@ -17,15 +17,15 @@ use std::alloc::AllocError;
 pub(super) fn add_properties<'a>(
     entries: &mut Vec<Entry<'a>>,
     node: NodeRef<'a, '_>,
-    order: &NameOrder<'a>,
+    order: &PropertyOrder,
 ) -> Result<(), AllocError>
-    requires order { IsNameOrder (table_of_node node) order.now }
+    requires order { IsByName (table_of_node node) order.now }
     requires distinct { HasDistinctNames (node_of node).own }
     ensures { OnOk result (map as_entry entries.new.items ≡ map as_entry entries.old.items
         ++ property_entries (properties_by_name (node_of node.entry).own)) }
 {
     entries.push(Entry::Properties)?;
-    for (_, property) in node.properties_in(&order.properties) {
+    for (_, property) in node.properties_in(order) {
         entries.push(Entry::Property {
             name: property.name,
             value: property.value,
@@ -41,15 +41,15 @@ pub(super) fn add_properties<'a>(
 pub(super) fn add_image_properties<'a>(
     entries: &mut Vec<Entry<'a>>,
     node: NodeRef<'a, '_>,
-    order: &NameOrder<'a>,
+    order: &PropertyOrder,
 ) -> Result<(), AllocError>
-    requires order { IsNameOrder (table_of_node node) order.now }
+    requires order { IsByName (table_of_node node) order.now }
     requires distinct { HasDistinctNames (node_of node).own }
     ensures { OnOk result (map as_entry entries.new.items ≡ map as_entry entries.old.items
         ++ property_entries (without_payload (properties_by_name (node_of node.entry).own))) }
 {
     entries.push(Entry::Properties)?;
-    for (_, property) in node.properties_in(&order.properties) {
+    for (_, property) in node.properties_in(order) {
         if is_payload_name(property.name) {
             continue;
         }

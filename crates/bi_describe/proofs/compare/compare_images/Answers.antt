@@ -19,5 +19,5 @@ pub returns-clause-compared : goal.returns-clause-compared
 returns-clause-compared c =
     different_compared c.args.format c.args.limits _ _ _ (made_lines c.deref.result.now) c.in_ok-kept.ensures.within
     c.in_ok-other_kept.ensures.within
-    (ap made_lines c.deref.ensures.value ∙ c.in_ok-lines.ensures c.in_ok-kept.ensures.kept c.in_ok-other_kept.ensures.kept)
+    (ap made_lines c.deref.ensures.value ∙ c.in_ok-lines.ensures _ _ c.in_ok-kept.ensures.kept c.in_ok-other_kept.ensures.kept)
     c.in_ok-print.ensures

@@ -3,18 +3,21 @@
 ghost use Rattle.std.specs.Prelude.{◌≡◌, ◌↔◌, ◌<◌, ◌≤◌, ◌+◌, ◌++◌, ◌^◌, IfOk, IsTrue, OnOk, []};
 ghost use Rattle.std.specs.Prelude.{length, map};
 ghost use Rattle.bi_common.specs.MadeFields.{bytes_of_names};
+ghost use Rattle.bi_describe.specs.DeepEntries.{last_begun as last_begun_of};
 ghost use Rattle.bi_describe.specs.ImagePayloads.{bytes_of_payload};
 ghost use Rattle.bi_describe.specs.KeptEntries.{is_entry_ignored as is_ignored_entry};
 ghost use Rattle.bi_describe.specs.KeptEntries.{is_entry_kept as is_kept_entry};
 ghost use Rattle.bi_describe.specs.KeptEntries.{kept_entries as kept_entries_of, kept_entry};
 ghost use Rattle.bi_describe.specs.KeptEntries.{skipped_after as skipped_after_of};
+ghost use Rattle.bi_describe.specs.MadeInsides.{is_one_of_places};
 ghost use Rattle.bi_describe.specs.MadeWords.{ignored_words};
+ghost use Rattle.bi_describe.specs.OpenedEntries.{entries_unless_opened, entry_unless_opened};
 ghost use Rattle.bi_describe.specs.TreeEntries.{as_entry, most_open as most_open_of};
 
 use crate::describe::entries::Entry;
 use crate::describe::image_payload::ImagePayload;
 use crate::describe::lines::{most_open, open_after};
-use crate::ignored::{Ignored, is_node_ignored, is_property_ignored};
+use crate::ignored::{Ignored, PayloadPlace, has_image, is_node_ignored, is_property_ignored};
 use std::alloc::{AllocError, Global};
 
 /// Returns the entries of a tree that stay.
@@ -124,7 +127,7 @@ fn skipped_after(words: &[Ignored], names: &[&[u8]], skipped: usize, entry: Entr
 }
 
 /// Returns whether these are the same entries.
-pub(super) fn are_same_entries(one: &[Entry], other: &[Entry]) -> bool
+pub(in crate::describe) fn are_same_entries(one: &[Entry], other: &[Entry]) -> bool
     ensures { IsTrue result ↔ (map as_entry one.now ≡ map as_entry other.now) }
 {
     if one.len() != other.len() {
@@ -136,6 +139,53 @@ pub(super) fn are_same_entries(one: &[Entry], other: &[Entry]) -> bool
         }
     }
     true
+}
+
+/// Returns whether these are the same entries but for these payloads. The others are compared byte
+/// by byte.
+pub(super) fn are_same_unless_opened(
+    one: &[Entry],
+    other: &[Entry],
+    opened: &[&PayloadPlace],
+) -> bool
+    ensures { IsTrue result
+        ↔ (entries_unless_opened (is_one_of_places opened.now) [] (map as_entry one.now)
+        ≡ entries_unless_opened (is_one_of_places opened.now) [] (map as_entry other.now)) }
+{
+    if one.len() != other.len() {
+        return false;
+    }
+    let mut last: &[u8] = b"";
+    for index in 0..one.len() {
+        if !is_same_unless_opened(one[index], other[index], last, opened) {
+            return false;
+        }
+        last = last_begun(one[index], last);
+    }
+    true
+}
+
+/// Returns the name of the last node that began after an entry. Before it, that was this name.
+fn last_begun<'a>(entry: Entry<'a>, last: &'a [u8]) -> &'a [u8]
+    ensures { result.now ≡ last_begun_of last.entry.now (as_entry entry.entry) }
+{
+    match entry {
+        Entry::Begin(name) => name,
+        _ => last,
+    }
+}
+
+/// Returns whether two entries are the same, or both are the payload of the image with this name,
+/// and that is one of these.
+fn is_same_unless_opened(one: Entry, other: Entry, name: &[u8], opened: &[&PayloadPlace]) -> bool
+    ensures { IsTrue result
+        ↔ (entry_unless_opened (is_one_of_places opened.now) name.now (as_entry one.entry)
+        ≡ entry_unless_opened (is_one_of_places opened.now) name.now (as_entry other.entry)) }
+{
+    match (one, other) {
+        (Entry::Payload(_), Entry::Payload(_)) if has_image(opened, name) => true,
+        _ => is_same_entry(one, other),
+    }
 }
 
 /// Returns whether two entries are the same. Payloads are compared byte by byte.

@@ -1,6 +1,7 @@
 //! What stays of a legacy image.
 
-ghost use Rattle.std.specs.Prelude.{◌≡◌, ◌↔◌, ◌++◌, ◌∷◌, [], IfOk, IsTrue, OnOk, flat_map, map};
+ghost use Rattle.std.specs.Prelude.{◌≡◌, ◌↔◌, ◌++◌, ◌∷◌, [], IfOk, IsTrue, OnOk, Option};
+ghost use Rattle.std.specs.Prelude.{flat_map, map};
 ghost use Rattle.std.specs.Option.{option_map};
 ghost use Rattle.bi_legacy.specs.Meaning.{image_of};
 ghost use Rattle.bi_common.specs.CommonLines.{header_code_lines, named_field};
@@ -9,14 +10,23 @@ ghost use Rattle.bi_common.specs.LineTokens.{line_tokens, tokens_of_lines};
 ghost use Rattle.bi_describe.specs.MadeParts.{bytes_of_parts};
 ghost use Rattle.bi_describe.specs.MadeWords.{ignored_words};
 ghost use Rattle.bi_describe.specs.KeptImages.{IsKeptLegacy, numbered_part};
+ghost use Rattle.bi_describe.specs.DeepDescriptions.{lines_with_inside};
+ghost use Rattle.bi_describe.specs.Ignoring.{PayloadPlace as Place};
+ghost use Rattle.bi_describe.specs.MadeInsides.{HoldInsides, is_one_of_places, kept_part_unless};
+ghost use Rattle.bi_describe.specs.MadeInsides.{shown_by};
+ghost use Rattle.bi_describe.specs.OpenedPayloads.{unless_opened};
+ghost use Rattle.bi_describe.specs.ReducedMeanings.{OfReducedLegacy, ReducedTree};
 ghost use Rattle.bi_describe.specs.ReducedMeanings.{ReducedLegacy, fields_alone, kept_part};
 ghost use Rattle.bi_describe.specs.ReducedMeanings.{kept_time, numbered_parts, reduced_legacy};
 ghost use Rattle.bi_describe.specs.ReducedMeanings.{reduced_header_lines, reduced_part_lines};
 ghost use Rattle.bi_describe.specs.ReducedMeanings.{reduced_legacy_lines, time_lines};
 
+use crate::describe::deep::put_part_with_inside;
+use crate::describe::deep_pen::DeepPen;
+use crate::describe::insides::Insides;
 use crate::describe::legacy::{DescribedLegacy, put_part};
 use crate::describe::part::DescribedPart;
-use crate::ignored::{Ignored, is_part_ignored, is_time_ignored};
+use crate::ignored::{Ignored, PayloadPlace, has_part, is_part_ignored, is_time_ignored};
 use bi_common::fields::Field;
 use bi_common::lines::{LinePen, put_line, put_lines};
 use bi_legacy::Fields;
@@ -69,14 +79,42 @@ impl<'a> KeptLegacy<'a> {
         put_parts(&self.parts, pen);
     }
 
+    /// Puts the lines, but for those of these parts, and those of what is inside the parts.
+    pub(super) fn put_deep_lines<L: DeepPen>(
+        &self,
+        insides: &mut Insides,
+        opened: &[&PayloadPlace],
+        pen: &mut L,
+    )
+        ensures { (image : ReducedLegacy) (trees : Place → Option ReducedTree)
+            → IsKeptLegacy image self.now → HoldInsides trees insides.old
+            → L.puts pen.old (tokens_of_lines (lines_with_inside (shown_by trees opened.now)
+            (reduced_legacy_lines image))) pen.new }
+    {
+        put_header(self.fields, self.time, pen);
+        put_deep_parts(&self.parts, insides, opened, pen);
+    }
+
+    /// Returns whether what stays of two images is the same but for the bytes of these parts.
+    pub(super) fn is_same_unless_opened(
+        &self,
+        other: &KeptLegacy<'_>,
+        opened: &[&PayloadPlace],
+    ) -> bool
+        ensures { (image others : ReducedLegacy) → IsKeptLegacy image self.now
+            → IsKeptLegacy others other.now → IsTrue result
+            ↔ (unless_opened (is_one_of_places opened.now) (OfReducedLegacy image)
+            ≡ unless_opened (is_one_of_places opened.now) (OfReducedLegacy others)) }
+    {
+        have_same_headers(self, other) && are_same_unless_opened(&self.parts, &other.parts, opened)
+    }
+
     /// Returns whether what stays of two images is the same.
     pub(super) fn is_same(&self, other: &KeptLegacy<'_>) -> bool
         ensures { (image others : ReducedLegacy) → IsKeptLegacy image self.now
             → IsKeptLegacy others other.now → IsTrue result ↔ (image ≡ others) }
     {
-        are_same_fields(self.fields, other.fields)
-            && self.time == other.time
-            && are_same_parts(&self.parts, &other.parts)
+        have_same_headers(self, other) && are_same_parts(&self.parts, &other.parts)
     }
 }
 
@@ -202,6 +240,30 @@ fn put_parts<L: LinePen>(parts: &[KeptPart], pen: &mut L)
     }
 }
 
+/// Puts the lines of parts, but for those of these, and those of what is inside them.
+fn put_deep_parts<L: DeepPen>(
+    parts: &[KeptPart],
+    insides: &mut Insides,
+    opened: &[&PayloadPlace],
+    pen: &mut L,
+)
+    ensures { (trees : Place → Option ReducedTree) → HoldInsides trees insides.old
+        → L.puts pen.old (tokens_of_lines (lines_with_inside (shown_by trees opened.now)
+        (reduced_part_lines (map numbered_part parts.now)))) pen.new }
+{
+    for part in parts {
+        put_part_with_inside(part.index, part.part, insides, opened, pen);
+    }
+}
+
+/// Returns whether the fields and what stays of the time are the same.
+fn have_same_headers(one: &KeptLegacy, other: &KeptLegacy) -> bool
+    ensures { IsTrue result ↔ ((fields_alone (image_of one.now.fields [])
+        ≡ fields_alone (image_of other.now.fields [])) × (one.now.time ≡ other.now.time)) }
+{
+    are_same_fields(one.fields, other.fields) && one.time == other.time
+}
+
 /// Returns whether the fields but for the time are the same.
 fn are_same_fields(one: Fields, other: Fields) -> bool
     ensures { IsTrue result
@@ -229,6 +291,30 @@ fn are_same_parts(one: &[KeptPart], other: &[KeptPart]) -> bool
         }
     }
     true
+}
+
+/// Returns whether these are the same parts with the same indices, but for the bytes of these.
+fn are_same_unless_opened(one: &[KeptPart], other: &[KeptPart], opened: &[&PayloadPlace]) -> bool
+    ensures { IsTrue result ↔ (map (kept_part_unless opened.now) one.now
+        ≡ map (kept_part_unless opened.now) other.now) }
+{
+    if one.len() != other.len() {
+        return false;
+    }
+    for index in 0..one.len() {
+        if !is_same_unless_opened(one[index], other[index], opened) {
+            return false;
+        }
+    }
+    true
+}
+
+/// Returns whether two parts have the same index and, unless this is one of these, the same bytes.
+fn is_same_unless_opened(one: KeptPart, other: KeptPart, opened: &[&PayloadPlace]) -> bool
+    ensures { IsTrue result
+        ↔ (kept_part_unless opened.now one.entry ≡ kept_part_unless opened.now other.entry) }
+{
+    one.index == other.index && (has_part(opened, one.index) || one.part.bytes == other.part.bytes)
 }
 
 /// Returns whether two parts have the same index and the same bytes.

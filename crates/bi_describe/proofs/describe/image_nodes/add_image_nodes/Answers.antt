@@ -10,7 +10,7 @@ use Rattle.bi_fit.proofs.NodeEvents.{nodes_from, nodes_from_first}
 use Rattle.bi_describe.specs.declared.describe.image_payload.ImagePayload.{ImagePayload}
 use Rattle.bi_describe.specs.ImagePayloads.{bytes_of_payload, bytes_of_payloads}
 use Rattle.bi_describe.specs.MadeEntries.{image_entries, images_entries}
-use Rattle.bi_fit.specs.NameOrders.{IsNameOrder}
+use Rattle.bi_describe.specs.PropertyOrders.{IsByName}
 use Rattle.bi_describe.specs.TreeEntries.{as_entry}
 use Rattle.bi_describe.proofs.EntriesOfNodes.{appended_first, images-first, images-no_nodes, images-no_payloads}
 use Rattle.bi_describe.proofs.NextNodes.{HasOrderOfNext, next_in_order}
@@ -79,7 +79,7 @@ loop-payload-preserved c =
     ap (λ l. start ++ l) (sym (images-first s payload later)) ∙ all in
     let distinct : EachOwn HasDistinctNames (nodes_from (Some s)) = subst
     (EachOwn HasDistinctNames) here c.loop-payload.invariant.distinct in
-    let order : IsNameOrder (table_of_node c.in-Some.child) c.args.order.now = subst
+    let order : IsByName (table_of_node c.in-Some.child) c.args.order.now = subst
     (HasOrderOfNext c.args.order.now) c.in-Some.is c.loop-payload.invariant.order in
     rw rest (record {
       order = next_in_order c.in-Some.child c.next_sibling-next.result c.next_sibling-next.ensures.same_table order;

@@ -8,7 +8,7 @@ use Rattle.bi_fit.specs.Names.{images_name}
 use Rattle.bi_fit.proofs.NodeEvents.{nodes_from, nodes_from_first}
 use Rattle.bi_describe.specs.ImagePayloads.{bytes_of_payloads}
 use Rattle.bi_describe.specs.MadeEntries.{plain_entries, begin_entries, images_entries, root_children_entries}
-use Rattle.bi_fit.specs.NameOrders.{IsNameOrder}
+use Rattle.bi_describe.specs.PropertyOrders.{IsByName}
 use Rattle.bi_describe.specs.TreeEntries.{NodeEnds, as_entry}
 use Rattle.bi_describe.proofs.NextNodes.{HasOrderOfNext, next_in_order}
 use Rattle.bi_describe.proofs.EntriesOfNodes.{appended_first, root-images, root-other, root-none}
@@ -72,7 +72,7 @@ loop-next-preserved c =
     subst (λ nodes. start ++ root_children_entries nodes payloads ≡ target) here c.loop-next.invariant.left in
     let distinct : EachOwn HasDistinctNames (nodes_from (Some s)) = subst (EachOwn HasDistinctNames) here c.loop-next.invariant.distinct in
     let names : AreDistinct (names (nodes_from (Some s))) = subst (λ nodes. AreDistinct (names nodes)) here c.loop-next.invariant.names in
-    let order : IsNameOrder (table_of_node c.in-Some.child) c.args.order.now = subst
+    let order : IsByName (table_of_node c.in-Some.child) c.args.order.now = subst
     (HasOrderOfNext c.args.order.now) c.in-Some.is c.loop-next.invariant.order in
     let same : bytes_eq s.name images_name ≡ c.eq.result =
     ap (λ name. bytes_eq name images_name) (sym c.name.ensures)

@@ -6,7 +6,7 @@ use Rattle.bi_fdt.specs.Views.{node_of, table_of_node}
 use Rattle.bi_fit.specs.NormalNodes.{HasDistinctNames, alone, properties_by_name}
 use Rattle.bi_fit.proofs.NodeEvents.{nodes_from, nodes_from_first}
 use Rattle.bi_describe.specs.MadeEntries.{plain_entries, begin_entries}
-use Rattle.bi_fit.specs.NameOrders.{IsNameOrder}
+use Rattle.bi_describe.specs.PropertyOrders.{IsByName}
 use Rattle.bi_describe.specs.TreeEntries.{as_entry}
 use Rattle.bi_describe.proofs.EntriesOfNodes.{appended_first, plain-first, node_appended}
 use Rattle.bi_describe.proofs.NextNodes.{HasOrderOfNext, next_in_order}
@@ -63,7 +63,7 @@ add_children-loop-next-preserved t c =
     let shallow : max (depth s.children + 1) (depth s.later) ≤ depth (node_of c.args.node).children =
     subst (λ nodes. depth nodes ≤ depth (node_of c.args.node).children) here c.loop-next.invariant.shallow in
     let distinct : EachOwn HasDistinctNames (nodes_from (Some s)) = subst (EachOwn HasDistinctNames) here c.loop-next.invariant.distinct in
-    let order : IsNameOrder (table_of_node c.in-Some.child) c.args.order.now = subst
+    let order : IsByName (table_of_node c.in-Some.child) c.args.order.now = subst
     (HasOrderOfNext c.args.order.now) c.in-Some.is c.loop-next.invariant.order in
     rw rest (record {
       order = next_in_order c.in-Some.child c.next_sibling-next.result c.next_sibling-next.ensures.same_table order;

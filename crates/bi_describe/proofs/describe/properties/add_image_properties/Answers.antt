@@ -19,7 +19,7 @@ loop-property-init c =
     let kept = entries (without_payload (properties_by_name (node_of c.args.node).own)) in
     ap (λ left. map as_entry c.push.new.self.items ++ rest (others_of left))
     (ap (λ (keyed : List KeyedProperty). map (λ one. property_of one.1) keyed) c.into_iter-property-iterator.ensures.into_iter_gives
-    ∙ c.properties_in-property-items.ensures.by_name c.args.order.now.names order.in_order c.requires.distinct order.sorted)
+    ∙ c.properties_in-property-items.ensures.by_name order.names order.in_order c.requires.distinct order.sorted)
     ∙ ap (λ left. map as_entry c.push.new.self.items ++ rest left) (sym (entries_without (properties_by_name (node_of c.args.node).own)))
     ∙ ap (λ items. map as_entry items ++ rest kept) c.in_ok-push.ensures.items
     ∙ ap (λ (before : List EntryModel). before ++ rest kept) (entries-push start made.Properties)
