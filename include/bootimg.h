@@ -30,7 +30,10 @@
  *   BOOTIMG_OUT_OF_MEMORY   An allocation failed (that it did is tested, and not proved).
  *   BOOTIMG_NO_ROOM         The output is larger than the buffer. `size` and `value` are as for
  *                           BOOTIMG_OK.
- *   BOOTIMG_WRONG_ARGUMENT  A number is out of the range of its argument.
+ *   BOOTIMG_WRONG_ARGUMENT  An argument is out of its range. `reason` is its number, one of
+ *                           BOOTIMG_ARGUMENT_*; of several that are, it is the least. `value` is
+ *                           the index of the first wrong element if the argument is an array, and
+ *                           otherwise 0.
  *   BOOTIMG_NOT_FOUND       What the call looks for is not there. `reason` is one of
  *                           BOOTIMG_WRONG_KIND to BOOTIMG_FINDS_NOTHING. `value` is an index: of
  *                           the first name that no image has for BOOTIMG_MISSING, of the first word
@@ -156,7 +159,7 @@ enum bootimg_cause {
 #define BOOTIMG_LOADABLES 4u
 #define BOOTIMG_SCRIPT 5u
 
-/* `reason`: what is not there. */
+/* `reason` with BOOTIMG_NOT_FOUND: what is not there. */
 #define BOOTIMG_WRONG_KIND 1u
 #define BOOTIMG_NO_PART 2u
 #define BOOTIMG_NO_IMAGE 3u
@@ -175,6 +178,34 @@ enum bootimg_cause {
 #define BOOTIMG_BAD_WORD 16u
 #define BOOTIMG_BAD_EDIT 17u
 #define BOOTIMG_FINDS_NOTHING 18u
+
+/* `reason` with BOOTIMG_WRONG_ARGUMENT: the parameter of the call with this name.
+ * BOOTIMG_ARGUMENT_PLACE stands for `place` and `name` of bootimg_get, and BOOTIMG_ARGUMENT_FIELDS
+ * for the region of the name. `form`, `limit` and `depth` of bootimg_build_options have their own
+ * numbers, and BOOTIMG_ARGUMENT_OPTIONS stands for its other members. */
+enum bootimg_argument {
+    BOOTIMG_ARGUMENT_OPTIONS = 1,
+    BOOTIMG_ARGUMENT_LIMIT = 2,
+    BOOTIMG_ARGUMENT_DEPTH = 3,
+    BOOTIMG_ARGUMENT_FORM = 4,
+    BOOTIMG_ARGUMENT_CHANGES = 5,
+    BOOTIMG_ARGUMENT_LAYOUT = 6,
+    BOOTIMG_ARGUMENT_KINDS = 7,
+    BOOTIMG_ARGUMENT_KEY = 8,
+    BOOTIMG_ARGUMENT_FIELD = 9,
+    BOOTIMG_ARGUMENT_CODE = 10,
+    BOOTIMG_ARGUMENT_NUMBER = 11,
+    BOOTIMG_ARGUMENT_PLACE = 12,
+    BOOTIMG_ARGUMENT_FIELDS = 13,
+    BOOTIMG_ARGUMENT_PARTS = 14,
+    BOOTIMG_ARGUMENT_WORDS = 15,
+    BOOTIMG_ARGUMENT_EDITS = 16,
+    BOOTIMG_ARGUMENT_IMAGES = 17,
+    BOOTIMG_ARGUMENT_TEXTS = 18,
+    BOOTIMG_ARGUMENT_LISTS = 19,
+    BOOTIMG_ARGUMENT_ALGORITHMS = 20,
+    BOOTIMG_ARGUMENT_CONFIGURATIONS = 21
+};
 
 /* `field`: a field of the header of a legacy image that contains a code. */
 #define BOOTIMG_CODE_OS 0u
@@ -737,6 +768,15 @@ uint32_t bootimg_scan(const uint8_t *file, size_t file_size, uint32_t limit, uin
 uint32_t bootimg_describe(const uint8_t *file, size_t file_size, uint32_t limit, uint32_t depth,
                           uint8_t *buffer, size_t buffer_size, bootimg_result *answer);
 
+/* Writes the description of what a file means, with the devicetrees inside its payloads, as
+ * `bootimg describe --deep` prints it. A payload or part is read as a devicetree under the same
+ * `limit` and `depth`. One that is not a devicetree, or is over them, or has a node `/images`, has
+ * only the lines of bootimg_describe. The call fails with TooLarge if the deep description, or
+ * the payloads together, are longer than `limit`. */
+uint32_t bootimg_describe_deep(const uint8_t *file, size_t file_size, uint32_t limit,
+                               uint32_t depth, uint8_t *buffer, size_t buffer_size,
+                               bootimg_result *answer);
+
 /* Writes the page of a file, for a person: tables of what it is, of its images or parts with the
  * verdicts on hash nodes, of its configurations and signature nodes, and the lines of
  * bootimg_check. With `layout` 1 the page also shows the regions of the file by their offsets, with
@@ -780,6 +820,19 @@ uint32_t bootimg_compare_ignoring(const uint8_t *one, size_t one_size, const uin
                                   uint32_t depth, uint8_t *buffer, size_t buffer_size,
                                   bootimg_result *answer);
 
+/* Writes what bootimg_compare_ignoring does, but of the deep descriptions of both files, as
+ * `bootimg compare --deep` prints it. A word for something inside a payload opens it, if it is a
+ * devicetree in both files: then it is compared without what the words leave out, and not by its
+ * bytes. `words_count` may be 0. Both files are described even if they mean the same thing: the
+ * call fails with TooLarge for the first file whose deep description, or payloads together, are
+ * longer than `limit`, which `bootimg compare --deep` without `--ignore` does only for files that
+ * differ. */
+uint32_t bootimg_compare_deep(const uint8_t *one, size_t one_size, const uint8_t *other,
+                              size_t other_size, const uint8_t *input, size_t input_size,
+                              const bootimg_region *words, size_t words_count, uint32_t limit,
+                              uint32_t depth, uint8_t *buffer, size_t buffer_size,
+                              bootimg_result *answer);
+
 /* The calls `.._json` write what the call without `_json` writes, as one JSON text (RFC 8259) in
  * ASCII and a newline. Arguments, `value` and errors are the same as for that call. There is always
  * an output, even if there are no concerns. bootimg_show_json does not take `layout`, and writes
@@ -797,6 +850,10 @@ uint32_t bootimg_describe_json(const uint8_t *file, size_t file_size, uint32_t l
                                uint32_t depth, uint8_t *buffer, size_t buffer_size,
                                bootimg_result *answer);
 
+uint32_t bootimg_describe_deep_json(const uint8_t *file, size_t file_size, uint32_t limit,
+                                    uint32_t depth, uint8_t *buffer, size_t buffer_size,
+                                    bootimg_result *answer);
+
 uint32_t bootimg_verify_json(const uint8_t *file, size_t file_size, uint32_t limit, uint32_t depth,
                              uint8_t *buffer, size_t buffer_size, bootimg_result *answer);
 
@@ -813,6 +870,12 @@ uint32_t bootimg_compare_ignoring_json(const uint8_t *one, size_t one_size, cons
                                        const bootimg_region *words, size_t words_count,
                                        uint32_t limit, uint32_t depth, uint8_t *buffer,
                                        size_t buffer_size, bootimg_result *answer);
+
+uint32_t bootimg_compare_deep_json(const uint8_t *one, size_t one_size, const uint8_t *other,
+                                   size_t other_size, const uint8_t *input, size_t input_size,
+                                   const bootimg_region *words, size_t words_count,
+                                   uint32_t limit, uint32_t depth, uint8_t *buffer,
+                                   size_t buffer_size, bootimg_result *answer);
 
 /* Writes the FIT that a legacy image is converted to. The call fails with BadMagic at 0 for a file
  * that is not a legacy image, for example a FIT; with NoCodeName at the offset of the first code

@@ -1,4 +1,4 @@
-use Rattle.std.proofs.Common.{◌≡◌, ◌≤◌, ◌⊎◌, ◌∙◌, ◌++◌, ℕ, List, drop, length, inl, inr, ap, refl, lit≤, arith}
+use Rattle.std.proofs.Common.{◌≡◌, ◌≤◌, ◌⊎◌, ◌∙◌, ◌++◌, ℕ, List, Option, None, Some, drop, length, inl, inr, ap, refl, lit≤, arith}
 use Rattle.bi_base.specs.declared.fault.Error.{Error}
 use Rattle.bi_base.specs.declared.fault.Error.TheVariants as error
 use Rattle.bi_base.specs.declared.fault.Fault.{Fault}
@@ -8,6 +8,7 @@ use Rattle.bi_c.specs.Answers.{answer_of, answer_of_failure, status_of_failure}
 use Rattle.bi_c.specs.KnownCalls.{AlwaysAnswers, AlwaysFills}
 use Rattle.bi_c.specs.declared.failure.Failure.{Failure}
 use Rattle.bi_c.specs.declared.failure.Failure.TheVariants.{Refused, NotFound, OutOfMemory, WrongArgument}
+use Rattle.bi_c.specs.declared.argument.Argument.{Argument}
 
 -- A call with one output, or with one failure besides that memory runs out, has one end.
 
@@ -58,25 +59,28 @@ widest_is_in_range = (lit≤ tt, lit≤ tt, lit≤ tt, lit≤ tt)
 
 -- ---- the failures of a call on one file
 
-module _ (AreValid : Type 0) (HasError : Error → Type 0) where
-  pub only_memory : AreValid → ((cause : Error) → HasError cause → cause ≡ error.OutOfMemory) → (failure : Failure) →
-      IsFailure AreValid HasError failure → failure ≡ OutOfMemory
-  only_memory valid only WrongArgument is = absurd (is valid)
+module _ (Check : Option (Argument × ℕ) → Type 0) (HasError : Error → Type 0) where
+  pub only_memory : Check None → ((cause : Error) → HasError cause → cause ≡ error.OutOfMemory) → (failure : Failure) →
+      IsFailure Check HasError failure → failure ≡ OutOfMemory
+  only_memory valid only (WrongArgument found index) is = absurd (is.0 valid)
   only_memory valid only (Refused file fault) is = absurd (let wrong = only (error.Refused fault) is.2 in cc)
   only_memory valid only OutOfMemory is = refl
   only_memory valid only (NotFound reason index) is = absurd is
 
-  pub only_refused : (fault : Fault) → AreValid → ((cause : Error) → HasError cause → cause ≡ error.Refused fault) → (failure : Failure) →
-      IsFailure AreValid HasError failure → (failure ≡ Refused 1 fault) ⊎ (failure ≡ OutOfMemory)
-  only_refused fault valid only WrongArgument is = absurd (is valid)
+  pub only_refused : (fault : Fault) → Check None → ((cause : Error) → HasError cause → cause ≡ error.Refused fault) → (failure : Failure) →
+      IsFailure Check HasError failure → (failure ≡ Refused 1 fault) ⊎ (failure ≡ OutOfMemory)
+  only_refused fault valid only (WrongArgument found index) is = absurd (is.0 valid)
   only_refused fault valid only (Refused file other) is =
       let same : other ≡ fault = (let whole = only (error.Refused other) is.2 in cc) in inl (λ i. Refused (is.1 i) (same i))
   only_refused fault valid only OutOfMemory is = inr refl
   only_refused fault valid only (NotFound reason index) is = absurd is
 
-  pub only_wrong : ¬ AreValid → (failure : Failure) → IsFailure AreValid HasError failure →
-      (failure ≡ WrongArgument) ⊎ (failure ≡ OutOfMemory)
-  only_wrong wrong WrongArgument is = inl refl
-  only_wrong wrong (Refused file fault) is = absurd (wrong is.0)
-  only_wrong wrong OutOfMemory is = inr refl
-  only_wrong wrong (NotFound reason index) is = absurd is
+  pub only_wrong : (found : Argument) (index : ℕ) → ¬ (Check None) →
+      ((other : Argument) (other_index : ℕ) → Check (Some (other, other_index)) → (other ≡ found) × (other_index ≡ index)) →
+      (failure : Failure) → IsFailure Check HasError failure →
+      (failure ≡ WrongArgument found index) ⊎ (failure ≡ OutOfMemory)
+  only_wrong found index wrong only (WrongArgument other other_index) is =
+      let same = only other other_index is.1 in inl (λ i. WrongArgument (same.0 i) (same.1 i))
+  only_wrong found index wrong only (Refused file fault) is = absurd (wrong is.0)
+  only_wrong found index wrong only OutOfMemory is = inr refl
+  only_wrong found index wrong only (NotFound reason other) is = absurd is

@@ -1,4 +1,5 @@
-use Rattle.std.proofs.Common.{◌≡◌, ◌⊎◌, ◌++◌, ◌<◌, ◌≤◌, ℕ, Bool, true, false, List, length, drop, Result, Ok, Err, IfOk, IfErr, inl, inr}
+use Rattle.std.proofs.Common.{◌≡◌, ◌⊎◌, ◌++◌, ◌<◌, ◌≤◌, ℕ, Bool, true, false, List, length, drop, Result, Ok, Err, IfOk, IfErr, Option}
+use Rattle.std.proofs.Common.{None, inl, inr}
 use Rattle.std.proofs.Common.{refl, subst, sym}
 use Rattle.std.proofs.lemmas.Bool.{false≢true}
 use mir.Val.{bool_byte}
@@ -11,6 +12,8 @@ use Rattle.bi_c.specs.Answers.{answer_of, done, no_room, FillsBuffer, Filled, Ha
 use Rattle.bi_c.specs.Answers.{failure_of_error}
 use Rattle.bi_c.specs.Arguments.{bounds}
 use Rattle.bi_c.specs.Calls.{flag, IsTextOnly, IsTextWithFlag, IsFailureOfOne}
+use Rattle.bi_c.specs.declared.argument.Argument.{Argument}
+use Rattle.bi_c.specs.Checks.{LimitsCheck}
 
 -- A call from C that fails returns the failure of its error, and one that succeeds returns its text and its yes or no as a number.
 
@@ -51,12 +54,12 @@ fills_as IsOutput IsOther HasFailed HasOther before after answer status output f
     (FilledNothing failure is same told is_status) = FilledNothing failure (failed failure is) same told is_status
 
 -- The failure of a call on one file in memory, by its error.
-pub failed_by : (AreValid : Type 0) (HasError : Error → Type 0) (cause : Error) (failure : Failure) → AreValid →
+pub failed_by : (Check : Option (Argument × ℕ) → Type 0) (HasError : Error → Type 0) (cause : Error) (failure : Failure) → Check None →
     failure ≡ failure_of_error cause → ¬ (HasError error.ReadFailed) → ¬ (HasError error.WriteFailed) → HasError cause
-    → IsFailure AreValid HasError failure
-failed_by AreValid HasError cause failure valid same no_read no_write is = subst (IsFailure AreValid HasError) (sym same) (by cause is)
+    → IsFailure Check HasError failure
+failed_by Check HasError cause failure valid same no_read no_write is = subst (IsFailure Check HasError) (sym same) (by cause is)
   where
-    by : (cause : Error) → HasError cause → IsFailure AreValid HasError (failure_of_error cause)
+    by : (cause : Error) → HasError cause → IsFailure Check HasError (failure_of_error cause)
     by (error.Refused fault) is = (valid, refl, is)
     by error.OutOfMemory is = (valid, is)
     by error.ReadFailed is = absurd (no_read is)
@@ -68,7 +71,7 @@ pub failed_of_one : (limit depth : ℕ) (HasError : Limits → Error → Type 0)
     → ((other : Limits) → ¬ (HasError other error.ReadFailed)) → ((other : Limits) → ¬ (HasError other error.WriteFailed)) →
     HasError limits cause → IsFailureOfOne limit depth HasError failure
 failed_of_one limit depth HasError limits cause failure in_range same is_failure no_read no_write is =
-    failed_by (IsInRange limit depth) (HasError (bounds limit depth)) cause failure in_range is_failure (no_read (bounds limit depth))
+    failed_by (LimitsCheck limit depth) (HasError (bounds limit depth)) cause failure in_range is_failure (no_read (bounds limit depth))
     (no_write (bounds limit depth))
     (subst (λ (l : Limits). HasError l cause) same is)
 

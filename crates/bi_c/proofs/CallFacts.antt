@@ -219,7 +219,7 @@ module _ (one_legacy : OneLegacyMeaning) where
     no = λ text value is. is.number ∙ ap flag is.is;
     text = λ text value is. (is.is, is.no_value);
     cause = record { cause = Truncated; is_cause = refl; is_name = refl; no_value = refl };
-    no_cause = λ none. none Truncated refl;
+    no_cause = λ none. none.0 Truncated refl;
     one = file_of_one;
     other = file_of_other;
   }
@@ -274,7 +274,7 @@ call_answers_are_known = record {
   set = was_set;
   not_set = was_not_set;
   file = λ file fault is. is.1;
-  wrong = λ is. is tt;
+  wrong = λ found index is. is.0 tt;
 }
 
 -- The alignment of 4096 bytes.

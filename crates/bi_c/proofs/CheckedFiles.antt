@@ -6,7 +6,7 @@ use Rattle.bi_report.specs.CheckedFiles.{IsCheckError}
 use Rattle.bi_c.specs.declared.failure.Failure.{Failure}
 use Rattle.bi_c.specs.Answers.{IsFailure, IsFailureBy}
 use Rattle.bi_c.specs.Arguments.{bounds, policy_of}
-use Rattle.bi_c.specs.Calls.{HasKinds, IsCheckText, IsConcernsText}
+use Rattle.bi_c.specs.Calls.{KindsCheck, HasKinds, IsCheckText, IsConcernsText}
 use Rattle.bi_c.proofs.CallAnswers.{failed_by}
 
 -- A call from C with valid numbers returns the concerns about a file under the limits, except those of the kinds of these numbers, or
@@ -24,7 +24,7 @@ checked_as format limit depth kinds limits policy file valid same_limits same_po
 
 pub call_not_checked : (limit depth kinds : ℕ) (limits : Limits) (file : List ℕ) → HasKinds limit depth kinds → limits ≡ bounds limit depth
     → (failure : Failure) → IsFailureBy (IsCheckError limits file) failure
-    → IsFailure (HasKinds limit depth kinds) (IsCheckError (bounds limit depth) file) failure
+    → IsFailure (KindsCheck limit depth kinds) (IsCheckError (bounds limit depth) file) failure
 call_not_checked limit depth kinds limits file valid same_limits failure is =
-    failed_by (HasKinds limit depth kinds) (IsCheckError (bounds limit depth) file) is.cause failure valid is.is_failure (λ no. no)
+    failed_by (KindsCheck limit depth kinds) (IsCheckError (bounds limit depth) file) is.cause failure valid is.is_failure (λ no. no)
     (λ no. no) (subst (λ (l : Limits). IsCheckError l file is.cause) same_limits is.is_error)

@@ -10,10 +10,16 @@ use Rattle.bi_legacy.specs.Codes.{CodeName, compression_names, name_of_code}
 use Rattle.bi_show.specs.AllCodes.{code_of_name, given_arch_names, given_os_names, given_type_names}
 use Rattle.bi_c.specs.CodeCalls.{HasCodeOfField, IsCodeNameFailure, IsCodeNumberFailure, IsNameOfCode, IsNumberOfName, names_of_field}
 use Rattle.bi_c.specs.Answers.{answer_of}
-use Rattle.bi_c.specs.KnownCalls.{AlwaysAnswers, AlwaysFills, empty_answer}
+use Rattle.bi_c.specs.KnownCalls.{AlwaysAnswers, AlwaysFills}
 use Rattle.bi_c.specs.KnownCodeCalls.{NamesOfCodesAreKnown}
 use Rattle.bi_c.specs.declared.failure.Failure.{Failure}
 use Rattle.bi_c.specs.declared.failure.Failure.TheVariants.{NotFound, OutOfMemory, Refused, WrongArgument}
+use Rattle.bi_c.specs.declared.argument.Argument.{Argument}
+use Rattle.bi_c.specs.declared.argument.Argument.TheVariants.{Code, Field}
+use Rattle.bi_c.specs.Answers.{answer_of_failure}
+use Rattle.bi_c.specs.Checks.{NoCheck}
+use Rattle.bi_c.specs.CodeCalls.{CodeCheck, FieldCheck}
+use Rattle.bi_c.proofs.CheckFacts.{OnlyWrong, next_keeps, next_none, next_only, no_check_none}
 use Rattle.bi_c.proofs.AnswerFacts.{always_answers, never_answers, never_fills}
 
 -- The names of codes, and the codes of names.
@@ -114,40 +120,45 @@ finds_code field code name is_field found =
     (λ size value is. (is.nothing, let same : Some value ≡ Some code = sym is.is_code ∙ found in cc)) fails
   where
     fails : (failure : Failure) → IsCodeNumberFailure field name failure → failure ≡ OutOfMemory
-    fails WrongArgument is = absurd (is is_field)
+    fails (WrongArgument found index) is = absurd (is.0 is_field)
     fails (NotFound reason index) is = absurd (let wrong : None ≡ Some code = sym is.1 ∙ found in cc)
     fails (Refused file fault) is = absurd is
     fails OutOfMemory is = absurd is
 
 -- No code has the name `linux` in the field of types.
 no_code_fails : (failure : Failure) → IsCodeNumberFailure 2 (codes "linux") failure → (failure ≡ NotFound 15 0) ⊎ (failure ≡ OutOfMemory)
-no_code_fails WrongArgument is = absurd (is (lit< tt))
+no_code_fails (WrongArgument found index) is = absurd (is.0 (lit< tt))
 no_code_fails (NotFound reason index) is = inl (λ i. NotFound (is.2 i) (is.3 i))
 no_code_fails (Refused file fault) is = absurd is
 no_code_fails OutOfMemory is = absurd is
 
 -- There is no field with the number 4.
-no_field_fails : (failure : Failure) → IsCodeNumberFailure 4 (codes "linux") failure → (failure ≡ WrongArgument) ⊎ (failure ≡ OutOfMemory)
-no_field_fails WrongArgument is = inl refl
+no_field_fails : (failure : Failure) → IsCodeNumberFailure 4 (codes "linux") failure →
+    (failure ≡ WrongArgument Field 0) ⊎ (failure ≡ OutOfMemory)
+no_field_fails (WrongArgument found index) is =
+    let same = next_only NoCheck Field (4 < 4) no_check_none found index is.1 in inl (λ i. WrongArgument (same.0 i) (same.1 i))
 no_field_fails (NotFound reason index) is = absurd (omega (arith, is.0))
 no_field_fails (Refused file fault) is = absurd is
 no_field_fails OutOfMemory is = absurd is
 
 -- Numbers that are none of a field and a code.
-wrong_numbers : (field code : ℕ) → ¬ (HasCodeOfField field code) → (before : List ℕ) →
-    AlwaysFills (IsNameOfCode field code) (IsCodeNameFailure field code) before before empty_answer 4
-wrong_numbers field code wrong before =
-    never_fills (IsNameOfCode field code) (IsCodeNameFailure field code) before WrongArgument (λ text value is. wrong is.arguments) fails
+wrong_numbers : (field code : ℕ) (argument : Argument) → ¬ (HasCodeOfField field code) → OnlyWrong (CodeCheck field code) argument 0 →
+    (before : List ℕ) →
+    AlwaysFills (IsNameOfCode field code) (IsCodeNameFailure field code) before before (answer_of_failure (WrongArgument argument 0)) 4
+wrong_numbers field code argument wrong only before =
+    never_fills (IsNameOfCode field code) (IsCodeNameFailure field code) before (WrongArgument argument 0)
+    (λ text value is. wrong is.arguments) fails
   where
-    fails : (failure : Failure) → IsCodeNameFailure field code failure → (failure ≡ WrongArgument) ⊎ (failure ≡ OutOfMemory)
-    fails WrongArgument is = inl refl
+    fails : (failure : Failure) → IsCodeNameFailure field code failure → (failure ≡ WrongArgument argument 0) ⊎ (failure ≡ OutOfMemory)
+    fails (WrongArgument found index) is =
+        let same = only found index is.1 in inl (λ i. WrongArgument (same.0 i) (same.1 i))
     fails (NotFound reason index) is = absurd (wrong is.0)
     fails (Refused file fault) is = absurd is
     fails OutOfMemory is = absurd is
 
 -- The code 0 of an operating system has no name.
 no_name_fails : (failure : Failure) → IsCodeNameFailure 0 0 failure → (failure ≡ NotFound 14 0) ⊎ (failure ≡ OutOfMemory)
-no_name_fails WrongArgument is = absurd (is (record { is_field = lit< tt; is_code = lit< tt }))
+no_name_fails (WrongArgument found index) is = absurd (is.0 (record { is_field = lit< tt; is_code = lit< tt }))
 no_name_fails (NotFound reason index) is = inl (λ i. NotFound (is.2 i) (is.3 i))
 no_name_fails (Refused file fault) is = absurd is
 no_name_fails OutOfMemory is = absurd is
@@ -162,13 +173,16 @@ names_of_codes_are_known = record {
   no_name = λ before.
       never_fills (IsNameOfCode 0 0) (IsCodeNameFailure 0 0) before (NotFound 14 0)
       (λ text value is. let wrong : None ≡ Some text = is.is_name in cc) no_name_fails;
-  no_field = wrong_numbers 4 5 (λ has. omega (arith, has.is_field));
-  large_code = wrong_numbers 0 256 (λ has. omega (arith, has.is_code));
+  no_field = wrong_numbers 4 5 Field (λ has. omega (arith, has.is_field))
+      (next_keeps (FieldCheck 4) Code (HasCodeOfField 4 5) Field 0 (next_only NoCheck Field (4 < 4) no_check_none)
+      (λ is. omega (arith, is)));
+  large_code = wrong_numbers 0 256 Code (λ has. omega (arith, has.is_code))
+      (next_only (FieldCheck 0) Code (HasCodeOfField 0 256) (next_none NoCheck Field (0 < 4) no_check_none (lit< tt)));
   os_code = finds_code 0 5 (codes "linux") (lit< tt) refl;
   second_name = finds_code 1 7 (codes "powerpc") (lit< tt) refl;
   no_code = never_answers (IsNumberOfName 2 (codes "linux")) (IsCodeNumberFailure 2 (codes "linux")) (NotFound 15 0)
       (λ size value is. let wrong : None ≡ Some value = is.is_code in cc) no_code_fails;
-  no_code_of_field = never_answers (IsNumberOfName 4 (codes "linux")) (IsCodeNumberFailure 4 (codes "linux")) WrongArgument
+  no_code_of_field = never_answers (IsNumberOfName 4 (codes "linux")) (IsCodeNumberFailure 4 (codes "linux")) (WrongArgument Field 0)
       (λ size value is. omega (arith, is.is_field)) no_field_fails;
   back = λ field code value name is. record {
     is_field = is.arguments.is_field;

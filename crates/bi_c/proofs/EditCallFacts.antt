@@ -1,4 +1,4 @@
-use Rattle.std.proofs.Common.{◌≡◌, ◌∙◌, ◌++◌, ℕ, List, [], ◌∷◌, Option, ap, lit<, lit≤, refl, sym, subst, arith}
+use Rattle.std.proofs.Common.{codes, ◌≡◌, ◌∙◌, ◌++◌, ℕ, List, [], ◌∷◌, Option, ap, lit<, lit≤, refl, sym, subst, arith}
 use Rattle.std.specs.List.{AllZip, join_with_byte}
 use Rattle.bi_common.specs.Shown.{path, shown_text}
 use Rattle.bi_describe.proofs.DescribedFileFacts.{only_smallest, tree_of_smallest_text}
@@ -19,8 +19,15 @@ use Rattle.bi_legacy.specs.Text.{legacy_text}
 use Rattle.bi_norm.specs.Meaning.{Meaning, OfFit, OfLegacy, normal_text}
 use Rattle.bi_norm.proofs.ComparisonFacts.{multi_means}
 use Rattle.bi_c.specs.EditCalls.{IsEditOf, IsEditedFile, IsSetting, OfFile, OfWord, edit_note_numbers}
-use Rattle.bi_c.specs.KnownEditCalls.{EditArgumentsAreKnown, EditCallsAreKnown, EditElementsAreKnown, no_numbers, number_element}
+use Rattle.bi_c.specs.KnownEditCalls.{word_element, EditArgumentsAreKnown, EditCallsAreKnown, EditElementsAreKnown, no_numbers}
+use Rattle.bi_c.specs.KnownEditCalls.{number_element}
 use Rattle.bi_c.proofs.AnswerFacts.{widest_is_in_range}
+use Rattle.bi_c.specs.declared.argument.Argument.TheVariants.{Edits}
+use Rattle.bi_c.specs.declared.argument.Argument.TheVariants as argument
+use Rattle.bi_c.specs.Checks.{IsFirstWrong, IsWrong, LimitsCheck, NextCheck}
+use Rattle.bi_c.specs.EditCalls.{EditsCheck, HasChoice, IsEditElement}
+use Rattle.bi_c.specs.declared.edits.EditElement.{EditElement}
+use Rattle.bi_c.proofs.CheckFacts.{element_is_wrong}
 use Rattle.bi_c.proofs.EditElements.{no_setting_edit, removal_edit}
 
 -- What elements of edits are for, and what the calls that edit small files return, is known.
@@ -58,6 +65,14 @@ no_empty_setting (SetPayload image payload) is = is
 no_empty_setting (SetTime time) is = is
 no_empty_setting SetDigests is = is
 
+-- The element with an index is wrong.
+wrong_edit : (input : List ℕ) (elements : List EditElement) (index : ℕ) → IsFirstWrong (IsEditElement input) elements index →
+    IsWrong (EditsCheck 0x7fffffff 64 0 input elements) Edits index
+wrong_edit input elements index =
+    element_is_wrong (NextCheck (LimitsCheck 0x7fffffff 64) argument.Form (HasChoice 0x7fffffff 64 0)) Edits (IsEditElement input) elements
+    index
+    (record { limits = widest_is_in_range; choice = choice.Given Embedded; is_choice = refl })
+
 pub edit_arguments_are_known : EditArgumentsAreKnown
 edit_arguments_are_known = record {
   keep = refl;
@@ -74,9 +89,24 @@ edit_arguments_are_known = record {
       ),
     );
   };
-  other_kind = λ file has. omega (arith, has.are_elements.0.is_kind);
-  large_code = λ file has. omega (arith, has.are_elements.0.code (lit≤ tt));
-  outside = λ file has. omega (arith, has.are_elements.0.word);
+  other_kind = λ file. wrong_edit [] _ 1 (record {
+    element = number_element 11 0;
+    is_there = refl;
+    before = (record { is_kind = lit< tt; word = lit≤ tt; payload = lit≤ tt; code = λ more. lit< tt }, tt);
+    is_wrong = λ is. omega (arith, is.is_kind);
+  });
+  large_code = λ file. wrong_edit [] _ 0 (record {
+    element = number_element 8 256;
+    is_there = refl;
+    before = tt;
+    is_wrong = λ is. omega (arith, is.code (lit≤ tt));
+  });
+  outside = λ file. wrong_edit (codes "x") _ 0 (record {
+    element = word_element 3 1 1;
+    is_there = refl;
+    before = tt;
+    is_wrong = λ is. omega (arith, is.word);
+  });
   bad_word = λ file. OfWord (record {
     limits = widest_is_in_range;
     choice = choice.Given Embedded;

@@ -23,7 +23,7 @@ module _ (limit depth form : ℕ) (input : List ℕ) (elements : List EditElemen
   -- If the elements have no edits, the call fails.
   pub edits_failed : (failure : Failure) → AreEditsFailure input elements failure →
       IsEditCallFailure limit depth form input elements file failure
-  edits_failed WrongArgument none = absurd none
+  edits_failed (WrongArgument found index) none = absurd none
   edits_failed OutOfMemory none = has
   edits_failed (NotFound reason index) none = OfWord has none.0 none.1
   edits_failed (Refused number fault) none = absurd none

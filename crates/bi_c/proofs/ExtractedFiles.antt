@@ -1,4 +1,4 @@
-use Rattle.std.proofs.Common.{◌≡◌, ℕ, List, Result, Ok, Err, IfOk, refl, sym, subst}
+use Rattle.std.proofs.Common.{◌≡◌, ℕ, List, Option, None, Result, Ok, Err, IfOk, refl, sym, subst}
 use Rattle.bi_base.specs.declared.fault.Error.TheVariants as error
 use Rattle.bi_base.specs.Limits.{Limits}
 use Rattle.bi_fit.specs.declared.configurations.ConfigError.TheVariants as list
@@ -19,6 +19,7 @@ use Rattle.bi_c.specs.Answers.{Answers, Returned, Failed as HasFailed}
 use Rattle.bi_c.specs.Extracting.{IsChosenAt, IsFound, IsOffset, IsPayloadOffset, IsReasonNumber, IsSelectFailure, IsExtracted}
 use Rattle.bi_c.specs.Extracting.{IsExtractCallFailure}
 use Rattle.bi_c.specs.Extracting.{failure_of_extract_error}
+use Rattle.bi_c.specs.declared.argument.Argument.{Argument}
 
 -- What a call from C extracts from what was read of a file is in the file, and the call fails as extracting from the file does.
 
@@ -78,23 +79,24 @@ select_failure select limits file cause failure same is = subst (IsSelectFailure
     by NoPayload is = numbered select limits file HasNoPayload 9 0 is (refl, refl)
 
 -- The answer of a call with valid arguments.
-pub extract_answers : (AreValid : Type 0) (limits other_limits : Limits) (select other : Select) (file : List ℕ) (answer : Answer)
+pub extract_answers : (Check : Option (Argument × ℕ) → Type 0) (limits other_limits : Limits) (select other : Select) (file : List ℕ)
+    (answer : Answer)
     (status : ℕ) →
-    AreValid → limits ≡ other_limits → select ≡ other
+    Check None → limits ≡ other_limits → select ≡ other
     → Answers (IsFound limits select file) (IsSelectFailure limits select file) answer status
-    → Answers (IsExtracted AreValid other_limits other file) (IsExtractCallFailure AreValid other_limits other file) answer status
-extract_answers AreValid limits other_limits select other file answer status valid same_limits same_select is =
+    → Answers (IsExtracted (Check None) other_limits other file) (IsExtractCallFailure Check other_limits other file) answer status
+extract_answers Check limits other_limits select other file answer status valid same_limits same_select is =
     by (subst (λ (s : Select). Answers (IsFound other_limits s file) (IsSelectFailure other_limits s file) answer status) same_select
     (subst (λ (l : Limits). Answers (IsFound l select file) (IsSelectFailure l select file) answer status) same_limits is))
   where
     failed : (failure : Failure) → IsSelectFailure other_limits other file failure →
-        IsExtractCallFailure AreValid other_limits other file failure
-    failed WrongArgument is = absurd is
+        IsExtractCallFailure Check other_limits other file failure
+    failed (WrongArgument found index) is = absurd is
     failed (Refused number fault) is = (valid, is)
     failed OutOfMemory is = (valid, is)
     failed (NotFound reason index) is = (valid, is)
 
     by : Answers (IsFound other_limits other file) (IsSelectFailure other_limits other file) answer status →
-        Answers (IsExtracted AreValid other_limits other file) (IsExtractCallFailure AreValid other_limits other file) answer status
+        Answers (IsExtracted (Check None) other_limits other file) (IsExtractCallFailure Check other_limits other file) answer status
     by (Returned size value is told is_status) = Returned size value (record { valid = valid; is_found = is }) told is_status
     by (HasFailed failure is told is_status) = HasFailed failure (failed failure is) told is_status

@@ -1,4 +1,4 @@
-use Rattle.std.proofs.Common.{◌≡◌, ℕ, List, refl, subst, sym}
+use Rattle.std.proofs.Common.{◌≡◌, ℕ, List, Option, None, refl, subst, sym}
 use Rattle.std.specs.List.{AllByRecursion}
 use Rattle.bi_base.specs.declared.fault.Error.{Error}
 use Rattle.bi_base.specs.declared.fault.Error.TheVariants as error
@@ -18,6 +18,7 @@ use Rattle.bi_c.specs.Calls.{IsTreeFailure}
 use Rattle.bi_c.specs.FitElements.{configuration_siblings}
 use Rattle.bi_c.specs.TreeRegions.{HasNameBytes}
 use Rattle.bi_c.proofs.TreeRegions.{root_bytes, children_names}
+use Rattle.bi_c.specs.declared.argument.Argument.{Argument}
 
 -- If a file was read under the limits of a call, it means what was read.
 
@@ -49,12 +50,13 @@ configuration_bytes limits file content read =
     (root_bytes file content.blob.cpu content.blob.reservations is.root is.blob).1
 
 -- If a call on a FIT cannot read the file, it fails as reading fails.
-pub tree_failed : (AreValid : Type 0) (limits : Limits) (file : List ℕ) (IsReason : ℕ → ℕ → Type 0) (cause : Error) (failure : Failure) →
-    AreValid → failure ≡ failure_of_error cause → IsFitReadError limits file cause → IsTreeFailure AreValid limits file IsReason failure
-tree_failed AreValid limits file IsReason cause failure valid same is =
-    subst (IsTreeFailure AreValid limits file IsReason) (sym same) (by cause is)
+pub tree_failed : (Check : Option (Argument × ℕ) → Type 0) (limits : Limits) (file : List ℕ) (IsReason : ℕ → ℕ → Type 0) (cause : Error)
+    (failure : Failure) →
+    Check None → failure ≡ failure_of_error cause → IsFitReadError limits file cause → IsTreeFailure Check limits file IsReason failure
+tree_failed Check limits file IsReason cause failure valid same is =
+    subst (IsTreeFailure Check limits file IsReason) (sym same) (by cause is)
   where
-    by : (cause : Error) → IsFitReadError limits file cause → IsTreeFailure AreValid limits file IsReason (failure_of_error cause)
+    by : (cause : Error) → IsFitReadError limits file cause → IsTreeFailure Check limits file IsReason (failure_of_error cause)
     by (error.Refused fault) is = (valid, refl, is)
     by error.OutOfMemory is = (valid, is)
     by error.ReadFailed is = absurd is

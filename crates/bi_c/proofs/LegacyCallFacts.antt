@@ -1,4 +1,4 @@
-use Rattle.std.proofs.Common.{◌≡◌, ◌∙◌, ◌↔◌, ◌≤◌, ◌⊎◌, ◌++◌, ◌-◌, ℕ, Bool, true, false, IsTrue, List, [], ◌∷◌, codes, drop, length}
+use Rattle.std.proofs.Common.{Option, ◌≡◌, ◌∙◌, ◌↔◌, ◌≤◌, ◌⊎◌, ◌++◌, ◌-◌, ℕ, Bool, true, false, IsTrue, List, [], ◌∷◌, codes, drop, length}
 use Rattle.std.proofs.Common.{None, map, inl, inr, ap, refl, sym, subst, lit<, lit≤, arith}
 use Rattle.std.specs.Fmt.{digits}
 use Rattle.bi_base.specs.Cells.{cell, u32_at}
@@ -52,7 +52,7 @@ use Rattle.bi_show.specs.KnownPages.{PagesAreKnown}
 use Rattle.bi_show.specs.ShownFiles.{IsPage, OfLegacyImage, OfImageTree}
 use Rattle.bi_c.specs.Answers.{Answers, IsFailure, Returned, Failed, Sets, WasSet, WasNotSet}
 use Rattle.bi_c.specs.Answers.{answer_of, answer_of_failure}
-use Rattle.bi_c.specs.Arguments.{HasChanges, HasForm, HasLayout, IsErrorInForm, allowed_by, changes_of}
+use Rattle.bi_c.specs.Arguments.{HasChanges, HasForm, IsErrorInForm, allowed_by, changes_of}
 use Rattle.bi_c.specs.Calls.{HasKinds, IsCheckText, IsFailureOfOne, IsKindFailure, IsKindNumber, IsNormaliseFailure, IsNormalised}
 use Rattle.bi_c.specs.Calls.{IsPageFailure, IsPageText, IsUpdateFailure, IsUpdatedText, flag}
 use Rattle.bi_c.specs.ConcernElements.{AreConcernElements, concern_element}
@@ -71,6 +71,14 @@ use Rattle.bi_c.specs.declared.failure.Failure.TheVariants.{Refused, NotFound, O
 use Rattle.bi_c.specs.declared.legacy.LegacyFields.{LegacyFields}
 use Rattle.bi_c.proofs.AnswerFacts.{always_answers, always_fills, never_answers, never_fills, only_memory, only_refused, only_wrong}
 use Rattle.bi_c.proofs.AnswerFacts.{widest_is_in_range}
+use Rattle.bi_c.specs.Arguments.{ChangesCheck, FormCheck, LayoutCheck}
+use Rattle.bi_c.specs.Calls.{KindsCheck}
+use Rattle.bi_c.specs.Checks.{IsLimit, LimitsCheck, NextCheck, NoCheck}
+use Rattle.bi_c.specs.PieceBuilding.{IsPieceInside, PiecesCheck}
+use Rattle.bi_c.specs.declared.argument.Argument.{Argument}
+use Rattle.bi_c.specs.declared.argument.Argument.TheVariants.{Depth, Fields, Limit, Parts}
+use Rattle.bi_c.specs.declared.argument.Argument.TheVariants as argument
+use Rattle.bi_c.proofs.CheckFacts.{OnlyWrong, array_only, first_only, limits_none, next_keeps, next_none, next_only, no_check_none}
 use Rattle.bi_c.proofs.CallFacts.{offsets_of_payloads_are_known}
 
 -- Calls on small legacy images, and on files that are none, have known answers.
@@ -89,7 +97,7 @@ kind_fault fault (OfNoKind whole others is) = is
 no_kind : (answer : Answer) (status : ℕ) → Answers (IsKindNumber (codes "abcd")) (IsKindFailure (codes "abcd")) answer status →
     (answer ≡ record empty_answer { cause = 2; file = 1 }) × (status ≡ 1)
 no_kind answer status (Returned size value is same ends) = absurd (no_such_kind is.kind is.begins)
-no_kind answer status (Failed WrongArgument has same ends) = absurd has
+no_kind answer status (Failed (WrongArgument found index) has same ends) = absurd has
 no_kind answer status (Failed (Refused file fault) has same ends) =
     let cause = kind_fault fault has.1 in (same ∙ (λ i. answer_of_failure (Refused (has.0 i) (cause i))), ends)
 no_kind answer status (Failed OutOfMemory has same ends) = absurd has
@@ -102,7 +110,7 @@ short_fault fault (OfNoKind whole others is) = absurd (omega (arith, whole))
 short_file : (answer : Answer) (status : ℕ) → Answers (IsKindNumber (codes "abc")) (IsKindFailure (codes "abc")) answer status →
     (answer ≡ record empty_answer { cause = 1; file = 1 }) × (status ≡ 1)
 short_file answer status (Returned size value is same ends) = absurd (omega (arith, is.begins.whole))
-short_file answer status (Failed WrongArgument has same ends) = absurd has
+short_file answer status (Failed (WrongArgument found index) has same ends) = absurd has
 short_file answer status (Failed (Refused file fault) has same ends) =
     let cause = short_fault fault has.1 in (same ∙ (λ i. answer_of_failure (Refused (has.0 i) (cause i))), ends)
 short_file answer status (Failed OutOfMemory has same ends) = absurd has
@@ -118,18 +126,26 @@ bad_data : (before after : LegacyFields) (answer : Answer) (status : ℕ) →
 bad_data before after answer status (WasSet is same ends) =
     absurd (no_meaning_with_fault file_with_bad_data is.image.image widest bad_data_fault legacy_files_have_faults.other_data
     is.is_read.means)
-bad_data before after answer status (WasNotSet WrongArgument has stays same ends) = absurd (has widest_is_in_range)
+bad_data before after answer status (WasNotSet (WrongArgument found index) has stays same ends) = absurd (has.0 widest_is_in_range)
 bad_data before after answer status (WasNotSet (Refused file fault) has stays same ends) =
     let cause : fault ≡ bad_data_fault = sym (has.2.only bad_data_fault legacy_files_have_faults.other_data) in
     (stays, same ∙ (λ i. answer_of_failure (Refused (has.1 i) (cause i))), ends)
 bad_data before after answer status (WasNotSet OutOfMemory has stays same ends) = absurd has.1
 bad_data before after answer status (WasNotSet (NotFound reason index) has stays same ends) = absurd has
 
+-- The limit 63 is too small.
+small_limit_only : OnlyWrong (LimitsCheck 63 64) Limit 0
+small_limit_only =
+    next_keeps (NextCheck NoCheck Limit (IsLimit 63)) Depth (IsInRange 63 64) Limit 0 (next_only NoCheck Limit (IsLimit 63) no_check_none)
+    (λ is. omega (arith, is.0))
+
 small_limit : (before after : LegacyFields) (answer : Answer) (status : ℕ) →
     Sets (AreLegacyFields 63 64 kernel_file) (IsFailureOfOne 63 64 (λ limits. IsLegacyReadError limits kernel_file)) before after answer
-    status → (after ≡ before) × (answer ≡ empty_answer) × (status ≡ 4)
+    status → (after ≡ before) × (answer ≡ record empty_answer { reason = 2 }) × (status ≡ 4)
 small_limit before after answer status (WasSet is same ends) = absurd (omega (arith, is.limits.0))
-small_limit before after answer status (WasNotSet WrongArgument has stays same ends) = (stays, same, ends)
+small_limit before after answer status (WasNotSet (WrongArgument found index) has stays same ends) =
+    let wrong = small_limit_only found index has.1 in
+    (stays, same ∙ (λ i. answer_of_failure (WrongArgument (wrong.0 i) (wrong.1 i))), ends)
 small_limit before after answer status (WasNotSet (Refused file fault) has stays same ends) = absurd (omega (arith, has.0.0))
 small_limit before after answer status (WasNotSet OutOfMemory has stays same ends) = absurd (omega (arith, has.0.0))
 small_limit before after answer status (WasNotSet (NotFound reason index) has stays same ends) = absurd has
@@ -174,26 +190,48 @@ not_normalised : (before : List ℕ) →
 not_normalised before =
     never_fills (IsNormalised 0x7fffffff 64 1 file_without_magic) (IsNormaliseFailure 0x7fffffff 64 1 file_without_magic) before
     (Refused 1 no_magic) (λ text value is. no_magic_is_error.1 is.is.normal.meaning is.is.normal.means)
-    (only_refused (HasForm 0x7fffffff 64 1) (IsErrorInForm 1 (λ form. IsNormaliseError widest form file_without_magic)) no_magic
+    (only_refused (FormCheck 0x7fffffff 64 1) (IsErrorInForm 1 (λ form. IsNormaliseError widest form file_without_magic)) no_magic
     (record { limits = widest_is_in_range; form = External; is_form = refl })
     (λ cause is. no_magic_read (IsTooLong widest is.form file_without_magic) (λ long. no_magic_is_error.1 (OfFit long.tree) long.means)
     cause is.is_error))
 
 no_such_form : (before : List ℕ) →
-    AlwaysFills (IsNormalised 0x7fffffff 64 2 kernel_file) (IsNormaliseFailure 0x7fffffff 64 2 kernel_file) before before empty_answer 4
+    AlwaysFills (IsNormalised 0x7fffffff 64 2 kernel_file) (IsNormaliseFailure 0x7fffffff 64 2 kernel_file) before before
+    (record empty_answer { reason = 4 }) 4
 no_such_form before =
-    never_fills (IsNormalised 0x7fffffff 64 2 kernel_file) (IsNormaliseFailure 0x7fffffff 64 2 kernel_file) before WrongArgument
+    never_fills (IsNormalised 0x7fffffff 64 2 kernel_file) (IsNormaliseFailure 0x7fffffff 64 2 kernel_file) before
+    (WrongArgument argument.Form 0)
     (λ text value is. no_form_below_four 2 (lit< tt) (lit< tt) is.arguments.form is.arguments.is_form)
-    (only_wrong (HasForm 0x7fffffff 64 2) (IsErrorInForm 2 (λ form. IsNormaliseError widest form kernel_file))
-    (λ has. no_form_below_four 2 (lit< tt) (lit< tt) has.form has.is_form))
+    (only_wrong (FormCheck 0x7fffffff 64 2) (IsErrorInForm 2 (λ form. IsNormaliseError widest form kernel_file)) argument.Form 0
+    (λ has. no_form_below_four 2 (lit< tt) (lit< tt) has.form has.is_form)
+    (next_only (LimitsCheck 0x7fffffff 64) argument.Form (HasForm 0x7fffffff 64 2) (limits_none 0x7fffffff 64 widest_is_in_range)))
+
+-- The depth 65 is too large, and is looked at before the form.
+two_wrong : (before : List ℕ) →
+    AlwaysFills (IsNormalised 0x7fffffff 65 2 kernel_file) (IsNormaliseFailure 0x7fffffff 65 2 kernel_file) before before
+    (record empty_answer { reason = 3 }) 4
+two_wrong before =
+    never_fills (IsNormalised 0x7fffffff 65 2 kernel_file) (IsNormaliseFailure 0x7fffffff 65 2 kernel_file) before (WrongArgument Depth 0)
+    (λ text value is. omega (arith, is.arguments.limits.3))
+    (only_wrong (FormCheck 0x7fffffff 65 2)
+    (IsErrorInForm 2 (λ form. IsNormaliseError (record { file = 0x7fffffff; depth = 65 }) form kernel_file)) Depth 0
+    (λ has. omega (arith, has.limits.3))
+    (next_keeps (LimitsCheck 0x7fffffff 65) argument.Form (HasForm 0x7fffffff 65 2) Depth 0
+    (next_only (NextCheck NoCheck Limit (IsLimit 0x7fffffff)) Depth (IsInRange 0x7fffffff 65)
+    (next_none NoCheck Limit (IsLimit 0x7fffffff) no_check_none (lit≤ tt, lit≤ tt))) (λ is. omega (arith, is.3))))
 
 no_such_change : (before : List ℕ) →
-    AlwaysFills (IsUpdatedText 0x7fffffff 64 0 4 5 multi_file) (IsUpdateFailure 0x7fffffff 64 0 4 5 multi_file) before before empty_answer 4
+    AlwaysFills (IsUpdatedText 0x7fffffff 64 0 4 5 multi_file) (IsUpdateFailure 0x7fffffff 64 0 4 5 multi_file) before before
+    (record empty_answer { reason = 5 }) 4
 no_such_change before =
-    never_fills (IsUpdatedText 0x7fffffff 64 0 4 5 multi_file) (IsUpdateFailure 0x7fffffff 64 0 4 5 multi_file) before WrongArgument
+    never_fills (IsUpdatedText 0x7fffffff 64 0 4 5 multi_file) (IsUpdateFailure 0x7fffffff 64 0 4 5 multi_file) before
+    (WrongArgument argument.Changes 0)
     (λ text value is. omega (arith, is.arguments.are_changes))
-    (only_wrong (HasChanges 0x7fffffff 64 0 4) (IsErrorInForm 0 (λ form. IsUpdateError (changes_of 4 5) widest form multi_file))
-    (λ has. omega (arith, has.are_changes)))
+    (only_wrong (ChangesCheck 0x7fffffff 64 0 4) (IsErrorInForm 0 (λ form. IsUpdateError (changes_of 4 5) widest form multi_file))
+    argument.Changes 0 (λ has. omega (arith, has.are_changes))
+    (next_only (FormCheck 0x7fffffff 64 0) argument.Changes (HasChanges 0x7fffffff 64 0 4)
+    (next_none (LimitsCheck 0x7fffffff 64) argument.Form (HasForm 0x7fffffff 64 0) (limits_none 0x7fffffff 64 widest_is_in_range)
+    (record { limits = widest_is_in_range; form = Embedded; is_form = refl }))))
 
 no_page : (before : List ℕ) →
     AlwaysFills (IsPageText 0x7fffffff 64 0 file_without_magic) (IsPageFailure 0x7fffffff 64 0 file_without_magic) before before
@@ -201,7 +239,7 @@ no_page : (before : List ℕ) →
 no_page before =
     never_fills (IsPageText 0x7fffffff 64 0 file_without_magic) (IsPageFailure 0x7fffffff 64 0 file_without_magic) before
     (Refused 1 no_magic) (λ text value is. means_something text is.is)
-    (only_refused (HasLayout 0x7fffffff 64 0) (IsCheckError widest file_without_magic) no_magic
+    (only_refused (LayoutCheck 0x7fffffff 64 0) (IsCheckError widest file_without_magic) no_magic
     (record { limits = widest_is_in_range; is_layout = lit< tt })
     (no_magic_read (HoldsTooMuch widest file_without_magic) (λ over. no_magic_is_error.1 over.meaning over.means)))
   where
@@ -218,7 +256,7 @@ module _ (one_legacy : OneLegacyMeaning) where
       kernel_file 73 0
       (λ text value is.
       let found = ((normal_forms_are_known one_legacy).legacy is.arguments.form).only value text is.is in (found.1, found.0))
-      (only_memory (HasForm 0x7fffffff 64 0) (IsErrorInForm 0 (λ form. IsNormaliseError widest form kernel_file_with_rest))
+      (only_memory (FormCheck 0x7fffffff 64 0) (IsErrorInForm 0 (λ form. IsNormaliseError widest form kernel_file_with_rest))
       (record { limits = widest_is_in_range; form = Embedded; is_form = refl })
       (λ cause is. no_read_error kernel_file_with_rest (OfLegacy kernel_image) kernel_with_rest_means
       (IsTooLong widest is.form kernel_file_with_rest)
@@ -236,7 +274,7 @@ module _ (one_legacy : OneLegacyMeaning) where
         (updated_texts_are_known one_legacy).text is.arguments.has_form.form text is.is.is,
         (updated_texts_are_known one_legacy).count is.arguments.has_form.form value text is.is,
       ))
-      (only_memory (HasChanges 0x7fffffff 64 0 1) (IsErrorInForm 0 (λ form. IsUpdateError (only_time 5) widest form multi_file))
+      (only_memory (ChangesCheck 0x7fffffff 64 0 1) (IsErrorInForm 0 (λ form. IsUpdateError (only_time 5) widest form multi_file))
       (record { has_form = record { limits = widest_is_in_range; form = Embedded; is_form = refl }; are_changes = lit< tt })
       (λ cause is. (updated_texts_are_known one_legacy).error is.form cause is.is_error)) refl room
 
@@ -274,9 +312,9 @@ module _ (one_legacy : OneLegacyMeaning) where
   without_lines false is = is.1 refl
 
   check_errors : (kinds : ℕ) → HasKinds 0x7fffffff 64 kinds → (failure : Failure) →
-      IsFailure (HasKinds 0x7fffffff 64 kinds) (IsCheckError widest kernel_file_with_rest) failure → failure ≡ OutOfMemory
+      IsFailure (KindsCheck 0x7fffffff 64 kinds) (IsCheckError widest kernel_file_with_rest) failure → failure ≡ OutOfMemory
   check_errors kinds valid =
-      only_memory (HasKinds 0x7fffffff 64 kinds) (IsCheckError widest kernel_file_with_rest) valid
+      only_memory (KindsCheck 0x7fffffff 64 kinds) (IsCheckError widest kernel_file_with_rest) valid
       (no_read_error kernel_file_with_rest (OfLegacy kernel_image) kernel_with_rest_means (HoldsTooMuch widest kernel_file_with_rest)
       (λ over. within over.meaning over.means over.is_over))
     where
@@ -289,12 +327,12 @@ module _ (one_legacy : OneLegacyMeaning) where
 
   concern : (before : List ℕ) → 11 ≤ length before →
       AlwaysFills (IsCheckText Lines 0x7fffffff 64 0 kernel_file_with_rest)
-      (IsFailure (HasKinds 0x7fffffff 64 0) (IsCheckError widest kernel_file_with_rest)) before
+      (IsFailure (KindsCheck 0x7fffffff 64 0) (IsCheckError widest kernel_file_with_rest)) before
       (codes "trailing 7\n" ++ drop 11 before) (record empty_answer { size = 11 }) 0
   unfolding digits
   concern before room =
       always_fills (IsCheckText Lines 0x7fffffff 64 0 kernel_file_with_rest)
-      (IsFailure (HasKinds 0x7fffffff 64 0) (IsCheckError widest kernel_file_with_rest)) before (codes "trailing 7\n") 11 0
+      (IsFailure (KindsCheck 0x7fffffff 64 0) (IsCheckError widest kernel_file_with_rest)) before (codes "trailing 7\n") 11 0
       (λ text value is. (
         text_is Lines (allowed_by 0) is.is.clean text is.is.is,
         is.is.number ∙ ap flag (with_lines is.is.clean (is_clean Lines (allowed_by 0) is.is.clean text is.is.is)),
@@ -303,12 +341,12 @@ module _ (one_legacy : OneLegacyMeaning) where
 
   concern_json : (before : List ℕ) → 47 ≤ length before →
       AlwaysFills (IsCheckText Json 0x7fffffff 64 0 kernel_file_with_rest)
-      (IsFailure (HasKinds 0x7fffffff 64 0) (IsCheckError widest kernel_file_with_rest)) before
+      (IsFailure (KindsCheck 0x7fffffff 64 0) (IsCheckError widest kernel_file_with_rest)) before
       (codes "{\"concerns\":[{\"concern\":\"trailing\",\"size\":7}]}\n" ++ drop 47 before) (record empty_answer { size = 47 }) 0
   unfolding digits
   concern_json before room =
       always_fills (IsCheckText Json 0x7fffffff 64 0 kernel_file_with_rest)
-      (IsFailure (HasKinds 0x7fffffff 64 0) (IsCheckError widest kernel_file_with_rest)) before
+      (IsFailure (KindsCheck 0x7fffffff 64 0) (IsCheckError widest kernel_file_with_rest)) before
       (codes "{\"concerns\":[{\"concern\":\"trailing\",\"size\":7}]}\n") 47 0
       (λ text value is. (
         text_is Json (allowed_by 0) is.is.clean text is.is.is,
@@ -318,11 +356,11 @@ module _ (one_legacy : OneLegacyMeaning) where
 
   allowed_concern : (before : List ℕ) →
       AlwaysFills (IsCheckText Lines 0x7fffffff 64 64 kernel_file_with_rest)
-      (IsFailure (HasKinds 0x7fffffff 64 64) (IsCheckError widest kernel_file_with_rest)) before before
+      (IsFailure (KindsCheck 0x7fffffff 64 64) (IsCheckError widest kernel_file_with_rest)) before before
       (record empty_answer { value = 1 }) 0
   allowed_concern before =
       always_fills (IsCheckText Lines 0x7fffffff 64 64 kernel_file_with_rest)
-      (IsFailure (HasKinds 0x7fffffff 64 64) (IsCheckError widest kernel_file_with_rest)) before [] 0 1
+      (IsFailure (KindsCheck 0x7fffffff 64 64) (IsCheckError widest kernel_file_with_rest)) before [] 0 1
       (λ text value is. (
         text_is Lines (allowed_by 64) is.is.clean text is.is.is,
         is.is.number ∙ ap flag (without_lines is.is.clean (is_clean Lines (allowed_by 64) is.is.clean text is.is.is)),
@@ -334,6 +372,7 @@ module _ (one_legacy : OneLegacyMeaning) where
     normalised = normalised;
     not_normalised = not_normalised;
     no_such_form = no_such_form;
+    two_wrong = two_wrong;
     updated = updated;
     no_such_change = no_such_change;
     concern = concern;
@@ -374,11 +413,11 @@ module _ (one_legacy : OneLegacyMeaning) where
 
   element : (before : List ConcernElement) → 1 ≤ length before →
       AlwaysFills (AreConcernElements 0x7fffffff 64 0 kernel_file_with_rest)
-      (IsFailure (HasKinds 0x7fffffff 64 0) (IsCheckError widest kernel_file_with_rest)) before
+      (IsFailure (KindsCheck 0x7fffffff 64 0) (IsCheckError widest kernel_file_with_rest)) before
       (record no_concern { size = 7; kind = 64 } ∷ drop 1 before) (record empty_answer { size = 1 }) 0
   element before room =
       always_fills (AreConcernElements 0x7fffffff 64 0 kernel_file_with_rest)
-      (IsFailure (HasKinds 0x7fffffff 64 0) (IsCheckError widest kernel_file_with_rest)) before
+      (IsFailure (KindsCheck 0x7fffffff 64 0) (IsCheckError widest kernel_file_with_rest)) before
       (record no_concern { size = 7; kind = 64 } ∷ []) 1 0
       (λ elements value is. (
         is.are_elements ∙ ap (λ found. map concern_element (kept_found (allowed_by 0) found)) (found_is is.found is.has_concerns.are_found),
@@ -388,7 +427,8 @@ module _ (one_legacy : OneLegacyMeaning) where
 
   -- ---- extracting
 
-  module _ (AreValid : Type 0) (valid : AreValid) (select : Select) (file : List ℕ) (meaning : Meaning) (means : Means widest file meaning)
+  module _ (Check : Option (Argument × ℕ) → Type 0) (valid : Check None) (select : Select) (file : List ℕ) (meaning : Meaning)
+      (means : Means widest file meaning)
       (choice : Choice) (chosen : choice_of select meaning ≡ choice) where
     -- What holds of the choice of what the file means holds of this one.
     of_choice : (P : Choice → Type 0) → MeansSuch widest file (λ other. P (choice_of select other)) → P choice
@@ -398,9 +438,10 @@ module _ (one_legacy : OneLegacyMeaning) where
 
     pub extracted : (bytes : List ℕ) (size offset : ℕ) → choice ≡ Chosen bytes → length bytes ≡ size →
         ((found : ℕ) → IsOffset widest select file found → found ≡ offset) →
-        AlwaysAnswers (IsExtracted AreValid widest select file) (IsExtractCallFailure AreValid widest select file) (answer_of size offset) 0
+        AlwaysAnswers (IsExtracted (Check None) widest select file) (IsExtractCallFailure Check widest select file) (answer_of size offset)
+        0
     extracted bytes size offset same long only =
-        always_answers (IsExtracted AreValid widest select file) (IsExtractCallFailure AreValid widest select file) size offset
+        always_answers (IsExtracted (Check None) widest select file) (IsExtractCallFailure Check widest select file) size offset
         (λ given found is. (
           size_is given found (subst (λ c. IsChosenAt file c given found) same
               (of_choice (λ c. IsChosenAt file c given found) is.is_found.is_chosen)),
@@ -413,8 +454,8 @@ module _ (one_legacy : OneLegacyMeaning) where
         no_reason : (reason index : ℕ) → ¬ (IsReasonNumber reason index (Chosen bytes))
         no_reason reason index is = is
 
-        failed : (failure : Failure) → IsExtractCallFailure AreValid widest select file failure → failure ≡ OutOfMemory
-        failed WrongArgument is = absurd (is valid)
+        failed : (failure : Failure) → IsExtractCallFailure Check widest select file failure → failure ≡ OutOfMemory
+        failed (WrongArgument found index) is = absurd (is.0 valid)
         failed (Refused number fault) is = absurd (is.1.1.1 meaning means)
         failed OutOfMemory is = refl
         failed (NotFound reason index) is =
@@ -422,15 +463,15 @@ module _ (one_legacy : OneLegacyMeaning) where
 
     pub not_extracted : (reason index : ℕ) → ((size offset : ℕ) → ¬ (IsChosenAt file choice size offset)) →
         ((other other_index : ℕ) → IsReasonNumber other other_index choice → (other ≡ reason) × (other_index ≡ index)) →
-        AlwaysAnswers (IsExtracted AreValid widest select file) (IsExtractCallFailure AreValid widest select file)
+        AlwaysAnswers (IsExtracted (Check None) widest select file) (IsExtractCallFailure Check widest select file)
         (answer_of_failure (NotFound reason index)) 5
     not_extracted reason index lacks only =
-        never_answers (IsExtracted AreValid widest select file) (IsExtractCallFailure AreValid widest select file) (NotFound reason index)
+        never_answers (IsExtracted (Check None) widest select file) (IsExtractCallFailure Check widest select file) (NotFound reason index)
         (λ size offset is. lacks size offset (of_choice (λ c. IsChosenAt file c size offset) is.is_found.is_chosen)) failed
       where
-        failed : (failure : Failure) → IsExtractCallFailure AreValid widest select file failure →
+        failed : (failure : Failure) → IsExtractCallFailure Check widest select file failure →
             (failure ≡ NotFound reason index) ⊎ (failure ≡ OutOfMemory)
-        failed WrongArgument is = absurd (is valid)
+        failed (WrongArgument found index) is = absurd (is.0 valid)
         failed (Refused number fault) is = absurd (is.1.1.1 meaning means)
         failed OutOfMemory is = inr refl
         failed (NotFound other other_index) is =
@@ -438,15 +479,17 @@ module _ (one_legacy : OneLegacyMeaning) where
             inl (λ i. NotFound (numbers.0 i) (numbers.1 i))
 
 -- With other arguments than valid ones nothing is looked at.
-pub extracts_nothing : (AreValid : Type 0) (limits : Limits) (select : Select) (file : List ℕ) → ¬ AreValid →
-    AlwaysAnswers (IsExtracted AreValid limits select file) (IsExtractCallFailure AreValid limits select file) empty_answer 4
-extracts_nothing AreValid limits select file wrong =
-    never_answers (IsExtracted AreValid limits select file) (IsExtractCallFailure AreValid limits select file) WrongArgument
+pub extracts_nothing : (Check : Option (Argument × ℕ) → Type 0) (limits : Limits) (select : Select) (file : List ℕ) (wrong_one : Argument) →
+    ¬ (Check None) → OnlyWrong Check wrong_one 0 →
+    AlwaysAnswers (IsExtracted (Check None) limits select file) (IsExtractCallFailure Check limits select file)
+    (answer_of_failure (WrongArgument wrong_one 0)) 4
+extracts_nothing Check limits select file wrong_one wrong only =
+    never_answers (IsExtracted (Check None) limits select file) (IsExtractCallFailure Check limits select file) (WrongArgument wrong_one 0)
     (λ size offset is. wrong is.valid) failed
   where
-    failed : (failure : Failure) → IsExtractCallFailure AreValid limits select file failure →
-        (failure ≡ WrongArgument) ⊎ (failure ≡ OutOfMemory)
-    failed WrongArgument is = inl refl
+    failed : (failure : Failure) → IsExtractCallFailure Check limits select file failure →
+        (failure ≡ WrongArgument wrong_one 0) ⊎ (failure ≡ OutOfMemory)
+    failed (WrongArgument found index) is = let same = only found index is.1 in inl (λ i. WrongArgument (same.0 i) (same.1 i))
     failed (Refused number fault) is = absurd (wrong is.0)
     failed OutOfMemory is = inr refl
     failed (NotFound reason index) is = absurd (wrong is.0)
@@ -454,15 +497,15 @@ extracts_nothing AreValid limits select file wrong =
 pub legacy_selections_are_known : OneLegacyMeaning → LegacySelectionsAreKnown
 legacy_selections_are_known one_legacy = record {
   concern = element one_legacy;
-  part = extracted one_legacy (IsInRange 0x7fffffff 64) widest_is_in_range (Part 1) multi_file (OfLegacy multi_image) multi_means
+  part = extracted one_legacy (LimitsCheck 0x7fffffff 64) widest_is_in_range (Part 1) multi_file (OfLegacy multi_image) multi_means
       (Chosen (codes "abc")) refl (codes "abc") 3 84 refl refl offsets_of_payloads_are_known.part;
-  no_part = not_extracted one_legacy (IsInRange 0x7fffffff 64) widest_is_in_range (Part 2) multi_file (OfLegacy multi_image) multi_means
+  no_part = not_extracted one_legacy (LimitsCheck 0x7fffffff 64) widest_is_in_range (Part 2) multi_file (OfLegacy multi_image) multi_means
       NoSuchPart refl 2 0 (λ size offset is. absurd (let wrong = is.is_chosen in cc)) (λ other other_index is. is);
-  other_kind = not_extracted one_legacy (IsInRange 0x7fffffff 64) widest_is_in_range (image_selection (codes "a")) multi_file
+  other_kind = not_extracted one_legacy (LimitsCheck 0x7fffffff 64) widest_is_in_range (image_selection (codes "a")) multi_file
       (OfLegacy multi_image) multi_means OfOtherKind refl 1 0 (λ size offset is. absurd (let wrong = is.is_chosen in cc))
       (λ other other_index is. is);
-  small_limit = extracts_nothing (IsInRange 63 64) (record { file = 63; depth = 64 }) (Part 1) multi_file
-      (λ valid. omega (arith, valid.0));
+  small_limit = extracts_nothing (LimitsCheck 63 64) (record { file = 63; depth = 64 }) (Part 1) multi_file Limit
+      (λ valid. omega (arith, valid.0)) small_limit_only;
 }
 
 -- ---- building
@@ -477,11 +520,8 @@ multi_is_built before room =
     (λ text value is. (is.is.is_text ∙ multi_text, is.no_value)) failed refl room
   where
     failed : (failure : Failure) → IsPieceBuildFailure 87 64 pieces_of_multi fields_of_multi parts_of_multi failure → failure ≡ OutOfMemory
-    failed WrongArgument is = absurd (is (record {
-      limits = (lit≤ tt, lit≤ tt, lit≤ tt, lit≤ tt);
-      name = lit≤ tt;
-      parts_inside = (lit≤ tt, (lit≤ tt, tt));
-    }))
+    failed (WrongArgument found index) is =
+        absurd (is.0 (((lit≤ tt, lit≤ tt, lit≤ tt, lit≤ tt), lit≤ tt), (lit≤ tt, (lit≤ tt, tt))))
     failed (Refused file fault) is = absurd (let wrong = (legacy_build_errors_are_known.at_limit (error.Refused fault)).0 is.2 in cc)
     failed OutOfMemory is = refl
     failed (NotFound reason index) is = absurd is
@@ -497,11 +537,8 @@ multi_is_too_large before =
   where
     failed : (failure : Failure) → IsPieceBuildFailure 86 64 pieces_of_multi fields_of_multi parts_of_multi failure →
         (failure ≡ Refused 1 (too_large 86)) ⊎ (failure ≡ OutOfMemory)
-    failed WrongArgument is = absurd (is (record {
-      limits = (lit≤ tt, lit≤ tt, lit≤ tt, lit≤ tt);
-      name = lit≤ tt;
-      parts_inside = (lit≤ tt, (lit≤ tt, tt));
-    }))
+    failed (WrongArgument found index) is =
+        absurd (is.0 (((lit≤ tt, lit≤ tt, lit≤ tt, lit≤ tt), lit≤ tt), (lit≤ tt, (lit≤ tt, tt))))
     failed (Refused file fault) is =
         let cause : fault ≡ too_large 86 =
         (let whole = (legacy_build_errors_are_known.past_limit (error.Refused fault)).0 is.2 in cc) in
@@ -509,20 +546,33 @@ multi_is_too_large before =
     failed OutOfMemory is = inr refl
     failed (NotFound reason index) is = absurd is
 
+-- The limits and the name are valid.
+abbrev HasName : Type 0
+HasName = IsInRange 87 64 × IsPieceInside pieces_of_multi fields_of_multi.name
+
 part_is_outside : (before : List ℕ) →
     AlwaysFills (IsBuiltOfPieces 87 64 pieces_of_multi fields_of_multi (region_at_offset 6 4 ∷ []))
-    (IsPieceBuildFailure 87 64 pieces_of_multi fields_of_multi (region_at_offset 6 4 ∷ [])) before before empty_answer 4
+    (IsPieceBuildFailure 87 64 pieces_of_multi fields_of_multi (region_at_offset 6 4 ∷ [])) before before
+    (record empty_answer { reason = 14 }) 4
 part_is_outside before =
     never_fills (IsBuiltOfPieces 87 64 pieces_of_multi fields_of_multi (region_at_offset 6 4 ∷ []))
-    (IsPieceBuildFailure 87 64 pieces_of_multi fields_of_multi (region_at_offset 6 4 ∷ [])) before WrongArgument
+    (IsPieceBuildFailure 87 64 pieces_of_multi fields_of_multi (region_at_offset 6 4 ∷ [])) before (WrongArgument Parts 0)
     (λ text value is. outside is.arguments) failed
   where
     outside : ¬ (HasPieces 87 64 pieces_of_multi fields_of_multi (region_at_offset 6 4 ∷ []))
     outside is = omega (arith, is.parts_inside.0)
 
+    only : OnlyWrong (PiecesCheck 87 64 pieces_of_multi fields_of_multi (region_at_offset 6 4 ∷ [])) Parts 0
+    only =
+        array_only (NextCheck (LimitsCheck 87 64) Fields HasName) Parts (IsPieceInside pieces_of_multi) (region_at_offset 6 4 ∷ []) 0
+        (next_none (LimitsCheck 87 64) Fields HasName (limits_none 87 64 (lit≤ tt, lit≤ tt, lit≤ tt, lit≤ tt))
+        ((lit≤ tt, lit≤ tt, lit≤ tt, lit≤ tt), lit≤ tt))
+        (first_only (IsPieceInside pieces_of_multi) (region_at_offset 6 4) [] (λ is. omega (arith, is)))
+
     failed : (failure : Failure) → IsPieceBuildFailure 87 64 pieces_of_multi fields_of_multi (region_at_offset 6 4 ∷ []) failure →
-        (failure ≡ WrongArgument) ⊎ (failure ≡ OutOfMemory)
-    failed WrongArgument is = inl refl
+        (failure ≡ WrongArgument Parts 0) ⊎ (failure ≡ OutOfMemory)
+    failed (WrongArgument found index) is =
+        let same = only found index is.1 in inl (λ i. WrongArgument (same.0 i) (same.1 i))
     failed (Refused file fault) is = absurd (outside is.0)
     failed OutOfMemory is = inr refl
     failed (NotFound reason index) is = absurd is

@@ -1,10 +1,12 @@
 pub mod AnswerFacts
 pub mod ArrayFilling
 pub mod CallAnswers
+pub mod CheckFacts
 pub mod CodeNames
 pub mod CheckedFiles
 pub mod ComparedFiles
 pub mod ConcernFiles
+pub mod DeepCallFacts
 pub mod EditCallFacts
 pub mod EditElements
 pub mod EditedCalls

@@ -190,5 +190,5 @@ not_listed limit depth number file name limits key content valid same_limits sam
 )
 not_listed limit depth number file name limits key content valid same_limits same_key read OutOfMemory is =
     (valid, subst (λ (l : Limits). IsFitReadError l file error.OutOfMemory) same_limits (read_needs_memory limits file content read))
-not_listed limit depth number file name limits key content valid same_limits same_key read WrongArgument is = absurd is
+not_listed limit depth number file name limits key content valid same_limits same_key read (WrongArgument found index) is = absurd is
 not_listed limit depth number file name limits key content valid same_limits same_key read (Refused number_of_file fault) is = absurd is

@@ -17,6 +17,7 @@ use Rattle.bi_c.specs.NodeElements.{HasNodeAtPath, IsNodeFailure, names_after_sl
 use Rattle.bi_c.specs.TreeRegions.{HasPropertyBytes}
 use Rattle.bi_c.proofs.FitFiles.{means_within, tree_failed}
 use Rattle.bi_c.proofs.TreeRegions.{HasBytesBelow, below_bytes, root_bytes}
+use Rattle.bi_c.specs.Checks.{LimitsCheck}
 
 -- If a file was read under the limits of a call, the node at a path is that of the file.
 
@@ -77,7 +78,7 @@ named_property file name (first ∷ later) property is have =
 -- If a call with valid limits cannot read the file, it fails as reading fails.
 pub node_read_failed : (limit depth : ℕ) (file : List ℕ) (IsReason : ℕ → ℕ → Type 0) (limits : Limits) (cause : Error)
     (failure : Failure) → IsInRange limit depth → limits ≡ bounds limit depth → failure ≡ failure_of_error cause →
-    IsFitReadError limits file cause → IsTreeFailure (IsInRange limit depth) (bounds limit depth) file IsReason failure
+    IsFitReadError limits file cause → IsTreeFailure (LimitsCheck limit depth) (bounds limit depth) file IsReason failure
 node_read_failed limit depth file IsReason limits cause failure in_range same_limits same is =
-    tree_failed (IsInRange limit depth) (bounds limit depth) file IsReason cause failure in_range same
+    tree_failed (LimitsCheck limit depth) (bounds limit depth) file IsReason cause failure in_range same
     (subst (λ (l : Limits). IsFitReadError l file cause) same_limits is)

@@ -3,7 +3,7 @@ use Rattle.bi_base.specs.Limits.{Limits}
 use Rattle.bi_norm.specs.NormalForm.{IsNormaliseOutput, IsNormaliseError}
 use Rattle.bi_c.specs.declared.failure.Failure.{Failure}
 use Rattle.bi_c.specs.Answers.{IsFailureBy}
-use Rattle.bi_c.specs.Arguments.{bounds, HasForm, IsErrorInForm}
+use Rattle.bi_c.specs.Arguments.{FormCheck, bounds, HasForm, IsErrorInForm}
 use Rattle.bi_c.specs.Calls.{IsNormalised, IsNormaliseFailure}
 use Rattle.bi_c.proofs.CallAnswers.{failed_by}
 
@@ -22,7 +22,7 @@ module _ (limit depth number : ℕ) (limits : Limits) (file : List ℕ) (valid :
   pub not_normalised : (failure : Failure) → IsFailureBy (IsNormaliseError limits valid.form file) failure →
       IsNormaliseFailure limit depth number file failure
   not_normalised failure is =
-      failed_by (HasForm limit depth number) (IsErrorInForm number (λ form. IsNormaliseError (bounds limit depth) form file)) is.cause
+      failed_by (FormCheck limit depth number) (IsErrorInForm number (λ form. IsNormaliseError (bounds limit depth) form file)) is.cause
       failure valid is.is_failure (λ no. no.is_error) (λ no. no.is_error) (record {
         form = valid.form;
         is_form = valid.is_form;

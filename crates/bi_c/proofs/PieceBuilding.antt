@@ -10,15 +10,24 @@ use Rattle.bi_c.specs.declared.legacy.LegacyFields.{LegacyFields}
 use Rattle.bi_c.specs.declared.region.Region.{Region}
 use Rattle.bi_c.specs.Answers.{failure_of_error}
 use Rattle.bi_c.specs.Arguments.{bounds}
-use Rattle.bi_c.specs.PieceBuilding.{HasPieces, IsBuiltOfPieces, IsPieceBuildFailure, IsPieceInside, IsPiecesFailure, legacy_in}
+use Rattle.bi_c.specs.PieceBuilding.{HasPieces, IsBuiltOfPieces, IsPieceBuildFailure, IsPieceInside, PiecesCheck, legacy_in}
+use Rattle.bi_c.specs.declared.argument.Argument.{Argument}
+use Rattle.bi_c.specs.declared.argument.Argument.TheVariants.{Fields, Parts}
+use Rattle.bi_c.specs.Checks.{IsElementFailure, IsWrong, LimitsCheck, NextCheck}
+use Rattle.bi_c.proofs.CheckFacts.{element_is_wrong}
 
 -- A call from C builds the image of its pieces, or fails as building that image fails.
 
 module _ (limit depth : ℕ) (input : List ℕ) (fields : LegacyFields) (parts : List Region) where
   -- If a region is outside the input, the call fails.
-  pub no_pieces : (failure : Failure) → IsInRange limit depth → IsPieceInside input fields.name → IsPiecesFailure input parts failure →
+  pub no_pieces : (failure : Failure) → IsInRange limit depth → IsPieceInside input fields.name →
+      IsElementFailure Parts (IsPieceInside input) parts failure →
       IsPieceBuildFailure limit depth input fields parts failure
-  no_pieces WrongArgument in_range inside none = λ has. none has.parts_inside
+  no_pieces (WrongArgument found index) in_range inside none =
+      subst (λ (wrong : Argument). IsWrong (PiecesCheck limit depth input fields parts) wrong index) (sym none.0)
+      (element_is_wrong
+      (NextCheck (LimitsCheck limit depth) Fields (IsInRange limit depth × IsPieceInside input fields.name)) Parts (IsPieceInside input)
+      parts index (in_range, inside) none.1)
   no_pieces OutOfMemory in_range inside none = (in_range, inside)
   no_pieces (Refused file fault) in_range inside none = absurd none
   no_pieces (NotFound reason index) in_range inside none = absurd none

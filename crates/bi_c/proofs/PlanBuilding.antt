@@ -1,5 +1,5 @@
 use Rattle.std.proofs.Common.{◌≡◌, ◌<◌, ◌≤◌, ◌+◌, ◌++◌, ◌∷◌, [], Bor, List, ℕ, drop, get_or, length, map, take}
-use Rattle.std.proofs.Common.{ap, refl, sym, subst, ◌∙◌}
+use Rattle.std.proofs.Common.{Option, None, ap, refl, sym, subst, ◌∙◌}
 use Rattle.std.proofs.lemmas.List.{drop-map, length-map, map-append, map_more, take-map, take_more}
 use Rattle.std.proofs.lemmas.List.Elements.{Contains-get_or}
 use Rattle.std.specs.List.{AllByRecursion, AllZip}
@@ -21,7 +21,7 @@ use Rattle.bi_c.specs.Answers.{failure_of_error}
 use Rattle.bi_c.specs.Arguments.{bounds, has_bit}
 use Rattle.bi_c.specs.PieceBuilding.{IsPieceInside, bytes_of_piece}
 use Rattle.bi_c.specs.PlanBuilding.{AreConfigurationsOf, AreOptions, ArePieces, ArePlanParts, AreSettingsOf, AreToBeBuilt}
-use Rattle.bi_c.specs.PlanBuilding.{IsConfigurationInside, IsConfigurationOf, IsElementFailure, IsPlanFailure, IsPlannedTree}
+use Rattle.bi_c.specs.PlanBuilding.{IsConfigurationInside, IsConfigurationOf, IsPlanFailure, IsPlannedTree}
 use Rattle.bi_c.specs.PlanBuilding.{IsRangeInside}
 use Rattle.bi_c.specs.PlanBuilding.{PlanPieces, configuration_of_element, piece_if_given, pieces_of_call, plan_of_pieces, range_of_key}
 use Rattle.bi_c.specs.PlanBuilding.{texts_of_range}
@@ -36,6 +36,11 @@ use Rattle.bi_c.specs.declared.plan_building.BuildTexts.{BuildTexts}
 use Rattle.bi_c.specs.declared.plan_building.PlanParts.{PlanParts}
 use Rattle.bi_c.specs.declared.plan_building.Range.{Range}
 use Rattle.bi_c.specs.declared.plan_building.Settings.{Settings}
+use Rattle.bi_c.specs.Checks.{ArrayCheck, IsElementFailure, IsWrong}
+use Rattle.bi_c.specs.PlanBuilding.{AlgorithmsCheck, AreTextsInside, ImagesCheck, ListsCheck, OptionsCheck, PlanCheck, TextsCheck}
+use Rattle.bi_c.specs.declared.argument.Argument.{Argument}
+use Rattle.bi_c.specs.declared.argument.Argument.TheVariants.{Algorithms, Configurations, Images, Lists, Texts}
+use Rattle.bi_c.proofs.CheckFacts.{before_array_is_wrong, element_is_wrong}
 use Rattle.bi_c.specs.declared.region.Region.{Region}
 
 -- A call from C builds the tree of its plan, or fails as building that tree fails.
@@ -186,19 +191,81 @@ one_more_configuration input lists elements index none before after next within 
 -- ---- the call
 
 -- The images are inside the input.
-specs_inside : (input : List ℕ) (images : List BuildElement) (specs : List ImageSpec) → AllZip (IsSpecOf input) images specs →
+pub specs_inside : (input : List ℕ) (images : List BuildElement) (specs : List ImageSpec) → AllZip (IsSpecOf input) images specs →
     AllByRecursion (IsSpecInside input) images
 specs_inside input [] specs are = tt
 specs_inside input (image ∷ later) [] are = absurd are
 specs_inside input (image ∷ later) (spec ∷ others) are = (are.0.inside, specs_inside input later others are.1)
 
--- If an element is not valid, the call fails.
-pub no_plan_elements : (pieces : PlanPieces) (AreValid : Type 0) → (ArePieces pieces → AreValid) → AreOptions pieces.input pieces.options →
-    (failure : Failure) → IsElementFailure AreValid failure → IsPlanFailure pieces failure
-no_plan_elements pieces AreValid valid options WrongArgument none = λ are. none (valid are)
-no_plan_elements pieces AreValid valid options OutOfMemory none = options
-no_plan_elements pieces AreValid valid options (Refused file fault) none = absurd none
-no_plan_elements pieces AreValid valid options (NotFound reason index) none = absurd none
+-- A wrong argument of the options or of an array is one of the call.
+module _ (pieces : PlanPieces) where
+  from_algorithms : (found : Argument) (index : ℕ) → IsWrong (AlgorithmsCheck pieces) found index → IsWrong (PlanCheck pieces) found index
+  from_algorithms =
+      before_array_is_wrong (AlgorithmsCheck pieces) Configurations (IsConfigurationInside pieces.input pieces.lists) pieces.configurations
+
+  from_lists : (found : Argument) (index : ℕ) → IsWrong (ListsCheck pieces) found index → IsWrong (PlanCheck pieces) found index
+  from_lists found index wrong =
+      from_algorithms found index
+      (before_array_is_wrong (ListsCheck pieces) Algorithms (λ number. number < 6) pieces.algorithms found index wrong)
+
+  from_texts : (found : Argument) (index : ℕ) → IsWrong (TextsCheck pieces) found index → IsWrong (PlanCheck pieces) found index
+  from_texts found index wrong =
+      from_lists found index
+      (before_array_is_wrong (TextsCheck pieces) Lists (IsPieceInside pieces.input) pieces.lists found index wrong)
+
+  from_images : (found : Argument) (index : ℕ) → IsWrong (ImagesCheck pieces) found index → IsWrong (PlanCheck pieces) found index
+  from_images found index wrong =
+      from_texts found index
+      (before_array_is_wrong (ImagesCheck pieces) Texts (AreTextsInside pieces.input) pieces.texts found index wrong)
+
+  pub from_options : (found : Argument) (index : ℕ) → IsWrong (OptionsCheck pieces.input pieces.options) found index →
+      IsWrong (PlanCheck pieces) found index
+  from_options found index wrong =
+      from_images found index
+      (before_array_is_wrong (OptionsCheck pieces.input pieces.options) Images (IsSpecInside pieces.input) pieces.images found index wrong)
+
+  -- If an element is not valid, the call fails.
+  no_elements : {T : Type 0} (First : Option (Argument × ℕ) → Type 0) (array : Argument) (IsValid : T → Type 0) (elements : List T) →
+      AreOptions pieces.input pieces.options → First None →
+      ((found : Argument) (index : ℕ) → IsWrong (ArrayCheck First array IsValid elements) found index →
+      IsWrong (PlanCheck pieces) found index) → (failure : Failure) → IsElementFailure array IsValid elements failure →
+      IsPlanFailure pieces failure
+  no_elements First array IsValid elements options first from (WrongArgument found index) none =
+      subst (λ (wrong : Argument). IsWrong (PlanCheck pieces) wrong index) (sym none.0)
+      (from array index (element_is_wrong First array IsValid elements index first none.1))
+  no_elements First array IsValid elements options first from OutOfMemory none = options
+  no_elements First array IsValid elements options first from (Refused file fault) none = absurd none
+  no_elements First array IsValid elements options first from (NotFound reason index) none = absurd none
+
+  module _ (options : AreOptions pieces.input pieces.options) where
+    pub no_images : (failure : Failure) → IsElementFailure Images (IsSpecInside pieces.input) pieces.images failure →
+        IsPlanFailure pieces failure
+    no_images = no_elements (OptionsCheck pieces.input pieces.options) Images (IsSpecInside pieces.input) pieces.images options options
+        from_images
+
+    module _ (images : AllByRecursion (IsSpecInside pieces.input) pieces.images) where
+      pub no_texts : (failure : Failure) → IsElementFailure Texts (AreTextsInside pieces.input) pieces.texts failure →
+          IsPlanFailure pieces failure
+      no_texts = no_elements (ImagesCheck pieces) Texts (AreTextsInside pieces.input) pieces.texts options (options, images) from_texts
+
+      module _ (texts : AllByRecursion (AreTextsInside pieces.input) pieces.texts) where
+        pub no_lists : (failure : Failure) → IsElementFailure Lists (IsPieceInside pieces.input) pieces.lists failure →
+            IsPlanFailure pieces failure
+        no_lists = no_elements (TextsCheck pieces) Lists (IsPieceInside pieces.input) pieces.lists options ((options, images), texts)
+            from_lists
+
+        module _ (lists : AllByRecursion (IsPieceInside pieces.input) pieces.lists) where
+          pub no_algorithms : (failure : Failure) → IsElementFailure Algorithms (λ number. number < 6) pieces.algorithms failure →
+              IsPlanFailure pieces failure
+          no_algorithms = no_elements (ListsCheck pieces) Algorithms (λ number. number < 6) pieces.algorithms options
+              (((options, images), texts), lists) from_algorithms
+
+          pub no_configurations : AllByRecursion (λ number. number < 6) pieces.algorithms → (failure : Failure) →
+              IsElementFailure Configurations (IsConfigurationInside pieces.input pieces.lists) pieces.configurations failure →
+              IsPlanFailure pieces failure
+          no_configurations algorithms = no_elements (AlgorithmsCheck pieces) Configurations
+              (IsConfigurationInside pieces.input pieces.lists) pieces.configurations options
+              ((((options, images), texts), lists), algorithms) (λ found index wrong. wrong)
 
 -- The plan is made of these.
 pub record IsMadeOf (settings : Settings) (parts : PlanParts) (specs : List ConfigurationSpec) (plan : PlanSpec) : Type 0 where

@@ -4,7 +4,7 @@ use Rattle.bi_base.specs.Limits.{Limits}
 use Rattle.bi_report.specs.CheckedFiles.{IsCheckError}
 use Rattle.bi_show.specs.ShownFiles.{IsPage}
 use Rattle.bi_c.specs.Answers.{failure_of_error}
-use Rattle.bi_c.specs.Arguments.{bounds, HasLayout, is_yes}
+use Rattle.bi_c.specs.Arguments.{LayoutCheck, bounds, HasLayout, is_yes}
 use Rattle.bi_c.specs.Calls.{IsPageFailure, IsPageText}
 use Rattle.bi_c.proofs.CallAnswers.{failed_by}
 
@@ -22,5 +22,5 @@ shown_as limit depth number limits layout file text valid same_limits same_layou
 pub not_shown : (limit depth number : ℕ) (limits : Limits) (file : List ℕ) → HasLayout limit depth number → limits ≡ bounds limit depth
     → (error : Error) → IsCheckError limits file error → IsPageFailure limit depth number file (failure_of_error error)
 not_shown limit depth number limits file valid same_limits error is =
-    failed_by (HasLayout limit depth number) (IsCheckError (bounds limit depth) file) error (failure_of_error error) valid refl (λ no. no)
+    failed_by (LayoutCheck limit depth number) (IsCheckError (bounds limit depth) file) error (failure_of_error error) valid refl (λ no. no)
     (λ no. no) (subst (λ (l : Limits). IsCheckError l file error) same_limits is)

@@ -11,7 +11,13 @@ use Rattle.bi_c.specs.declared.failure.Failure.TheVariants.{WrongArgument, Refus
 use Rattle.bi_c.specs.declared.fit_building.BuildElement.{BuildElement}
 use Rattle.bi_c.specs.Answers.{failure_of_error}
 use Rattle.bi_c.specs.Arguments.{bounds, HasForm}
-use Rattle.bi_c.specs.TreeBuilding.{AreSpecsFailure, IsSpecOf, IsToBeBuilt, IsTreeBuildFailure, IsTreeOfPieces}
+use Rattle.bi_c.specs.TreeBuilding.{IsSpecOf, IsToBeBuilt, IsTreeBuildFailure, IsTreeOfPieces}
+use Rattle.bi_c.specs.declared.argument.Argument.{Argument}
+use Rattle.bi_c.specs.declared.argument.Argument.TheVariants.{Images}
+use Rattle.bi_c.specs.Checks.{IsElementFailure, IsWrong}
+use Rattle.bi_c.specs.TreeBuilding.{IsSpecInside, SpecsCheck}
+use Rattle.bi_c.specs.Arguments.{FormCheck}
+use Rattle.bi_c.proofs.CheckFacts.{element_is_wrong}
 
 -- A call from C builds the tree of its images, or fails as building that tree fails.
 
@@ -26,9 +32,11 @@ one_spec_added input (first ∷ images) (other ∷ specs) image spec are is = (a
 
 module _ (limit depth number time : ℕ) (input description : List ℕ) (images : List BuildElement) (valid : HasForm limit depth number) where
   -- If an element has no image, the call fails.
-  pub no_specs : (failure : Failure) → AreSpecsFailure input images failure →
+  pub no_specs : (failure : Failure) → IsElementFailure Images (IsSpecInside input) images failure →
       IsTreeBuildFailure limit depth number time input description images failure
-  no_specs WrongArgument none = λ has. none has.specs_inside
+  no_specs (WrongArgument found index) none =
+      subst (λ (wrong : Argument). IsWrong (SpecsCheck limit depth number input images) wrong index) (sym none.0)
+      (element_is_wrong (FormCheck limit depth number) Images (IsSpecInside input) images index valid none.1)
   no_specs OutOfMemory none = valid
   no_specs (Refused file fault) none = absurd none
   no_specs (NotFound reason index) none = absurd none

@@ -4,7 +4,7 @@ use Rattle.std.specs.List.{AllZip}
 use Rattle.bi_base.specs.Cells.{cell, cell8, u32_at}
 use Rattle.bi_base.specs.declared.fault.Cause.TheVariants.{BadField}
 use Rattle.bi_base.specs.declared.fault.Fault.{Fault}
-use Rattle.bi_base.specs.Limits.{IsInRange, widest}
+use Rattle.bi_base.specs.Limits.{widest}
 use Rattle.bi_base.specs.Strings.{text_before_nul}
 use Rattle.bi_blob.specs.Layout.{text_of_events, text_of_blocks}
 use Rattle.bi_blob.specs.Lookups.{Sibling, property_named, root_node, siblings}
@@ -57,6 +57,12 @@ use Rattle.bi_c.specs.declared.failure.Failure.TheVariants.{Refused, NotFound, O
 use Rattle.bi_c.specs.declared.fit_building.BuildElement.{BuildElement}
 use Rattle.bi_c.proofs.AnswerFacts.{never_answers, never_fills, widest_is_in_range}
 use Rattle.bi_c.proofs.FormNumbers.{embedded_by_number}
+use Rattle.bi_c.specs.Arguments.{FormCheck, HasForm, KeyCheck}
+use Rattle.bi_c.specs.Checks.{LimitsCheck}
+use Rattle.bi_c.specs.declared.argument.Argument.{Argument}
+use Rattle.bi_c.specs.declared.argument.Argument.TheVariants.{Images}
+use Rattle.bi_c.specs.declared.argument.Argument.TheVariants as argument
+use Rattle.bi_c.proofs.CheckFacts.{array_only, first_only, limits_none, next_none, next_only}
 use Rattle.bi_c.proofs.LegacyCallFacts.{extracted, extracts_nothing, not_extracted}
 
 -- Calls on a small flattened image tree have known answers.
@@ -100,23 +106,25 @@ payload_is_at content read name offset is =
 pub tree_selections_are_known : OneLegacyMeaning → TreeSelectionsAreKnown
 unfolding text_before_nul
 tree_selections_are_known one_legacy = record {
-  image = extracted one_legacy (IsInRange 0x7fffffff 64) widest_is_in_range (image_selection (codes "a")) shown_file (OfFit shown_meaning)
+  image = extracted one_legacy (LimitsCheck 0x7fffffff 64) widest_is_in_range (image_selection (codes "a")) shown_file (OfFit shown_meaning)
       shown_means (Chosen (codes "abc")) refl (codes "abc") 3 596 refl refl
       (λ offset is. payload_is_at is.0 is.1 (codes "a") offset is.2);
-  entry = extracted one_legacy (HasKey 0x7fffffff 64 0) valid_key (entry_selection (codes "c") Kernel 0) shown_file (OfFit shown_meaning)
+  entry = extracted one_legacy (KeyCheck 0x7fffffff 64 0) valid_key (entry_selection (codes "c") Kernel 0) shown_file (OfFit shown_meaning)
       shown_means (Chosen (codes "abc")) (rw (find-properties shown_configuration (key_name Kernel)) refl) (codes "abc") 3 596 refl refl
       (λ offset is. payload_is_at is.0 is.1 is.2.entry.name offset is.2.is_offset);
-  default = extracted one_legacy (HasKey 0x7fffffff 64 0) valid_key (Default Kernel 0) shown_file (OfFit shown_meaning) shown_means
+  default = extracted one_legacy (KeyCheck 0x7fffffff 64 0) valid_key (Default Kernel 0) shown_file (OfFit shown_meaning) shown_means
       (Chosen (codes "abc"))
       (rw (find-properties shown_default default_name, find-properties shown_configuration (key_name Kernel)) refl) (codes "abc") 3 596
       refl refl (λ offset is. payload_is_at is.0 is.1 is.2.is_offset.entry.name offset is.2.is_offset.is_offset);
-  no_image = not_extracted one_legacy (IsInRange 0x7fffffff 64) widest_is_in_range (image_selection (codes "b")) shown_file
+  no_image = not_extracted one_legacy (LimitsCheck 0x7fffffff 64) widest_is_in_range (image_selection (codes "b")) shown_file
       (OfFit shown_meaning) shown_means NoSuchImage refl 3 0 (λ size offset is. absurd (let wrong = is.is_chosen in cc))
       (λ other other_index is. is);
-  no_entry = not_extracted one_legacy (HasKey 0x7fffffff 64 0) valid_key (Default Kernel 1) shown_file (OfFit shown_meaning) shown_means
+  no_entry = not_extracted one_legacy (KeyCheck 0x7fffffff 64 0) valid_key (Default Kernel 1) shown_file (OfFit shown_meaning) shown_means
       NoSuchEntry (rw (find-properties shown_default default_name, find-properties shown_configuration (key_name Kernel)) refl) 8 0
       (λ size offset is. absurd (let wrong = is.is_chosen in cc)) (λ other other_index is. is);
-  no_such_key = extracts_nothing (HasKey 0x7fffffff 64 6) widest (Default Script 0) shown_file (λ valid. omega (arith, valid.is_key));
+  no_such_key = extracts_nothing (KeyCheck 0x7fffffff 64 6) widest (Default Script 0) shown_file argument.Key
+      (λ valid. omega (arith, valid.is_key))
+      (next_only (LimitsCheck 0x7fffffff 64) argument.Key (HasKey 0x7fffffff 64 6) (limits_none 0x7fffffff 64 widest_is_in_range));
 }
   where
     valid_key : HasKey 0x7fffffff 64 0
@@ -125,13 +133,13 @@ tree_selections_are_known one_legacy = record {
 -- ---- reasons
 
 -- A call that looks something up in the file fails so, unless memory runs out.
-tree_fails : (AreValid : Type 0) (IsReason : (reason index : ℕ) → Type 0) (reason index : ℕ) → AreValid →
+tree_fails : (Check : Option (Argument × ℕ) → Type 0) (IsReason : (reason index : ℕ) → Type 0) (reason index : ℕ) → Check None →
     ((other other_index : ℕ) → IsReason other other_index → (other ≡ reason) × (other_index ≡ index)) → (failure : Failure) →
-    IsTreeFailure AreValid widest shown_file IsReason failure → (failure ≡ NotFound reason index) ⊎ (failure ≡ OutOfMemory)
-tree_fails AreValid IsReason reason index valid only WrongArgument is = absurd (is valid)
-tree_fails AreValid IsReason reason index valid only (Refused file fault) is = absurd (is.2.means_nothing shown_meaning shown_means)
-tree_fails AreValid IsReason reason index valid only OutOfMemory is = inr refl
-tree_fails AreValid IsReason reason index valid only (NotFound other other_index) is =
+    IsTreeFailure Check widest shown_file IsReason failure → (failure ≡ NotFound reason index) ⊎ (failure ≡ OutOfMemory)
+tree_fails Check IsReason reason index valid only (WrongArgument found at) is = absurd (is.0 valid)
+tree_fails Check IsReason reason index valid only (Refused file fault) is = absurd (is.2.means_nothing shown_meaning shown_means)
+tree_fails Check IsReason reason index valid only OutOfMemory is = inr refl
+tree_fails Check IsReason reason index valid only (NotFound other other_index) is =
     let numbers = only other other_index is.1 in inl (λ i. NotFound (numbers.0 i) (numbers.1 i))
 
 -- What is listed under a key is nothing.
@@ -146,7 +154,7 @@ lists_nothing key name result reason valid is_result lacks only before =
     (λ indices value is.
     lacks is.listed
     (sym is_result ∙ sym (ap (λ tree. listed_of tree name (key_of key)) (shown_tree_is is.tree is.means)) ∙ is.is_listed))
-    (tree_fails (HasKey 0x7fffffff 64 key) _ reason 0 valid
+    (tree_fails (KeyCheck 0x7fffffff 64 key) _ reason 0 valid
     (λ other other_index is.
     only other other_index
     (subst (IsListReason other other_index)
@@ -201,19 +209,19 @@ tree_reasons_are_known = record {
       never_fills (AreChildRegions 0x7fffffff 64 shown_file (codes "/images/b"))
       (IsNodeFailure 0x7fffffff 64 shown_file (codes "/images/b")) before (NotFound 10 0)
       (λ regions value is. lacks_node is.found is.is_found)
-      (tree_fails (IsInRange 0x7fffffff 64) (IsNodeReason widest shown_file (codes "/images/b")) 10 0 widest_is_in_range
+      (tree_fails (LimitsCheck 0x7fffffff 64) (IsNodeReason widest shown_file (codes "/images/b")) 10 0 widest_is_in_range
       (λ other other_index is. (is.0, is.1)));
   no_property =
       never_answers (IsValueAt 0x7fffffff 64 shown_file (codes "/images/a") (codes "x"))
       (IsPropertyFailure 0x7fffffff 64 shown_file (codes "/images/a") (codes "x")) (NotFound 11 0)
       (λ size offset is. has_no_x is.found is.property is.is_found is.is_named)
-      (tree_fails (IsInRange 0x7fffffff 64) (IsPropertyReason widest shown_file (codes "/images/a") (codes "x")) 11 0 widest_is_in_range
+      (tree_fails (LimitsCheck 0x7fffffff 64) (IsPropertyReason widest shown_file (codes "/images/a") (codes "x")) 11 0 widest_is_in_range
       property_reason);
   no_node_of_property =
       never_answers (IsValueAt 0x7fffffff 64 shown_file (codes "/images/b") (codes "data"))
       (IsPropertyFailure 0x7fffffff 64 shown_file (codes "/images/b") (codes "data")) (NotFound 10 0)
       (λ size offset is. lacks_node is.found is.is_found)
-      (tree_fails (IsInRange 0x7fffffff 64) (IsPropertyReason widest shown_file (codes "/images/b") (codes "data")) 10 0
+      (tree_fails (LimitsCheck 0x7fffffff 64) (IsPropertyReason widest shown_file (codes "/images/b") (codes "data")) 10 0
       widest_is_in_range node_reason);
 }
 
@@ -276,18 +284,24 @@ module _ (element : BuildElement) (wrong : ¬ (IsSpecInside pieces_of_tree eleme
   no_specs (spec ∷ later) are = wrong are.0.inside
 
   not_built : (failure : Failure) → IsTreeBuildFailure 0x7fffffff 64 0 1 pieces_of_tree (codes "k") (element ∷ []) failure →
-      (failure ≡ WrongArgument) ⊎ (failure ≡ OutOfMemory)
-  not_built WrongArgument is = inl refl
+      (failure ≡ WrongArgument Images 0) ⊎ (failure ≡ OutOfMemory)
+  not_built (WrongArgument found index) is =
+      let same = array_only (FormCheck 0x7fffffff 64 0) Images (IsSpecInside pieces_of_tree) (element ∷ []) 0
+      (next_none (LimitsCheck 0x7fffffff 64) argument.Form (HasForm 0x7fffffff 64 0) (limits_none 0x7fffffff 64 widest_is_in_range)
+      (record { limits = widest_is_in_range; form = Embedded; is_form = refl }))
+      (first_only (IsSpecInside pieces_of_tree) element [] wrong) found index is.1 in
+      inl (λ i. WrongArgument (same.0 i) (same.1 i))
   not_built (Refused file fault) is = absurd (no_specs is.1.specs is.1.is_to_be_built.are_specs)
   not_built OutOfMemory is = inr refl
   not_built (NotFound reason index) is = absurd is
 
   wrong_pieces : (before : List ℕ) →
       AlwaysFills (IsTreeOfPieces 0x7fffffff 64 0 1 pieces_of_tree (codes "k") (element ∷ []))
-      (IsTreeBuildFailure 0x7fffffff 64 0 1 pieces_of_tree (codes "k") (element ∷ [])) before before empty_answer 4
+      (IsTreeBuildFailure 0x7fffffff 64 0 1 pieces_of_tree (codes "k") (element ∷ [])) before before
+      (record empty_answer { reason = 17 }) 4
   wrong_pieces before =
       never_fills (IsTreeOfPieces 0x7fffffff 64 0 1 pieces_of_tree (codes "k") (element ∷ []))
-      (IsTreeBuildFailure 0x7fffffff 64 0 1 pieces_of_tree (codes "k") (element ∷ [])) before WrongArgument
+      (IsTreeBuildFailure 0x7fffffff 64 0 1 pieces_of_tree (codes "k") (element ∷ [])) before (WrongArgument Images 0)
       (λ text value is. no_specs is.specs is.is_to_be_built.are_specs) not_built
 
 -- A description with a zero byte has this fault.
@@ -307,8 +321,8 @@ description_fault form head [] fault described are (inr (few, inr (some, inr is)
 
 description_fails : (failure : Failure) → IsTreeBuildFailure 0x7fffffff 64 0 1 [] description_with_zero [] failure →
     (failure ≡ Refused 1 zero_fault) ⊎ (failure ≡ OutOfMemory)
-description_fails WrongArgument is =
-    absurd (is (record { arguments = record { limits = widest_is_in_range; form = Embedded; is_form = refl }; specs_inside = tt }))
+description_fails (WrongArgument found index) is =
+    absurd (is.0 (record { limits = widest_is_in_range; form = Embedded; is_form = refl }, tt))
 description_fails (Refused file fault) is =
     let given = is.1.is_to_be_built in
     let cause = description_fault is.1.arguments.form is.1.head is.1.specs fault given.is_description given.are_specs is.1.is in

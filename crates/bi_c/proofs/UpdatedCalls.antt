@@ -5,7 +5,7 @@ use Rattle.bi_fit.specs.declared.changes.Changes.{Changes}
 use Rattle.bi_commands.specs.UpdatedFiles.{IsUpdateError}
 use Rattle.bi_c.specs.declared.failure.Failure.{Failure}
 use Rattle.bi_c.specs.Answers.{failure_of_error}
-use Rattle.bi_c.specs.Arguments.{bounds, changes_of, HasChanges, IsErrorInForm}
+use Rattle.bi_c.specs.Arguments.{ChangesCheck, bounds, changes_of, HasChanges, IsErrorInForm}
 use Rattle.bi_c.specs.Calls.{IsUpdateFailure}
 use Rattle.bi_c.proofs.CallAnswers.{failed_by}
 
@@ -15,7 +15,7 @@ pub not_updated : (limit depth number bits time : ℕ) (limits : Limits) (change
     (failure : Failure) → failure ≡ failure_of_error cause → IsUpdateError changes limits valid.has_form.form file cause →
     IsUpdateFailure limit depth number bits time file failure
 not_updated limit depth number bits time limits changes file valid same same_changes cause failure is_failure is =
-    failed_by (HasChanges limit depth number bits)
+    failed_by (ChangesCheck limit depth number bits)
     (IsErrorInForm number (λ form. IsUpdateError (changes_of bits time) (bounds limit depth) form file)) cause failure valid is_failure
     (λ no. no.is_error) (λ no. no.is_error) (record {
       form = valid.has_form.form;

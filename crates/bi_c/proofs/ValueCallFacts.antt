@@ -1,4 +1,4 @@
-use Rattle.std.proofs.Common.{◌≡◌, ℕ, List, [], ◌∷◌, codes, refl, subst, lit<, arith}
+use Rattle.std.proofs.Common.{ℕ, List, [], ◌∷◌, codes, refl, subst, lit<, arith}
 use Rattle.bi_base.specs.Limits.{widest}
 use Rattle.bi_legacy.specs.Laws.{OneLegacyMeaning}
 use Rattle.bi_values.specs.Getting.{IsTextOfValues}
@@ -14,6 +14,10 @@ use Rattle.bi_values.proofs.ValueWords.{value_words_are}
 use Rattle.bi_c.specs.KnownValueCalls.{ValueCallsAreKnown}
 use Rattle.bi_c.specs.ValueCalls.{HasValueForm, IsGotten, IsOneName}
 use Rattle.bi_c.proofs.AnswerFacts.{widest_is_in_range}
+use Rattle.bi_c.specs.declared.argument.Argument.TheVariants.{Form, Place}
+use Rattle.bi_c.specs.Checks.{LimitsCheck, NextCheck}
+use Rattle.bi_c.specs.ValueCalls.{HasPlace}
+use Rattle.bi_c.proofs.CheckFacts.{first_is_wrong, next_is_wrong}
 use Rattle.bi_c.proofs.ValueCallAnswers.{not_one_named, nothing_named}
 
 -- What the call that gets a value returns for a small file.
@@ -48,7 +52,14 @@ value_calls_are_known one_legacy = record {
     is_error = (get_errors_are_known one_legacy).field_of_tree.is;
     is_failure = refl;
   };
-  other_form = λ valid. absurd (no_form valid);
+  other_form =
+      first_is_wrong (NextCheck (LimitsCheck 0x7fffffff 64) Form (HasValueForm 0x7fffffff 64 4)) Place
+      (HasPlace 0x7fffffff 64 4 (codes "/") (codes "model")) Form 0 (λ valid. valid.arguments)
+      (next_is_wrong (LimitsCheck 0x7fffffff 64) Form (HasValueForm 0x7fffffff 64 4) widest_is_in_range no_form);
+  bad_words =
+      next_is_wrong (NextCheck (LimitsCheck 0x7fffffff 64) Form (HasValueForm 0x7fffffff 64 0)) Place
+      (HasPlace 0x7fffffff 64 0 (codes "size") []) (record { limits = widest_is_in_range; is_form = lit< tt })
+      (λ valid. nothing_named (codes "size") [] name_words_are_known.other_field valid.names valid.is_one);
   no_form = no_form;
   no_field = nothing_named (codes "size") [] name_words_are_known.other_field;
   two_fields = not_one_named (codes "load") (codes "name") _ name_words_are_known.fields (λ e. absurd cc);

@@ -1,8 +1,11 @@
 use Rattle.std.specs.Prelude.{ℕ, ◌<◌, ◌≤◌, ◌≡◌, ◌++◌, List, length, drop, Result, Ok, Err}
+use Rattle.std.specs.Prelude.{Option, None}
 use Rattle.bi_base.specs.declared.fault.Error.{Error}
 use Rattle.bi_base.specs.declared.fault.Error.TheVariants as error
 use Rattle.bi_base.specs.Causes.{number_of}
+use Rattle.bi_c.specs.Checks.{IsWrong, argument_number}
 use Rattle.bi_c.specs.declared.answer.Answer.{Answer}
+use Rattle.bi_c.specs.declared.argument.Argument.{Argument}
 use Rattle.bi_c.specs.declared.failure.Failure.{Failure}
 use Rattle.bi_c.specs.declared.failure.Failure.TheVariants.{WrongArgument, Refused, OutOfMemory}
 use Rattle.bi_c.specs.declared.failure.Failure.TheVariants.{NotFound}
@@ -47,11 +50,18 @@ answer_of_failure (Refused file fault) = record {
 answer_of_failure (NotFound reason index) =
     record { size = 0; value = index; cause = 0; offset = 0; file = 0; reason = reason }
 answer_of_failure OutOfMemory = answer_of 0 0
-answer_of_failure WrongArgument = answer_of 0 0
+answer_of_failure (WrongArgument argument index) = record {
+  size = 0;
+  value = index;
+  cause = 0;
+  offset = 0;
+  file = 0;
+  reason = argument_number argument;
+}
 
 -- The status of a failure.
 abbrev pub status_of_failure : Failure → ℕ
-status_of_failure WrongArgument = wrong_argument
+status_of_failure (WrongArgument argument index) = wrong_argument
 status_of_failure (Refused file fault) = refused
 status_of_failure OutOfMemory = out_of_memory
 status_of_failure (NotFound reason index) = not_found
@@ -93,13 +103,15 @@ pub data Sets {T : Type 0} (IsOutput : T → Type 0) (HasFailed : Failure → Ty
         → answer ≡ answer_of_failure failure → status ≡ status_of_failure failure
         → Sets IsOutput HasFailed before after answer status
 
--- The failure of a call on one file. Its arguments must be valid, and its error is one of these.
-abbrev pub IsFailure : (AreValid : Type 0) → (HasError : Error → Type 0) → Failure → Type 0
-IsFailure AreValid HasError WrongArgument = ¬ AreValid
-IsFailure AreValid HasError (Refused file fault) =
-    AreValid × (file ≡ 1) × HasError (error.Refused fault)
-IsFailure AreValid HasError OutOfMemory = AreValid × HasError error.OutOfMemory
-IsFailure AreValid HasError (NotFound reason index) = ⊥
+-- The failure of a call on one file, by the check of its arguments. If they are valid, its error is
+-- one of these.
+abbrev pub IsFailure : (Check : Option (Argument × ℕ) → Type 0) → (HasError : Error → Type 0)
+    → Failure → Type 0
+IsFailure Check HasError (WrongArgument argument index) = IsWrong Check argument index
+IsFailure Check HasError (Refused file fault) =
+    Check None × (file ≡ 1) × HasError (error.Refused fault)
+IsFailure Check HasError OutOfMemory = Check None × HasError error.OutOfMemory
+IsFailure Check HasError (NotFound reason index) = ⊥
 
 -- The failure for an error of a call on one file in memory. The call has neither a reader nor a
 -- writer.

@@ -1,4 +1,5 @@
 use Rattle.std.specs.Prelude.{ℕ, ◌/◌, ◌%◌, ◌≡◌, ◌==◌, ◌<◌, Bool, Some, None, if◌then◌else◌}
+use Rattle.std.specs.Prelude.{Option}
 use Rattle.bi_base.specs.Aligns.{align_bytes}
 use Rattle.bi_base.specs.declared.fault.Error.{Error}
 use Rattle.bi_base.specs.Limits.{Limits, IsInRange}
@@ -13,6 +14,9 @@ use Rattle.bi_fit.specs.declared.form.Form.TheVariants.{Embedded, External, Alig
 use Rattle.bi_fit.specs.declared.key.Key.{Key}
 use Rattle.bi_fit.specs.declared.key.Key.TheVariants.{Kernel, Fdt, Ramdisk, Firmware, Loadables}
 use Rattle.bi_fit.specs.declared.key.Key.TheVariants.{Script}
+use Rattle.bi_c.specs.Checks.{LimitsCheck, NextCheck}
+use Rattle.bi_c.specs.declared.argument.Argument.{Argument}
+use Rattle.bi_c.specs.declared.argument.Argument.TheVariants as argument
 
 -- The options and limits that C passes as numbers (profile of this project).
 
@@ -33,6 +37,11 @@ pub record HasForm (limit depth number : ℕ) : Type 0 where
   pub form : Form
   pub is_form : number_of_form form ≡ number
 
+-- The limits and then the form are checked.
+abbrev pub FormCheck : (limit depth number : ℕ) → Option (Argument × ℕ) → Type 0
+FormCheck limit depth number =
+    NextCheck (LimitsCheck limit depth) argument.Form (HasForm limit depth number)
+
 -- The error is one of these, for the form with this number.
 pub record IsErrorInForm (number : ℕ) (HasError : Form → Error → Type 0) (error : Error) : Type 0
   where
@@ -48,6 +57,11 @@ is_yes number = number == 1
 pub record HasLayout (limit depth layout : ℕ) : Type 0 where
   pub limits : IsInRange limit depth
   pub is_layout : layout < 2
+
+-- The limits and then the layout are checked.
+abbrev pub LayoutCheck : (limit depth layout : ℕ) → Option (Argument × ℕ) → Type 0
+LayoutCheck limit depth layout =
+    NextCheck (LimitsCheck limit depth) argument.Layout (HasLayout limit depth layout)
 
 -- Whether a number has the bit of a mask, which is a power of two.
 abbrev pub has_bit : (mask : ℕ) → ℕ → Bool
@@ -97,6 +111,12 @@ pub record HasChanges (limit depth number changes : ℕ) : Type 0 where
   pub has_form : HasForm limit depth number
   pub are_changes : changes < 4
 
+-- The limits, the form and then the changes are checked.
+abbrev pub ChangesCheck : (limit depth number changes : ℕ) → Option (Argument × ℕ) → Type 0
+ChangesCheck limit depth number changes =
+    NextCheck (FormCheck limit depth number) argument.Changes
+    (HasChanges limit depth number changes)
+
 -- The key of a configuration: a number for each, counted from 0.
 abbrev pub key_of : ℕ → Key
 key_of number =
@@ -111,3 +131,8 @@ key_of number =
 pub record HasKey (limit depth key : ℕ) : Type 0 where
   pub limits : IsInRange limit depth
   pub is_key : key < 6
+
+-- The limits and then the key are checked.
+abbrev pub KeyCheck : (limit depth key : ℕ) → Option (Argument × ℕ) → Type 0
+KeyCheck limit depth key =
+    NextCheck (LimitsCheck limit depth) argument.Key (HasKey limit depth key)

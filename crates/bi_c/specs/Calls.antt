@@ -1,5 +1,5 @@
 use Rattle.std.specs.Prelude.{ℕ, ◌<◌, ◌≡◌, ◌⊎◌, Bool, List, codes}
-use Rattle.std.specs.Prelude.{if◌then◌else◌}
+use Rattle.std.specs.Prelude.{if◌then◌else◌, Option, None}
 use Rattle.bi_base.specs.declared.fault.Cause.{Cause}
 use Rattle.bi_base.specs.Causes.{number_of, name_of}
 use Rattle.bi_base.specs.declared.fault.Error.{Error}
@@ -21,7 +21,11 @@ use Rattle.bi_commands.specs.CauseSentences.{sentence_of}
 use Rattle.bi_commands.specs.UpdatedFiles.{IsUpdateOutput, IsUpdateError}
 use Rattle.bi_c.specs.Answers.{IsFailure}
 use Rattle.bi_c.specs.Arguments.{bounds, changes_of, checker_of, HasForm, HasChanges}
-use Rattle.bi_c.specs.Arguments.{HasLayout, IsErrorInForm, is_yes}
+use Rattle.bi_c.specs.Arguments.{HasLayout, IsErrorInForm, is_yes, ChangesCheck, FormCheck}
+use Rattle.bi_c.specs.Arguments.{LayoutCheck}
+use Rattle.bi_c.specs.Checks.{IsWrong, LimitsCheck, NextCheck}
+use Rattle.bi_c.specs.declared.argument.Argument.{Argument}
+use Rattle.bi_c.specs.declared.argument.Argument.TheVariants as argument
 use Rattle.bi_c.specs.declared.failure.Failure.{Failure}
 use Rattle.bi_c.specs.declared.failure.Failure.TheVariants.{WrongArgument, Refused, OutOfMemory}
 use Rattle.bi_c.specs.declared.failure.Failure.TheVariants.{NotFound}
@@ -65,7 +69,8 @@ pub record IsCauseSentence (number : ℕ) (text : List ℕ) (value : ℕ) : Type
 
 -- No cause has this number.
 abbrev pub IsNoCause : ℕ → Failure → Type 0
-IsNoCause number WrongArgument = (cause : Cause) → ¬ (number_of cause ≡ number)
+IsNoCause number (WrongArgument found index) =
+    ((cause : Cause) → ¬ (number_of cause ≡ number)) × (found ≡ argument.Number) × (index ≡ 0)
 IsNoCause number other = ⊥
 
 -- The normal form of the file, and the number of its signature nodes.
@@ -76,7 +81,7 @@ pub record IsNormalised (limit depth form : ℕ) (file text : List ℕ) (value :
 -- Why a file was not normalised.
 abbrev pub IsNormaliseFailure : (limit depth form : ℕ) → List ℕ → Failure → Type 0
 IsNormaliseFailure limit depth form file =
-    IsFailure (HasForm limit depth form)
+    IsFailure (FormCheck limit depth form)
     (IsErrorInForm form (λ kind. IsNormaliseError (bounds limit depth) kind file))
 
 -- The normal form of the file with these changes, and the number of its signature nodes.
@@ -90,7 +95,7 @@ pub record IsUpdatedText (limit depth form changes time : ℕ) (file text : List
 -- Why a file was not updated.
 abbrev pub IsUpdateFailure : (limit depth form changes time : ℕ) → List ℕ → Failure → Type 0
 IsUpdateFailure limit depth form changes time file =
-    IsFailure (HasChanges limit depth form changes)
+    IsFailure (ChangesCheck limit depth form changes)
     (IsErrorInForm form
     (λ kind. IsUpdateError (changes_of changes time) (bounds limit depth) kind file))
 
@@ -105,7 +110,8 @@ pub record IsSame (limit depth : ℕ) (one other : List ℕ) (size value : ℕ) 
 -- The failure of a call on two files. Its limits must be in range, and its error is one of these.
 abbrev pub IsFailureOfTwo : (limit depth : ℕ) → (HasError : CompareError → Type 0) → Failure
     → Type 0
-IsFailureOfTwo limit depth HasError WrongArgument = ¬ (IsInRange limit depth)
+IsFailureOfTwo limit depth HasError (WrongArgument found index) =
+    IsWrong (LimitsCheck limit depth) found index
 IsFailureOfTwo limit depth HasError (Refused file fault) =
     IsInRange limit depth
     × (((file ≡ 1) × HasError (compare.One fault)) ⊎ ((file ≡ 2) × HasError (compare.Other fault)))
@@ -146,21 +152,26 @@ pub record IsTextWithFlag (limit depth : ℕ) (Is : Limits → Bool → List ℕ
 abbrev pub IsFailureOfOne : (limit depth : ℕ) → (HasError : Limits → Error → Type 0) → Failure
     → Type 0
 IsFailureOfOne limit depth HasError =
-    IsFailure (IsInRange limit depth) (HasError (bounds limit depth))
+    IsFailure (LimitsCheck limit depth) (HasError (bounds limit depth))
 
 -- Why a call that looks something up in a FIT fails. If what it looks up is not there, it names a
 -- reason and an index.
-abbrev pub IsTreeFailure : (AreValid : Type 0) → Limits → (file : List ℕ)
+abbrev pub IsTreeFailure : (Check : Option (Argument × ℕ) → Type 0) → Limits → (file : List ℕ)
     → (IsReason : (reason index : ℕ) → Type 0) → Failure → Type 0
-IsTreeFailure AreValid limits file IsReason (NotFound reason index) =
-    AreValid × IsReason reason index
-IsTreeFailure AreValid limits file IsReason other =
-    IsFailure AreValid (IsFitReadError limits file) other
+IsTreeFailure Check limits file IsReason (NotFound reason index) =
+    Check None × IsReason reason index
+IsTreeFailure Check limits file IsReason other =
+    IsFailure Check (IsFitReadError limits file) other
 
 -- The limits are in range, and the number is that of a policy.
 pub record HasKinds (limit depth kinds : ℕ) : Type 0 where
   pub limits : IsInRange limit depth
   pub are_kinds : kinds < 65536
+
+-- The limits and then the kinds are checked.
+abbrev pub KindsCheck : (limit depth kinds : ℕ) → Option (Argument × ℕ) → Type 0
+KindsCheck limit depth kinds =
+    NextCheck (LimitsCheck limit depth) argument.Kinds (HasKinds limit depth kinds)
 
 -- The text of the concerns that a checker finds in a file, and whether there are none.
 pub record IsConcernsText (checker : Checker) (limits : Limits) (file text : List ℕ) (value : ℕ)
@@ -187,4 +198,4 @@ pub record IsPageText (limit depth layout : ℕ) (file text : List ℕ) (value :
 -- Why there is no page.
 abbrev pub IsPageFailure : (limit depth layout : ℕ) → List ℕ → Failure → Type 0
 IsPageFailure limit depth layout file =
-    IsFailure (HasLayout limit depth layout) (IsCheckError (bounds limit depth) file)
+    IsFailure (LayoutCheck limit depth layout) (IsCheckError (bounds limit depth) file)

@@ -1,6 +1,10 @@
 use Rattle.std.specs.Prelude.{ℕ, ◌<◌, ◌≡◌, ◌==◌, List, None, Some, if◌then◌else◌}
+use Rattle.std.specs.Prelude.{Option}
 use Rattle.bi_legacy.specs.Codes.{CodeName, compression_names, name_of_code}
 use Rattle.bi_show.specs.AllCodes.{code_of_name, given_arch_names, given_os_names, given_type_names}
+use Rattle.bi_c.specs.Checks.{IsWrong, NextCheck, NoCheck}
+use Rattle.bi_c.specs.declared.argument.Argument.{Argument}
+use Rattle.bi_c.specs.declared.argument.Argument.TheVariants as argument
 use Rattle.bi_c.specs.declared.failure.Failure.{Failure}
 use Rattle.bi_c.specs.declared.failure.Failure.TheVariants.{WrongArgument, NotFound}
 
@@ -21,6 +25,14 @@ pub record HasCodeOfField (field code : ℕ) : Type 0 where
   pub is_field : field < 4
   pub is_code : code < 256
 
+-- The field is checked,
+abbrev pub FieldCheck : (field : ℕ) → Option (Argument × ℕ) → Type 0
+FieldCheck field = NextCheck NoCheck argument.Field (field < 4)
+
+-- or the field and then the code.
+abbrev pub CodeCheck : (field code : ℕ) → Option (Argument × ℕ) → Type 0
+CodeCheck field code = NextCheck (FieldCheck field) argument.Code (HasCodeOfField field code)
+
 -- The text is the name of the code.
 pub record IsNameOfCode (field code : ℕ) (text : List ℕ) (value : ℕ) : Type 0 where
   pub arguments : HasCodeOfField field code
@@ -29,7 +41,7 @@ pub record IsNameOfCode (field code : ℕ) (text : List ℕ) (value : ℕ) : Typ
 
 -- Why no name is written: a number is wrong, or the code has no name.
 abbrev pub IsCodeNameFailure : (field code : ℕ) → Failure → Type 0
-IsCodeNameFailure field code WrongArgument = ¬ (HasCodeOfField field code)
+IsCodeNameFailure field code (WrongArgument found index) = IsWrong (CodeCheck field code) found index
 IsCodeNameFailure field code (NotFound reason index) =
     HasCodeOfField field code × (name_of_code (names_of_field field) code ≡ None)
     × (reason ≡ 14) × (index ≡ 0)
@@ -43,7 +55,8 @@ pub record IsNumberOfName (field : ℕ) (name : List ℕ) (size value : ℕ) : T
 
 -- Why there is no number: the number of the field is wrong, or no code has the name.
 abbrev pub IsCodeNumberFailure : (field : ℕ) → (name : List ℕ) → Failure → Type 0
-IsCodeNumberFailure field name WrongArgument = ¬ (field < 4)
+IsCodeNumberFailure field name (WrongArgument found index) =
+    IsWrong (FieldCheck field) found index
 IsCodeNumberFailure field name (NotFound reason index) =
     (field < 4) × (code_of_name (names_of_field field) name ≡ None) × (reason ≡ 15) × (index ≡ 0)
 IsCodeNumberFailure field name other = ⊥

@@ -1,4 +1,5 @@
 use Rattle.std.specs.Prelude.{ℕ, ◌^◌, ◌<◌, ◌≤◌, ◌≡◌, ⊤, List, Some, slice_get, take, unwrap_or}
+use Rattle.std.specs.Prelude.{Option}
 use Rattle.std.specs.List.{AllByRecursion, AllZip}
 use Rattle.bi_base.specs.declared.fault.Error.TheVariants as cause
 use Rattle.bi_base.specs.Limits.{IsInRange}
@@ -18,6 +19,9 @@ use Rattle.bi_c.specs.Arguments.{bounds, number_of_form}
 use Rattle.bi_c.specs.PieceBuilding.{IsPieceInside, bytes_of_piece}
 use Rattle.bi_c.specs.declared.edits.EditElement.{EditElement}
 use Rattle.bi_c.specs.declared.edits.EditNoteNumbers.{EditNoteNumbers}
+use Rattle.bi_c.specs.Checks.{ArrayCheck, IsWrong, LimitsCheck, NextCheck}
+use Rattle.bi_c.specs.declared.argument.Argument.{Argument}
+use Rattle.bi_c.specs.declared.argument.Argument.TheVariants as argument
 use Rattle.bi_c.specs.declared.failure.Failure.{Failure}
 use Rattle.bi_c.specs.declared.failure.Failure.TheVariants.{WrongArgument, Refused, OutOfMemory}
 use Rattle.bi_c.specs.declared.failure.Failure.TheVariants.{NotFound}
@@ -40,6 +44,12 @@ pub record IsEditElement (input : List ℕ) (element : EditElement) : Type 0 whe
   pub payload : IsPieceInside input element.payload
   pub code : 8 ≤ element.kind → element.number < 2 ^ 8
 
+-- The limits are in their ranges, and the number is that of a choice of the form.
+pub record HasChoice (limit depth form : ℕ) : Type 0 where
+  pub limits : IsInRange limit depth
+  pub choice : FormChoice
+  pub is_choice : number_of_choice choice ≡ form
+
 -- The limits are in their ranges, the number is that of a choice of the form, and all elements are
 -- those of edits.
 pub record HasEditElements (limit depth form : ℕ) (input : List ℕ) (elements : List EditElement)
@@ -50,9 +60,16 @@ pub record HasEditElements (limit depth form : ℕ) (input : List ℕ) (elements
     pub is_choice : number_of_choice choice ≡ form
     pub are_elements : AllByRecursion (IsEditElement input) elements
 
+-- The limits, the choice of the form and then the elements are checked.
+abbrev pub EditsCheck : (limit depth form : ℕ) → (input : List ℕ) → List EditElement
+    → Option (Argument × ℕ) → Type 0
+EditsCheck limit depth form input elements =
+    ArrayCheck (NextCheck (LimitsCheck limit depth) argument.Form (HasChoice limit depth form))
+    argument.Edits (IsEditElement input) elements
+
 -- ---- the edit that an element is for
 
--- The kind of an element for a field of a legacy header. The time is no field.
+-- The kind of an element for a field of a legacy header. The time has one kind for both images.
 abbrev pub kind_of_field : FieldValue → ℕ
 kind_of_field (field.Time time) = 3
 kind_of_field (field.Name name) = 5
@@ -196,8 +213,8 @@ pub data IsNothingEdited (limit depth form : ℕ) (input : List ℕ) (elements :
 -- Why a file was not edited.
 abbrev pub IsEditCallFailure : (limit depth form : ℕ) → (input : List ℕ) → List EditElement
     → (file : List ℕ) → Failure → Type 0
-IsEditCallFailure limit depth form input elements file WrongArgument =
-    ¬ (HasEditElements limit depth form input elements)
+IsEditCallFailure limit depth form input elements file (WrongArgument found index) =
+    IsWrong (EditsCheck limit depth form input elements) found index
 IsEditCallFailure limit depth form input elements file (NotFound reason index) =
     IsNothingEdited limit depth form input elements file reason index
 IsEditCallFailure limit depth form input elements file OutOfMemory =

@@ -1,4 +1,4 @@
-use Rattle.std.specs.Prelude.{ℕ, ◌≡◌, List, length, slice_get, Some}
+use Rattle.std.specs.Prelude.{ℕ, ◌≡◌, List, length, slice_get, Option, None, Some}
 use Rattle.bi_base.specs.declared.fault.Error.TheVariants as error
 use Rattle.bi_base.specs.Limits.{Limits}
 use Rattle.bi_fit.specs.Content.{FitModel, index_of, place_or_absent, offset_of_place, tree_of}
@@ -18,6 +18,8 @@ use Rattle.bi_commands.specs.Extracting.{HasMissingImage, NoSuchEntry, HasNoPayl
 use Rattle.bi_commands.specs.Extracting.{MeansSuch, choice_of}
 use Rattle.bi_c.specs.Answers.{failure_of_error}
 use Rattle.bi_c.specs.FitElements.{failure_of_list_error}
+use Rattle.bi_c.specs.Checks.{IsWrong}
+use Rattle.bi_c.specs.declared.argument.Argument.{Argument}
 use Rattle.bi_c.specs.declared.failure.Failure.{Failure}
 use Rattle.bi_c.specs.declared.failure.Failure.TheVariants.{WrongArgument, Refused, OutOfMemory}
 use Rattle.bi_c.specs.declared.failure.Failure.TheVariants.{NotFound}
@@ -97,7 +99,7 @@ IsReasonNumber reason index (Chosen bytes) = ⊥
 
 -- Why a selection finds nothing in a file.
 abbrev pub IsSelectFailure : Limits → Select → List ℕ → Failure → Type 0
-IsSelectFailure limits select file WrongArgument = ⊥
+IsSelectFailure limits select file (WrongArgument found index) = ⊥
 IsSelectFailure limits select file (Refused number fault) =
     (number ≡ 1) × IsBootImageReadError limits file (error.Refused fault)
 IsSelectFailure limits select file OutOfMemory = IsBootImageReadError limits file error.OutOfMemory
@@ -113,10 +115,12 @@ pub record IsExtracted (AreValid : Type 0) (limits : Limits) (select : Select) (
     pub is_found : IsFound limits select file size offset
 
 -- Why nothing is extracted.
-abbrev pub IsExtractCallFailure : (AreValid : Type 0) → Limits → Select → List ℕ → Failure → Type 0
-IsExtractCallFailure AreValid limits select file WrongArgument = ¬ AreValid
-IsExtractCallFailure AreValid limits select file failure =
-    AreValid × IsSelectFailure limits select file failure
+abbrev pub IsExtractCallFailure : (Check : Option (Argument × ℕ) → Type 0) → Limits → Select
+    → List ℕ → Failure → Type 0
+IsExtractCallFailure Check limits select file (WrongArgument found index) =
+    IsWrong Check found index
+IsExtractCallFailure Check limits select file failure =
+    Check None × IsSelectFailure limits select file failure
 
 -- The failure for an error of extracting.
 abbrev pub failure_of_extract_error : ExtractError → Failure

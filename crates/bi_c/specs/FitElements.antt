@@ -15,7 +15,7 @@ use Rattle.bi_fit.specs.Names.{configurations_name}
 use Rattle.bi_fit.specs.declared.configurations.ConfigError.{ConfigError}
 use Rattle.bi_fit.specs.declared.key.Key.{Key}
 use Rattle.bi_fit.specs.declared.configurations.ConfigError.TheVariants as list
-use Rattle.bi_c.specs.Arguments.{bounds, HasKey, key_of}
+use Rattle.bi_c.specs.Arguments.{bounds, HasKey, KeyCheck, key_of}
 use Rattle.bi_c.specs.Calls.{IsTreeFailure}
 use Rattle.bi_c.specs.TreeRegions.{HasNameBytes, children_of_found, name_region_of}
 use Rattle.bi_c.specs.declared.failure.Failure.{Failure}
@@ -129,7 +129,7 @@ pub record ListsNothing (limits : Limits) (key : ℕ) (file name : List ℕ) (re
 abbrev pub IsListFailure : (limit depth key : ℕ) → (file name : List ℕ) → Failure → Type 0
 IsListFailure limit depth key file name =
     let limits = bounds limit depth in
-    IsTreeFailure (HasKey limit depth key) limits file (ListsNothing limits key file name)
+    IsTreeFailure (KeyCheck limit depth key) limits file (ListsNothing limits key file name)
 
 -- The failure that an error of listing images becomes.
 abbrev pub failure_of_list_error : ConfigError → Failure

@@ -45,6 +45,9 @@ use Rattle.bi_c.specs.TreeRegions.{name_region_of}
 use Rattle.bi_c.specs.VerdictElements.{found_text_region, nowhere, verdict_number}
 use Rattle.bi_c.specs.declared.answer.Answer.{Answer}
 use Rattle.bi_c.specs.declared.concerns.ConcernElement.{ConcernElement}
+use Rattle.bi_c.specs.Checks.{NoCheck}
+use Rattle.bi_c.specs.declared.argument.Argument.{Argument}
+use Rattle.bi_c.specs.declared.argument.Argument.TheVariants as argument
 use Rattle.bi_c.specs.declared.failure.Failure.{Failure}
 use Rattle.bi_c.specs.declared.failure.Failure.TheVariants.{Refused, WrongArgument, NotFound}
 use Rattle.bi_c.specs.declared.failure.Failure.TheVariants.{OutOfMemory}
@@ -185,7 +188,7 @@ pub record CallNumbersAreKnown : Type 0 where
       → IsTextOnly 64 1 (λ limits text. text ≡ codes "x") text value
       → (text ≡ codes "x") × (value ≡ 0)
   pub cause : IsCauseName (number_of Truncated) (codes "Truncated") 0
-  pub no_cause : ¬ (IsNoCause (number_of Truncated) WrongArgument)
+  pub no_cause : ¬ (IsNoCause (number_of Truncated) (WrongArgument argument.Number 0))
   pub one : (file : ℕ) (fault : Fault)
       → IsFailureOfTwo 64 1 (λ error. error ≡ compare.One fault) (Refused file fault) → file ≡ 1
   pub other : (file : ℕ) (fault : Fault)
@@ -251,8 +254,9 @@ pub record CallAnswersAreKnown : Type 0 where
       → Sets (λ after. ⊥) (IsOnly OutOfMemory) (codes "a") after answer status
       → (after ≡ codes "a") × (answer ≡ empty_answer) × (status ≡ 2)
   pub file : (file : ℕ) (fault : Fault)
-      → IsFailure ⊤ (λ cause. cause ≡ error.Refused fault) (Refused file fault) → file ≡ 1
-  pub wrong : ¬ (IsFailure ⊤ (λ error. ⊤) WrongArgument)
+      → IsFailure NoCheck (λ cause. cause ≡ error.Refused fault) (Refused file fault) → file ≡ 1
+  pub wrong : (found : Argument) (index : ℕ)
+      → ¬ (IsFailure NoCheck (λ error. ⊤) (WrongArgument found index))
 
 -- The numbers of forms, and the greatest numbers of layouts, changes and kinds of concerns.
 pub record ArgumentBoundsAreKnown : Type 0 where

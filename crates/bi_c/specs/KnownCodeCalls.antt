@@ -19,9 +19,11 @@ pub record NamesOfCodesAreKnown : Type 0 where
       → AlwaysFills (IsNameOfCode 0 0) (IsCodeNameFailure 0 0) before before
       (record empty_answer { reason = 14 }) 5
   pub no_field : (before : List ℕ)
-      → AlwaysFills (IsNameOfCode 4 5) (IsCodeNameFailure 4 5) before before empty_answer 4
+      → AlwaysFills (IsNameOfCode 4 5) (IsCodeNameFailure 4 5) before before
+      (record empty_answer { reason = 9 }) 4
   pub large_code : (before : List ℕ)
-      → AlwaysFills (IsNameOfCode 0 256) (IsCodeNameFailure 0 256) before before empty_answer 4
+      → AlwaysFills (IsNameOfCode 0 256) (IsCodeNameFailure 0 256) before before
+      (record empty_answer { reason = 10 }) 4
   pub os_code : AlwaysAnswers (IsNumberOfName 0 (codes "linux"))
       (IsCodeNumberFailure 0 (codes "linux")) (record empty_answer { value = 5 }) 0
   pub second_name : AlwaysAnswers (IsNumberOfName 1 (codes "powerpc"))
@@ -29,6 +31,6 @@ pub record NamesOfCodesAreKnown : Type 0 where
   pub no_code : AlwaysAnswers (IsNumberOfName 2 (codes "linux"))
       (IsCodeNumberFailure 2 (codes "linux")) (record empty_answer { reason = 15 }) 5
   pub no_code_of_field : AlwaysAnswers (IsNumberOfName 4 (codes "linux"))
-      (IsCodeNumberFailure 4 (codes "linux")) empty_answer 4
+      (IsCodeNumberFailure 4 (codes "linux")) (record empty_answer { reason = 9 }) 4
   pub back : (field code value : ℕ) (name : List ℕ) → IsNameOfCode field code name value
       → IsNumberOfName field name 0 code

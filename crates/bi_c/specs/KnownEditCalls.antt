@@ -20,6 +20,7 @@ use Rattle.bi_c.specs.EditCalls.{number_of_choice}
 use Rattle.bi_c.specs.KnownElements.{region_at_offset}
 use Rattle.bi_c.specs.declared.edits.EditElement.{EditElement}
 use Rattle.bi_c.specs.declared.edits.EditNoteNumbers.{EditNoteNumbers}
+use Rattle.bi_c.specs.declared.argument.Argument.TheVariants as argument
 use Rattle.bi_c.specs.declared.failure.Failure.TheVariants.{WrongArgument, NotFound}
 
 -- What elements of edits are for, and what the calls that edit return for small files, by which a
@@ -69,11 +70,14 @@ pub record EditArgumentsAreKnown : Type 0 where
   pub elements : HasEditElements 0x7fffffff 64 2 (codes "x")
       (number_element 10 255 ∷ word_element 5 1 0 ∷ number_element 3 256 ∷ [])
   pub other_kind : (file : List ℕ)
-      → IsEditCallFailure 0x7fffffff 64 0 [] (number_element 11 0 ∷ []) file WrongArgument
+      → IsEditCallFailure 0x7fffffff 64 0 [] (number_element 10 1 ∷ number_element 11 0 ∷ []) file
+      (WrongArgument argument.Edits 1)
   pub large_code : (file : List ℕ)
-      → IsEditCallFailure 0x7fffffff 64 0 [] (number_element 8 256 ∷ []) file WrongArgument
+      → IsEditCallFailure 0x7fffffff 64 0 [] (number_element 8 256 ∷ []) file
+      (WrongArgument argument.Edits 0)
   pub outside : (file : List ℕ)
-      → IsEditCallFailure 0x7fffffff 64 0 (codes "x") (word_element 3 1 1 ∷ []) file WrongArgument
+      → IsEditCallFailure 0x7fffffff 64 0 (codes "x") (word_element 3 1 1 ∷ []) file
+      (WrongArgument argument.Edits 0)
   pub bad_word : (file : List ℕ)
       → IsEditCallFailure 0x7fffffff 64 0 []
       (number_element 3 5 ∷ number_element 1 0 ∷ number_element 1 0 ∷ []) file (NotFound 17 1)

@@ -13,7 +13,8 @@ use Rattle.bi_norm.specs.KnownComparisons.{file_without_magic}
 use Rattle.bi_report.specs.CheckedFiles.{IsCheckError}
 use Rattle.bi_show.specs.KnownPages.{kernel_page, multi_page}
 use Rattle.bi_c.specs.Answers.{Answers, IsFailure, Sets}
-use Rattle.bi_c.specs.Calls.{HasKinds, IsCauseSentence, IsCheckText, IsFailureOfOne}
+use Rattle.bi_c.specs.Checks.{LimitsCheck}
+use Rattle.bi_c.specs.Calls.{KindsCheck, IsCauseSentence, IsCheckText, IsFailureOfOne}
 use Rattle.bi_c.specs.Calls.{IsKindFailure, IsKindNumber, IsNormaliseFailure, IsNormalised}
 use Rattle.bi_c.specs.Calls.{IsPageFailure, IsPageText, IsUpdateFailure, IsUpdatedText}
 use Rattle.bi_c.specs.ConcernElements.{AreConcernElements}
@@ -61,7 +62,7 @@ pub record HeaderCallsAreKnown : Type 0 where
       → Sets (AreLegacyFields 63 64 kernel_file)
       (IsFailureOfOne 63 64 (λ limits. IsLegacyReadError limits kernel_file))
       before after answer status
-      → (after ≡ before) × (answer ≡ empty_answer) × (status ≡ 4)
+      → (after ≡ before) × (answer ≡ record empty_answer { reason = 2 }) × (status ≡ 4)
 
 -- ---- texts
 
@@ -78,7 +79,13 @@ pub record TextCallsAreKnown : Type 0 where
       before before (record empty_answer { cause = 2; file = 1 }) 1
   pub no_such_form : (before : List ℕ)
       → AlwaysFills (IsNormalised 0x7fffffff 64 2 kernel_file)
-      (IsNormaliseFailure 0x7fffffff 64 2 kernel_file) before before empty_answer 4
+      (IsNormaliseFailure 0x7fffffff 64 2 kernel_file)
+      before before (record empty_answer { reason = 4 }) 4
+  -- Two arguments are wrong: the first is named.
+  pub two_wrong : (before : List ℕ)
+      → AlwaysFills (IsNormalised 0x7fffffff 65 2 kernel_file)
+      (IsNormaliseFailure 0x7fffffff 65 2 kernel_file)
+      before before (record empty_answer { reason = 3 }) 4
   -- An update of the time to 5.
   pub updated : (before : List ℕ) → 87 ≤ length before
       → AlwaysFills (IsUpdatedText 0x7fffffff 64 0 1 5 multi_file)
@@ -87,20 +94,21 @@ pub record TextCallsAreKnown : Type 0 where
       (record empty_answer { size = 87 }) 0
   pub no_such_change : (before : List ℕ)
       → AlwaysFills (IsUpdatedText 0x7fffffff 64 0 4 5 multi_file)
-      (IsUpdateFailure 0x7fffffff 64 0 4 5 multi_file) before before empty_answer 4
+      (IsUpdateFailure 0x7fffffff 64 0 4 5 multi_file)
+      before before (record empty_answer { reason = 5 }) 4
   -- The seven bytes are a concern, unless the bit 64 allows it.
   pub concern : (before : List ℕ) → 11 ≤ length before
       → AlwaysFills (IsCheckText Lines 0x7fffffff 64 0 kernel_file_with_rest)
-      (IsFailure (HasKinds 0x7fffffff 64 0) (IsCheckError widest kernel_file_with_rest))
+      (IsFailure (KindsCheck 0x7fffffff 64 0) (IsCheckError widest kernel_file_with_rest))
       before (codes "trailing 7\n" ++ drop 11 before) (record empty_answer { size = 11 }) 0
   pub concern_json : (before : List ℕ) → 47 ≤ length before
       → AlwaysFills (IsCheckText Json 0x7fffffff 64 0 kernel_file_with_rest)
-      (IsFailure (HasKinds 0x7fffffff 64 0) (IsCheckError widest kernel_file_with_rest))
+      (IsFailure (KindsCheck 0x7fffffff 64 0) (IsCheckError widest kernel_file_with_rest))
       before (codes "{\"concerns\":[{\"concern\":\"trailing\",\"size\":7}]}\n" ++ drop 47 before)
       (record empty_answer { size = 47 }) 0
   pub allowed : (before : List ℕ)
       → AlwaysFills (IsCheckText Lines 0x7fffffff 64 64 kernel_file_with_rest)
-      (IsFailure (HasKinds 0x7fffffff 64 64) (IsCheckError widest kernel_file_with_rest))
+      (IsFailure (KindsCheck 0x7fffffff 64 64) (IsCheckError widest kernel_file_with_rest))
       before before (record empty_answer { value = 1 }) 0
   pub page : IsPageText 0x7fffffff 64 1 kernel_file_with_rest kernel_page 0
   pub page_without_layout : IsPageText 0x7fffffff 64 0 multi_file (multi_page []) 0
@@ -116,27 +124,27 @@ pub record TextCallsAreKnown : Type 0 where
 pub record LegacySelectionsAreKnown : Type 0 where
   pub concern : (before : List ConcernElement) → 1 ≤ length before
       → AlwaysFills (AreConcernElements 0x7fffffff 64 0 kernel_file_with_rest)
-      (IsFailure (HasKinds 0x7fffffff 64 0) (IsCheckError widest kernel_file_with_rest))
+      (IsFailure (KindsCheck 0x7fffffff 64 0) (IsCheckError widest kernel_file_with_rest))
       before (record no_concern { size = 7; kind = 64 } ∷ drop 1 before)
       (record empty_answer { size = 1 }) 0
   pub part : AlwaysAnswers
       (IsExtracted (IsInRange 0x7fffffff 64) widest (Part 1) multi_file)
-      (IsExtractCallFailure (IsInRange 0x7fffffff 64) widest (Part 1) multi_file)
+      (IsExtractCallFailure (LimitsCheck 0x7fffffff 64) widest (Part 1) multi_file)
       (record empty_answer { size = 3; value = 84 }) 0
   pub no_part : AlwaysAnswers
       (IsExtracted (IsInRange 0x7fffffff 64) widest (Part 2) multi_file)
-      (IsExtractCallFailure (IsInRange 0x7fffffff 64) widest (Part 2) multi_file)
+      (IsExtractCallFailure (LimitsCheck 0x7fffffff 64) widest (Part 2) multi_file)
       (record empty_answer { reason = 2 }) 5
   pub other_kind : AlwaysAnswers
       (IsExtracted (IsInRange 0x7fffffff 64) widest (image_selection (codes "a")) multi_file)
-      (IsExtractCallFailure (IsInRange 0x7fffffff 64) widest (image_selection (codes "a"))
+      (IsExtractCallFailure (LimitsCheck 0x7fffffff 64) widest (image_selection (codes "a"))
       multi_file)
       (record empty_answer { reason = 1 }) 5
   pub small_limit : AlwaysAnswers
       (IsExtracted (IsInRange 63 64) (record { file = 63; depth = 64 }) (Part 1) multi_file)
-      (IsExtractCallFailure (IsInRange 63 64) (record { file = 63; depth = 64 }) (Part 1)
+      (IsExtractCallFailure (LimitsCheck 63 64) (record { file = 63; depth = 64 }) (Part 1)
       multi_file)
-      empty_answer 4
+      (record empty_answer { reason = 2 }) 4
 
 -- ---- building
 
@@ -165,4 +173,4 @@ pub record LegacyBuildingIsKnown : Type 0 where
       → AlwaysFills
       (IsBuiltOfPieces 87 64 pieces_of_multi fields_of_multi (region_at_offset 6 4 ∷ []))
       (IsPieceBuildFailure 87 64 pieces_of_multi fields_of_multi (region_at_offset 6 4 ∷ []))
-      before before empty_answer 4
+      before before (record empty_answer { reason = 14 }) 4

@@ -32,7 +32,9 @@ use Rattle.bi_c.specs.NodeElements.{IsNodeReason, IsPropertyReason, LacksNode, L
 use Rattle.bi_c.specs.TreeBuilding.{address_if}
 use Rattle.bi_c.specs.ValueCalls.{failure_of_get_error, value_form_of, words_of_place}
 use Rattle.bi_c.specs.VerdictElements.{verdict_number}
+use Rattle.bi_c.specs.Checks.{argument_number}
 use Rattle.bi_c.specs.declared.answer.Answer.{Answer}
+use Rattle.bi_c.specs.declared.argument.Argument.TheVariants as argument
 use Rattle.bi_c.specs.declared.failure.Failure.TheVariants.{WrongArgument, Refused, OutOfMemory}
 use Rattle.bi_c.specs.declared.failure.Failure.TheVariants.{NotFound}
 
@@ -51,7 +53,7 @@ pub record StatusNumbersAreKnown : Type 0 where
   pub refused : status_of_failure (Refused 1 cell_fault) ≡ 1
   pub out_of_memory : status_of_failure OutOfMemory ≡ 2
   pub without_room : no_room ≡ 3
-  pub wrong_argument : status_of_failure WrongArgument ≡ 4
+  pub wrong_argument : status_of_failure (WrongArgument argument.Limit 0) ≡ 4
   pub not_found : status_of_failure (NotFound 1 0) ≡ 5
 
 -- The numbers of the struct, in their order.
@@ -73,9 +75,33 @@ pub record AnswersAreKnown : Type 0 where
       ≡ 0 ∷ 0 ∷ 18 ∷ 160 ∷ 2 ∷ 0 ∷ []
   pub out_of_memory : struct_numbers (answer_of_failure OutOfMemory)
       ≡ 0 ∷ 0 ∷ 0 ∷ 0 ∷ 0 ∷ 0 ∷ []
-  pub wrong_argument : struct_numbers (answer_of_failure WrongArgument)
-      ≡ 0 ∷ 0 ∷ 0 ∷ 0 ∷ 0 ∷ 0 ∷ []
+  pub wrong_argument : struct_numbers (answer_of_failure (WrongArgument argument.Edits 3))
+      ≡ 0 ∷ 3 ∷ 0 ∷ 0 ∷ 0 ∷ 16 ∷ []
   pub missing : struct_numbers (answer_of_failure (NotFound 7 3)) ≡ 0 ∷ 3 ∷ 0 ∷ 0 ∷ 0 ∷ 7 ∷ []
+
+-- The numbers of the arguments.
+pub record ArgumentNumbersAreKnown : Type 0 where
+  pub options : argument_number argument.Options ≡ 1
+  pub limit : argument_number argument.Limit ≡ 2
+  pub depth : argument_number argument.Depth ≡ 3
+  pub form : argument_number argument.Form ≡ 4
+  pub changes : argument_number argument.Changes ≡ 5
+  pub layout : argument_number argument.Layout ≡ 6
+  pub kinds : argument_number argument.Kinds ≡ 7
+  pub key : argument_number argument.Key ≡ 8
+  pub field : argument_number argument.Field ≡ 9
+  pub code : argument_number argument.Code ≡ 10
+  pub number : argument_number argument.Number ≡ 11
+  pub place : argument_number argument.Place ≡ 12
+  pub fields : argument_number argument.Fields ≡ 13
+  pub parts : argument_number argument.Parts ≡ 14
+  pub words : argument_number argument.Words ≡ 15
+  pub edits : argument_number argument.Edits ≡ 16
+  pub images : argument_number argument.Images ≡ 17
+  pub texts : argument_number argument.Texts ≡ 18
+  pub lists : argument_number argument.Lists ≡ 19
+  pub algorithms : argument_number argument.Algorithms ≡ 20
+  pub configurations : argument_number argument.Configurations ≡ 21
 
 -- The choice has this reason, and the index of the first name that no image has, and no other.
 pub record HasReason (choice : Choice) (reason index : ℕ) : Type 0 where

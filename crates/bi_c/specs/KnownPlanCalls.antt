@@ -9,11 +9,14 @@ use Rattle.bi_fit.specs.KnownBuilds.{known_head, known_kernel, known_ramdisk}
 use Rattle.bi_fit.specs.Text.{fit_text}
 use Rattle.bi_norm.specs.FitBuilding.{PlanSpecModel}
 use Rattle.bi_norm.specs.KnownPlans.{firmware_texts}
+use Rattle.bi_c.specs.Checks.{argument_number}
 use Rattle.bi_c.specs.KnownCalls.{AlwaysFills, empty_answer}
 use Rattle.bi_c.specs.KnownElements.{region_at_offset}
 use Rattle.bi_c.specs.KnownTreeCalls.{kernel_element, ramdisk_element}
 use Rattle.bi_c.specs.PlanBuilding.{IsPlanFailure, IsPlannedTree, PlanPieces, algorithm_of}
 use Rattle.bi_c.specs.PlanBuilding.{plan_of_pieces}
+use Rattle.bi_c.specs.declared.argument.Argument.{Argument}
+use Rattle.bi_c.specs.declared.argument.Argument.TheVariants as argument
 use Rattle.bi_c.specs.declared.plan_building.BuildConfiguration.{BuildConfiguration}
 use Rattle.bi_c.specs.declared.plan_building.BuildOptions.{BuildOptions}
 use Rattle.bi_c.specs.declared.plan_building.BuildTexts.{BuildTexts}
@@ -166,11 +169,12 @@ pub record AlgorithmNumbersAreKnown : Type 0 where
 
 -- ---- wrong arguments
 
--- A call of these pieces has a wrong argument.
-abbrev pub HasWrongArgument : PlanPieces → Type 0
-HasWrongArgument pieces =
+-- A call of these pieces has this wrong argument, and the element with this index is wrong.
+abbrev pub HasWrongArgument : Argument → (index : ℕ) → PlanPieces → Type 0
+HasWrongArgument wrong index pieces =
     (before : List ℕ)
-    → AlwaysFills (IsPlannedTree pieces) (IsPlanFailure pieces) before before empty_answer 4
+    → AlwaysFills (IsPlannedTree pieces) (IsPlanFailure pieces) before before
+    (record empty_answer { value = index; reason = argument_number wrong }) 4
 
 -- The plan with other options, with another element of the second image, with another
 -- configuration, and with other algorithms.
@@ -188,20 +192,25 @@ with_configuration configuration =
 -- that ends after the list, an algorithm that there is not, and regions outside the input, even if
 -- they are not given.
 pub record WrongPlansAreKnown : Type 0 where
-  pub smaller : HasWrongArgument (with_options (record known_options { size = 60 }))
-  pub larger : HasWrongArgument (with_options (record known_options { size = 72 }))
-  pub flag : HasWrongArgument (with_options (record known_options { given = 2 }))
-  pub form : HasWrongArgument (with_options (record known_options { form = 2 }))
-  pub sum : HasWrongArgument (with_other_texts (record ramdisk_texts { given = 4 }))
-  pub range : HasWrongArgument
+  pub smaller : HasWrongArgument argument.Options 0
+      (with_options (record known_options { size = 60 }))
+  pub larger : HasWrongArgument argument.Options 0
+      (with_options (record known_options { size = 72 }))
+  pub flag : HasWrongArgument argument.Options 0 (with_options (record known_options { given = 2 }))
+  pub form : HasWrongArgument argument.Form 0 (with_options (record known_options { form = 2 }))
+  pub sum : HasWrongArgument argument.Texts 1
+      (with_other_texts (record ramdisk_texts { given = 4 }))
+  pub range : HasWrongArgument argument.Configurations 0
       (with_configuration (record known_element { compatible = range_at 2 2 }))
-  pub list : HasWrongArgument (with_configuration (record known_element { fdt = range_at 4 0 }))
-  pub algorithm : HasWrongArgument (record known_pieces { algorithms = 6 ∷ [] })
-  pub in_list : HasWrongArgument
+  pub list : HasWrongArgument argument.Configurations 0
+      (with_configuration (record known_element { fdt = range_at 4 0 }))
+  pub algorithm : HasWrongArgument argument.Algorithms 0
+      (record known_pieces { algorithms = 6 ∷ [] })
+  pub in_list : HasWrongArgument argument.Lists 0
       (record known_pieces { lists = region_at_offset 0 65 ∷ []; configurations = [] })
-  pub no_description : HasWrongArgument
+  pub no_description : HasWrongArgument argument.Configurations 0
       (with_configuration (record known_element { description = region_at_offset 65 0; given = 0 }))
-  pub no_texts : HasWrongArgument
+  pub no_texts : HasWrongArgument argument.Texts 1
       (with_other_texts (record ramdisk_texts { os = region_at_offset 64 1 }))
-  pub no_default : HasWrongArgument
+  pub no_default : HasWrongArgument argument.Options 0
       (with_options (record known_options { default_name = region_at_offset 60 5; given = 0 }))

@@ -1,5 +1,5 @@
-use Rattle.std.specs.Prelude.{ℕ, ◌≡◌, List, [], ◌∷◌, codes, None, Some}
-use Rattle.bi_base.specs.Limits.{IsInRange, widest}
+use Rattle.std.specs.Prelude.{ℕ, ◌≡◌, List, [], ◌∷◌, codes, None, Some, Option}
+use Rattle.bi_base.specs.Limits.{widest}
 use Rattle.bi_commands.specs.declared.extract.Select.{Select}
 use Rattle.bi_commands.specs.declared.extract.Select.TheVariants.{Default}
 use Rattle.bi_commands.specs.KnownChoices.{entry_selection, image_selection}
@@ -8,7 +8,8 @@ use Rattle.bi_fit.specs.KnownBuilds.{known_text}
 use Rattle.bi_norm.specs.declared.fit_building.ImageSpec.{ImageSpec}
 use Rattle.bi_norm.specs.KnownBuildFaults.{description_with_zero}
 use Rattle.bi_show.specs.KnownTrees.{shown_file}
-use Rattle.bi_c.specs.Arguments.{HasKey}
+use Rattle.bi_c.specs.Arguments.{KeyCheck}
+use Rattle.bi_c.specs.Checks.{LimitsCheck}
 use Rattle.bi_c.specs.Extracting.{IsExtractCallFailure, IsExtracted}
 use Rattle.bi_c.specs.FitElements.{AreImageIndices, IsListFailure}
 use Rattle.bi_c.specs.KnownCalls.{AlwaysAnswers, AlwaysFills, empty_answer}
@@ -16,6 +17,7 @@ use Rattle.bi_c.specs.KnownElements.{region_at_offset}
 use Rattle.bi_c.specs.NodeElements.{AreChildRegions, IsNodeFailure, IsPropertyFailure, IsValueAt}
 use Rattle.bi_c.specs.TreeBuilding.{IsSpecOf, IsTreeBuildFailure, IsTreeOfPieces}
 use Rattle.bi_c.specs.declared.answer.Answer.{Answer}
+use Rattle.bi_c.specs.declared.argument.Argument.{Argument}
 use Rattle.bi_c.specs.declared.fit_building.BuildElement.{BuildElement}
 use Rattle.bi_c.specs.declared.region.Region.{Region}
 
@@ -27,25 +29,27 @@ use Rattle.bi_c.specs.declared.region.Region.{Region}
 -- ---- looking up
 
 -- A call on the file that extracts what is selected leaves this and returns this status.
-abbrev pub Extracts : (AreValid : Type 0) → Select → Answer → (status : ℕ) → Type 0
-Extracts AreValid select answer status =
-    AlwaysAnswers (IsExtracted AreValid widest select shown_file)
-    (IsExtractCallFailure AreValid widest select shown_file) answer status
+abbrev pub Extracts : (Check : Option (Argument × ℕ) → Type 0) → Select → Answer
+    → (status : ℕ) → Type 0
+Extracts Check select answer status =
+    AlwaysAnswers (IsExtracted (Check None) widest select shown_file)
+    (IsExtractCallFailure Check widest select shown_file) answer status
 
 -- Extracting by the name of an image, by a configuration, and by the default one. The reasons are
 -- those of the header: no image, no entry. A key of the number 6 is a wrong argument.
 pub record TreeSelectionsAreKnown : Type 0 where
-  pub image : Extracts (IsInRange 0x7fffffff 64) (image_selection (codes "a"))
+  pub image : Extracts (LimitsCheck 0x7fffffff 64) (image_selection (codes "a"))
       (record empty_answer { size = 3; value = 596 }) 0
-  pub entry : Extracts (HasKey 0x7fffffff 64 0) (entry_selection (codes "c") Kernel 0)
+  pub entry : Extracts (KeyCheck 0x7fffffff 64 0) (entry_selection (codes "c") Kernel 0)
       (record empty_answer { size = 3; value = 596 }) 0
-  pub default : Extracts (HasKey 0x7fffffff 64 0) (Default Kernel 0)
+  pub default : Extracts (KeyCheck 0x7fffffff 64 0) (Default Kernel 0)
       (record empty_answer { size = 3; value = 596 }) 0
-  pub no_image : Extracts (IsInRange 0x7fffffff 64) (image_selection (codes "b"))
+  pub no_image : Extracts (LimitsCheck 0x7fffffff 64) (image_selection (codes "b"))
       (record empty_answer { reason = 3 }) 5
-  pub no_entry : Extracts (HasKey 0x7fffffff 64 0) (Default Kernel 1)
+  pub no_entry : Extracts (KeyCheck 0x7fffffff 64 0) (Default Kernel 1)
       (record empty_answer { reason = 8 }) 5
-  pub no_such_key : Extracts (HasKey 0x7fffffff 64 6) (Default Script 0) empty_answer 4
+  pub no_such_key : Extracts (KeyCheck 0x7fffffff 64 6) (Default Script 0)
+      (record empty_answer { reason = 8 }) 4
 
 -- The configuration has no list of devicetrees (key 1), and there is no configuration `d`. A path
 -- has no node, and a name has no property. The array stays as it was.
@@ -121,14 +125,14 @@ pub record TreeBuildingIsKnown : Type 0 where
       (record ramdisk_element { payload = region_at_offset 22 4 } ∷ []))
       (IsTreeBuildFailure 0x7fffffff 64 0 1 pieces_of_tree (codes "k")
       (record ramdisk_element { payload = region_at_offset 22 4 } ∷ []))
-      before before empty_answer 4
+      before before (record empty_answer { reason = 17 }) 4
   pub no_such_sum : (before : List ℕ)
       → AlwaysFills
       (IsTreeOfPieces 0x7fffffff 64 0 1 pieces_of_tree (codes "k")
       (record ramdisk_element { addresses = 4 } ∷ []))
       (IsTreeBuildFailure 0x7fffffff 64 0 1 pieces_of_tree (codes "k")
       (record ramdisk_element { addresses = 4 } ∷ []))
-      before before empty_answer 4
+      before before (record empty_answer { reason = 17 }) 4
   pub bad_description : (before : List ℕ)
       → AlwaysFills (IsTreeOfPieces 0x7fffffff 64 0 1 [] description_with_zero [])
       (IsTreeBuildFailure 0x7fffffff 64 0 1 [] description_with_zero [])

@@ -1,6 +1,7 @@
 pub mod Answers
 pub mod Arguments
 pub mod Calls
+pub mod Checks
 pub mod CodeCalls
 pub mod ConcernElements
 pub mod EditCalls
@@ -11,6 +12,7 @@ pub mod ImageElements
 pub mod KnownElements
 pub mod KnownCalls
 pub mod KnownCodeCalls
+pub mod KnownDeepCalls
 pub mod KnownEditCalls
 pub mod KnownIgnoringCalls
 pub mod KnownLegacyCalls

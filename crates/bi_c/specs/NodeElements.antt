@@ -9,6 +9,7 @@ use Rattle.bi_fit.specs.ImageTree.{ImageTree}
 use Rattle.bi_fit.specs.Payloads.{IsAt}
 use Rattle.bi_c.specs.Arguments.{bounds}
 use Rattle.bi_c.specs.Calls.{IsTreeFailure}
+use Rattle.bi_c.specs.Checks.{LimitsCheck}
 use Rattle.bi_c.specs.TreeRegions.{HasNameBytes, HasPropertyBytes, name_region_of}
 use Rattle.bi_c.specs.TreeRegions.{property_name_region, value_region}
 use Rattle.bi_c.specs.declared.failure.Failure.{Failure}
@@ -112,10 +113,10 @@ IsPropertyReason limits file path name reason index =
 abbrev pub IsNodeFailure : (limit depth : ℕ) → (file path : List ℕ) → Failure → Type 0
 IsNodeFailure limit depth file path =
     let limits = bounds limit depth in
-    IsTreeFailure (IsInRange limit depth) limits file (IsNodeReason limits file path)
+    IsTreeFailure (LimitsCheck limit depth) limits file (IsNodeReason limits file path)
 
 -- Why a call that returns the value of a property fails.
 abbrev pub IsPropertyFailure : (limit depth : ℕ) → (file path name : List ℕ) → Failure → Type 0
 IsPropertyFailure limit depth file path name =
     let limits = bounds limit depth in
-    IsTreeFailure (IsInRange limit depth) limits file (IsPropertyReason limits file path name)
+    IsTreeFailure (LimitsCheck limit depth) limits file (IsPropertyReason limits file path name)

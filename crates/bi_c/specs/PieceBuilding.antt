@@ -1,4 +1,4 @@
-use Rattle.std.specs.Prelude.{ℕ, ◌+◌, ◌≤◌, ◌≡◌, List, length, map, ⊤}
+use Rattle.std.specs.Prelude.{ℕ, ◌+◌, ◌≤◌, ◌≡◌, List, Option, length, map}
 use Rattle.std.specs.List.{AllByRecursion}
 use Rattle.bi_base.specs.Cells.{slice}
 use Rattle.bi_base.specs.declared.fault.Error.TheVariants as error
@@ -6,6 +6,9 @@ use Rattle.bi_base.specs.Limits.{IsInRange}
 use Rattle.bi_legacy.specs.Meaning.{LegacyImage}
 use Rattle.bi_norm.specs.LegacyBuilding.{IsBuildLegacyError, IsBuiltLegacy}
 use Rattle.bi_c.specs.Arguments.{bounds}
+use Rattle.bi_c.specs.Checks.{ArrayCheck, IsWrong, LimitsCheck, NextCheck}
+use Rattle.bi_c.specs.declared.argument.Argument.{Argument}
+use Rattle.bi_c.specs.declared.argument.Argument.TheVariants as argument
 use Rattle.bi_c.specs.declared.failure.Failure.{Failure}
 use Rattle.bi_c.specs.declared.failure.Failure.TheVariants.{WrongArgument, Refused, OutOfMemory}
 use Rattle.bi_c.specs.declared.failure.Failure.TheVariants.{NotFound}
@@ -51,6 +54,15 @@ pub record HasPieces (limit depth : ℕ) (input : List ℕ) (fields : LegacyFiel
     pub name : IsPieceInside input fields.name
     pub parts_inside : AllByRecursion (IsPieceInside input) parts
 
+-- The limits, the region of the name and then the parts are checked.
+abbrev pub PiecesCheck : (limit depth : ℕ) → (input : List ℕ) → LegacyFields → List Region
+    → Option (Argument × ℕ) → Type 0
+PiecesCheck limit depth input fields parts =
+    ArrayCheck
+    (NextCheck (LimitsCheck limit depth) argument.Fields
+    (IsInRange limit depth × IsPieceInside input fields.name))
+    argument.Parts (IsPieceInside input) parts
+
 -- The text is that of the image that is built.
 pub record IsBuiltOfPieces (limit depth : ℕ) (input : List ℕ) (fields : LegacyFields)
     (parts : List Region) (text : List ℕ) (value : ℕ) : Type 0
@@ -62,17 +74,11 @@ pub record IsBuiltOfPieces (limit depth : ℕ) (input : List ℕ) (fields : Lega
 -- Why no image is built. Memory may run out before the parts are looked at.
 abbrev pub IsPieceBuildFailure : (limit depth : ℕ) → (input : List ℕ) → LegacyFields → List Region
     → Failure → Type 0
-IsPieceBuildFailure limit depth input fields parts WrongArgument =
-    ¬ (HasPieces limit depth input fields parts)
+IsPieceBuildFailure limit depth input fields parts (WrongArgument found index) =
+    IsWrong (PiecesCheck limit depth input fields parts) found index
 IsPieceBuildFailure limit depth input fields parts (Refused file fault) =
     HasPieces limit depth input fields parts × (file ≡ 1)
     × IsBuildLegacyError (bounds limit depth) (legacy_in input fields parts) (error.Refused fault)
 IsPieceBuildFailure limit depth input fields parts OutOfMemory =
     IsInRange limit depth × IsPieceInside input fields.name
 IsPieceBuildFailure limit depth input fields parts (NotFound reason index) = ⊥
-
--- Why these regions have no pieces.
-abbrev pub IsPiecesFailure : (input : List ℕ) → List Region → Failure → Type 0
-IsPiecesFailure input regions WrongArgument = ¬ (AllByRecursion (IsPieceInside input) regions)
-IsPiecesFailure input regions OutOfMemory = ⊤
-IsPiecesFailure input regions other = ⊥

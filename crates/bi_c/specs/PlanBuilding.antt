@@ -1,9 +1,10 @@
 use Rattle.std.specs.Prelude.{ℕ, ◌+◌, ◌<◌, ◌≤◌, ◌≡◌, ◌==◌, List, Option, None, Some, if◌then◌else◌}
-use Rattle.std.specs.Prelude.{Bool, ⊤, length, map, take, drop}
+use Rattle.std.specs.Prelude.{Bool, length, map, take, drop}
 use Rattle.std.specs.List.{AllByRecursion, AllZip}
 use Rattle.std.specs.Option.{option_map}
 use Rattle.bi_base.specs.declared.fault.Fault.{Fault}
 use Rattle.bi_base.specs.declared.fault.Error.TheVariants as error
+use Rattle.bi_base.specs.Limits.{IsInRange}
 use Rattle.bi_base.specs.Slices.{bytes_of}
 use Rattle.bi_fit.specs.declared.building.ConfigurationSpec.{ConfigurationSpec}
 use Rattle.bi_fit.specs.declared.building.Head.{Head}
@@ -19,8 +20,11 @@ use Rattle.bi_norm.specs.declared.fit_building.ImageSpec.{ImageSpec}
 use Rattle.bi_norm.specs.FitBuilding.{ImageTextsModel, IsBuildErrorAs, IsBuiltAs, PlanSpecModel}
 use Rattle.bi_norm.specs.FitBuilding.{descriptions_models, texts_models}
 use Rattle.bi_c.specs.Arguments.{bounds, has_bit, HasForm}
+use Rattle.bi_c.specs.Checks.{ArrayCheck, IsLimit, IsWrong, NextCheck, NoCheck}
 use Rattle.bi_c.specs.PieceBuilding.{IsPieceInside, bytes_of_piece}
 use Rattle.bi_c.specs.TreeBuilding.{IsSpecInside, IsSpecOf}
+use Rattle.bi_c.specs.declared.argument.Argument.{Argument}
+use Rattle.bi_c.specs.declared.argument.Argument.TheVariants as argument
 use Rattle.bi_c.specs.declared.failure.Failure.{Failure}
 use Rattle.bi_c.specs.declared.failure.Failure.TheVariants.{WrongArgument, Refused, OutOfMemory}
 use Rattle.bi_c.specs.declared.failure.Failure.TheVariants.{NotFound}
@@ -146,6 +150,14 @@ pub record IsConfigurationInside (input : List ℕ) (lists : List Region)
     pub compatible : IsRangeInside lists configuration.compatible
     pub listed : (key : Key) → IsRangeInside lists (range_of_key configuration key)
 
+-- What the options have besides the limits and the form is valid: the struct has this size, its
+-- regions are inside the input, and the flag is one.
+pub record AreOtherOptions (input : List ℕ) (options : BuildOptions) : Type 0 where
+  pub is_size : options.size ≡ options_size
+  pub description : IsPieceInside input options.description
+  pub default : IsPieceInside input options.default_name
+  pub is_flag : options.given < 2
+
 -- The struct of options has this size, its numbers are in their ranges, and its regions inside the
 -- input.
 pub record AreOptions (input : List ℕ) (options : BuildOptions) : Type 0 where
@@ -165,6 +177,48 @@ pub record ArePieces (pieces : PlanPieces) : Type 0 where
   pub configurations :
       AllByRecursion (IsConfigurationInside pieces.input pieces.lists) pieces.configurations
   pub algorithms : AllByRecursion (λ number. number < 6) pieces.algorithms
+
+-- The options are checked: what they have besides the limits and the form, the limits, and then
+-- the form.
+abbrev pub OwnCheck : (input : List ℕ) → BuildOptions → Option (Argument × ℕ) → Type 0
+OwnCheck input options = NextCheck NoCheck argument.Options (AreOtherOptions input options)
+
+abbrev pub OptionsLimitCheck : (input : List ℕ) → BuildOptions → Option (Argument × ℕ) → Type 0
+OptionsLimitCheck input options = NextCheck (OwnCheck input options) argument.Limit
+    (AreOtherOptions input options × IsLimit options.limit)
+
+abbrev pub OptionsDepthCheck : (input : List ℕ) → BuildOptions → Option (Argument × ℕ) → Type 0
+OptionsDepthCheck input options = NextCheck (OptionsLimitCheck input options) argument.Depth
+    (AreOtherOptions input options × IsInRange options.limit options.depth)
+
+abbrev pub OptionsCheck : (input : List ℕ) → BuildOptions → Option (Argument × ℕ) → Type 0
+OptionsCheck input options =
+    NextCheck (OptionsDepthCheck input options) argument.Form (AreOptions input options)
+
+-- Then the images are checked,
+abbrev pub ImagesCheck : PlanPieces → Option (Argument × ℕ) → Type 0
+ImagesCheck pieces = ArrayCheck (OptionsCheck pieces.input pieces.options) argument.Images
+    (IsSpecInside pieces.input) pieces.images
+
+-- the texts,
+abbrev pub TextsCheck : PlanPieces → Option (Argument × ℕ) → Type 0
+TextsCheck pieces =
+    ArrayCheck (ImagesCheck pieces) argument.Texts (AreTextsInside pieces.input) pieces.texts
+
+-- the lists,
+abbrev pub ListsCheck : PlanPieces → Option (Argument × ℕ) → Type 0
+ListsCheck pieces =
+    ArrayCheck (TextsCheck pieces) argument.Lists (IsPieceInside pieces.input) pieces.lists
+
+-- the algorithms,
+abbrev pub AlgorithmsCheck : PlanPieces → Option (Argument × ℕ) → Type 0
+AlgorithmsCheck pieces = ArrayCheck (ListsCheck pieces) argument.Algorithms
+    (λ number. number < 6) pieces.algorithms
+
+-- and then the configurations.
+abbrev pub PlanCheck : PlanPieces → Option (Argument × ℕ) → Type 0
+PlanCheck pieces = ArrayCheck (AlgorithmsCheck pieces) argument.Configurations
+    (IsConfigurationInside pieces.input pieces.lists) pieces.configurations
 
 -- ---- what the call returns
 
@@ -195,7 +249,7 @@ pub record IsPlanRefusal (pieces : PlanPieces) (fault : Fault) : Type 0 where
 
 -- Why no tree is built. Memory may run out once the options are valid.
 abbrev pub IsPlanFailure : PlanPieces → Failure → Type 0
-IsPlanFailure pieces WrongArgument = ¬ (ArePieces pieces)
+IsPlanFailure pieces (WrongArgument found index) = IsWrong (PlanCheck pieces) found index
 IsPlanFailure pieces (Refused file fault) = (file ≡ 1) × IsPlanRefusal pieces fault
 IsPlanFailure pieces OutOfMemory = AreOptions pieces.input pieces.options
 IsPlanFailure pieces (NotFound reason index) = ⊥
@@ -252,9 +306,3 @@ pub record AreConfigurationsOf (input : List ℕ) (lists : List Region)
     pub inside : AllByRecursion (IsConfigurationInside input lists) configurations
     pub are : configuration_spec_models specs
         ≡ map (configuration_of_element input lists) configurations
-
--- Why the elements of an array are refused. Memory may run out before all are looked at.
-abbrev pub IsElementFailure : (AreValid : Type 0) → Failure → Type 0
-IsElementFailure AreValid WrongArgument = ¬ AreValid
-IsElementFailure AreValid OutOfMemory = ⊤
-IsElementFailure AreValid other = ⊥

@@ -1,12 +1,15 @@
-use Rattle.std.specs.Prelude.{ℕ, ◌<◌, ◌≡◌, Bool, List, Option, None, Some, if◌then◌else◌, ⊤}
-use Rattle.std.specs.List.{AllByRecursion, AllZip}
+use Rattle.std.specs.Prelude.{ℕ, ◌<◌, ◌≡◌, Bool, List, Option, None, Some, if◌then◌else◌}
+use Rattle.std.specs.List.{AllZip}
 use Rattle.bi_base.specs.declared.fault.Fault.{Fault}
 use Rattle.bi_base.specs.declared.fault.Error.TheVariants as error
 use Rattle.bi_fit.specs.declared.building.Head.{Head}
 use Rattle.bi_norm.specs.declared.fit_building.ImageSpec.{ImageSpec}
 use Rattle.bi_norm.specs.FitBuilding.{IsBuildError, IsBuilt}
-use Rattle.bi_c.specs.Arguments.{bounds, has_bit, HasForm}
+use Rattle.bi_c.specs.Arguments.{bounds, has_bit, FormCheck, HasForm}
+use Rattle.bi_c.specs.Checks.{ArrayCheck, IsWrong}
 use Rattle.bi_c.specs.PieceBuilding.{IsPieceInside, bytes_of_piece}
+use Rattle.bi_c.specs.declared.argument.Argument.{Argument}
+use Rattle.bi_c.specs.declared.argument.Argument.TheVariants as argument
 use Rattle.bi_c.specs.declared.failure.Failure.{Failure}
 use Rattle.bi_c.specs.declared.failure.Failure.TheVariants.{WrongArgument, Refused, OutOfMemory}
 use Rattle.bi_c.specs.declared.failure.Failure.TheVariants.{NotFound}
@@ -66,25 +69,19 @@ pub record IsTreeRefusal (limit depth form time : ℕ) (input description : List
     pub is_to_be_built : IsToBeBuilt time input description images head specs
     pub is : IsBuildError (bounds limit depth) arguments.form head specs (error.Refused fault)
 
--- The numbers are in their ranges, and the images are inside the input.
-pub record HasSpecs (limit depth form : ℕ) (input : List ℕ) (images : List BuildElement) : Type 0
-  where
-    pub arguments : HasForm limit depth form
-    pub specs_inside : AllByRecursion (IsSpecInside input) images
+-- The limits, the form and then the images are checked.
+abbrev pub SpecsCheck : (limit depth form : ℕ) → (input : List ℕ) → List BuildElement
+    → Option (Argument × ℕ) → Type 0
+SpecsCheck limit depth form input images =
+    ArrayCheck (FormCheck limit depth form) argument.Images (IsSpecInside input) images
 
 -- Why no tree is built. Memory may run out before the images are looked at.
 abbrev pub IsTreeBuildFailure : (limit depth form time : ℕ) → (input description : List ℕ)
     → List BuildElement → Failure → Type 0
-IsTreeBuildFailure limit depth form time input description images WrongArgument =
-    ¬ (HasSpecs limit depth form input images)
+IsTreeBuildFailure limit depth form time input description images (WrongArgument found index) =
+    IsWrong (SpecsCheck limit depth form input images) found index
 IsTreeBuildFailure limit depth form time input description images (Refused file fault) =
     (file ≡ 1) × IsTreeRefusal limit depth form time input description images fault
 IsTreeBuildFailure limit depth form time input description images OutOfMemory =
     HasForm limit depth form
 IsTreeBuildFailure limit depth form time input description images (NotFound reason index) = ⊥
-
--- Why these elements have no images to be built.
-abbrev pub AreSpecsFailure : (input : List ℕ) → List BuildElement → Failure → Type 0
-AreSpecsFailure input images WrongArgument = ¬ (AllByRecursion (IsSpecInside input) images)
-AreSpecsFailure input images OutOfMemory = ⊤
-AreSpecsFailure input images other = ⊥

@@ -1,4 +1,4 @@
-use Rattle.std.specs.Prelude.{ℕ, ◌<◌, ◌≡◌, ◌==◌, List, [], ◌∷◌, if◌then◌else◌}
+use Rattle.std.specs.Prelude.{ℕ, ◌<◌, ◌≡◌, ◌==◌, List, [], ◌∷◌, Option, if◌then◌else◌}
 use Rattle.bi_base.specs.Limits.{IsInRange}
 use Rattle.bi_values.specs.Getting.{IsGetError, IsTextOfValues}
 use Rattle.bi_values.specs.NameWords.{AreWordsOf}
@@ -9,8 +9,11 @@ use Rattle.bi_values.specs.declared.value_form.ValueForm.{ValueForm}
 use Rattle.bi_values.specs.declared.value_form.ValueForm.TheVariants.{Shown, Text, Number, Raw}
 use Rattle.bi_c.specs.Answers.{failure_of_error}
 use Rattle.bi_c.specs.Arguments.{bounds}
+use Rattle.bi_c.specs.Checks.{IsWrong, LimitsCheck, NextCheck}
+use Rattle.bi_c.specs.declared.argument.Argument.{Argument}
+use Rattle.bi_c.specs.declared.argument.Argument.TheVariants as argument
 use Rattle.bi_c.specs.declared.failure.Failure.{Failure}
-use Rattle.bi_c.specs.declared.failure.Failure.TheVariants.{WrongArgument, Refused, OutOfMemory}
+use Rattle.bi_c.specs.declared.failure.Failure.TheVariants.{WrongArgument, OutOfMemory}
 use Rattle.bi_c.specs.declared.failure.Failure.TheVariants.{NotFound}
 
 -- What the call from C returns that gets a single value (profile of this project).
@@ -43,6 +46,19 @@ pub record HasValueForm (limit depth form : ℕ) : Type 0 where
   pub limits : IsInRange limit depth
   pub is_form : form < 4
 
+-- These are valid, and the words name one value.
+pub record HasPlace (limit depth form : ℕ) (place name : List ℕ) : Type 0 where
+  pub arguments : HasValueForm limit depth form
+  pub names : List ValueNameModel
+  pub is_one : IsOneName place name names
+
+-- The limits, the form and then the words are checked.
+abbrev pub PlaceCheck : (limit depth form : ℕ) → (place name : List ℕ)
+    → Option (Argument × ℕ) → Type 0
+PlaceCheck limit depth form place name =
+    NextCheck (NextCheck (LimitsCheck limit depth) argument.Form (HasValueForm limit depth form))
+    argument.Place (HasPlace limit depth form place name)
+
 -- The value of the file that the words name, in the form.
 pub record IsGotten (limit depth form : ℕ) (place name file text : List ℕ) (value : ℕ) : Type 0
   where
@@ -74,8 +90,8 @@ pub record IsValueFailureBy (limit depth form : ℕ) (place name file : List ℕ
 -- Why no value was written: an argument is out of its range, or the words do not name one value.
 -- Memory can run out as soon as the numbers are in their ranges.
 abbrev pub IsValueFailure : (limit depth form : ℕ) → (place name file : List ℕ) → Failure → Type 0
-IsValueFailure limit depth form place name file WrongArgument =
-    HasValueForm limit depth form → NameNothing place name
+IsValueFailure limit depth form place name file (WrongArgument found index) =
+    IsWrong (PlaceCheck limit depth form place name) found index
 IsValueFailure limit depth form place name file OutOfMemory = HasValueForm limit depth form
 IsValueFailure limit depth form place name file failure =
     IsValueFailureBy limit depth form place name file failure

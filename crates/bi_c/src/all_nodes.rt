@@ -14,6 +14,7 @@ ghost use Rattle.bi_c.specs.TreeElements.{tree_elements as elements_of_nodes};
 ghost use Rattle.bi_c.specs.TreeRegions.{HasPropertyBytes, HaveNodeBytes};
 
 use crate::answer::{Answer, fail, fill};
+use crate::argument::wrong_limit;
 use crate::arguments::limits_of;
 use crate::failure::{Failure, failure_of};
 use crate::nodes::name_region;
@@ -59,7 +60,7 @@ pub extern "C" fn bootimg_nodes(
         elements.old elements.new answer.new result }
 {
     let Some(limits) = limits_of(limit, depth) else {
-        return fail(Failure::WrongArgument, answer);
+        return fail(Failure::WrongArgument(wrong_limit(limit), 0), answer);
     };
     let fit = match Fit::read(alloc, file, limits) {
         Ok(fit) => fit,

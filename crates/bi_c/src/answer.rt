@@ -4,6 +4,7 @@ ghost use Rattle.std.specs.Prelude.{◌≡◌, ◌⊎◌, ◌++◌, ◌<◌, ◌
 ghost use Rattle.bi_c.specs.Answers.{answer_of, answer_of_failure, status_of_failure};
 ghost use Rattle.bi_c.specs.Answers.{done, no_room};
 
+use crate::argument::number_of;
 use crate::failure::Failure;
 
 /// The call succeeded.
@@ -18,7 +19,7 @@ const OUT_OF_MEMORY: u32 = 2;
 /// The buffer does not have room for the output.
 pub(crate) const NO_ROOM: u32 = 3;
 
-/// A number is not one that the argument may be.
+/// An argument is out of its range.
 const WRONG_ARGUMENT: u32 = 4;
 
 /// What the call looks for is not there.
@@ -31,7 +32,8 @@ pub struct Answer {
     /// The number of bytes of the output, even if the buffer does not have room for it.
     pub size: usize,
     /// The number that the docstring of the call names. If the reason is that an image is missing,
-    /// the index of the first name that no image has.
+    /// the index of the first name that no image has. If an array is wrong, the index of its first
+    /// wrong element.
     pub value: usize,
     /// The number of the cause for which a file is refused.
     pub cause: u32,
@@ -39,7 +41,7 @@ pub struct Answer {
     pub offset: u32,
     /// The index of the file that is refused, counted from 1.
     pub file: u32,
-    /// The number of the reason why nothing is found.
+    /// The number of the reason why nothing is found, or of the argument that is wrong.
     pub reason: u32,
 }
 
@@ -73,7 +75,11 @@ pub(crate) fn fail(failure: Failure, answer: &mut Answer) -> u32
 {
     *answer = answer_with(0, 0);
     match failure {
-        Failure::WrongArgument => WRONG_ARGUMENT,
+        Failure::WrongArgument(argument, index) => {
+            answer.reason = number_of(argument);
+            answer.value = index;
+            WRONG_ARGUMENT
+        }
         Failure::OutOfMemory => OUT_OF_MEMORY,
         Failure::Refused(file, fault) => {
             answer.cause = u32::from(fault.cause.number());

@@ -1,14 +1,16 @@
 //! Building a legacy image of pieces of the caller's memory.
 
-ghost use Rattle.std.specs.Prelude.{◌≡◌, ℕ, List, IfErr, IfNone, IfOk, IfSome, map};
+ghost use Rattle.std.specs.Prelude.{◌≡◌, ◌↔◌, ℕ, List, IfErr, IfNone, IfOk, IfSome, IsTrue, map};
 ghost use Rattle.std.specs.List.{AllByRecursion};
 ghost use Rattle.bi_base.specs.Slices.{bytes_of};
 ghost use Rattle.bi_legacy.specs.Meaning.{image_of};
 ghost use Rattle.bi_c.specs.Answers.{FillsBuffer};
+ghost use Rattle.bi_c.specs.Checks.{IsElementFailure};
 ghost use Rattle.bi_c.specs.PieceBuilding.{IsBuiltOfPieces, IsPieceInside, IsPieceBuildFailure};
-ghost use Rattle.bi_c.specs.PieceBuilding.{IsPiecesFailure, bytes_of_piece, legacy_of_pieces};
+ghost use Rattle.bi_c.specs.PieceBuilding.{bytes_of_piece, legacy_of_pieces};
 
 use crate::answer::{Answer, fail, fill};
+use crate::argument::{Argument, wrong_limit};
 use crate::arguments::limits_of;
 use crate::failure::{Failure, failure_of};
 use crate::legacy::LegacyFields;
@@ -35,12 +37,12 @@ pub extern "C" fn bootimg_build_legacy(
         buffer.old buffer.new answer.new result }
 {
     let Some(limits) = limits_of(limit, depth) else {
-        return fail(Failure::WrongArgument, answer);
+        return fail(Failure::WrongArgument(wrong_limit(limit), 0), answer);
     };
     let Some(name) = piece(input, fields.name) else {
-        return fail(Failure::WrongArgument, answer);
+        return fail(Failure::WrongArgument(Argument::Fields, 0), answer);
     };
-    let pieces = match pieces(alloc, input, parts) {
+    let pieces = match pieces(alloc, input, parts, Argument::Parts) {
         Ok(pieces) => pieces,
         Err(failure) => return fail(failure, answer),
     };
@@ -67,24 +69,26 @@ fn header_of<'a>(fields: &LegacyFields, name: &'a [u8]) -> Fields<'a>
     }
 }
 
-/// Returns the bytes of regions of an input.
+/// Returns the bytes of the regions of an input in an array, which is this argument.
 ///
 /// Errors: OutOfMemory; WrongArgument, if a region is not inside the input.
 pub(crate) fn pieces<'a>(
     alloc: Global,
     input: &'a [u8],
     regions: &[Region],
+    array: Argument,
 ) -> Result<Vec<&'a [u8]>, Failure>
     ensures inside { IfOk result (λ pieces.
         AllByRecursion (IsPieceInside input.entry.now) regions.now) }
     ensures pieces { IfOk result (λ pieces.
         bytes_of pieces.items ≡ map (bytes_of_piece input.entry.now) regions.now) }
-    ensures failed { IfErr result (IsPiecesFailure input.entry.now regions.now) }
+    ensures failed { IfErr result
+        (IsElementFailure array (IsPieceInside input.entry.now) regions.now) }
 {
     let mut pieces = Vec::new(alloc);
     for region in regions {
         let Some(bytes) = piece(input, *region) else {
-            return Err(Failure::WrongArgument);
+            return Err(Failure::WrongArgument(array, pieces.len()));
         };
         match pieces.push(bytes) {
             Ok(()) => {}
@@ -108,4 +112,11 @@ pub(crate) fn piece<'a>(input: &'a [u8], region: Region) -> Option<&'a [u8]>
         return None;
     }
     Some(&rest[..region.size])
+}
+
+/// Returns whether a region is inside an input.
+pub(crate) fn is_inside(input: &[u8], region: Region) -> bool
+    ensures { IsTrue result ↔ IsPieceInside input.now region }
+{
+    region.offset <= input.len() && region.size <= input.len() - region.offset
 }

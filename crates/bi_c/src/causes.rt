@@ -7,6 +7,7 @@ ghost use Rattle.bi_c.specs.Answers.{FillsBuffer};
 ghost use Rattle.bi_c.specs.Calls.{IsCauseName, IsCauseSentence, IsNoCause, IsVersion};
 
 use crate::answer::{Answer, fail, fill};
+use crate::argument::Argument;
 use crate::failure::Failure;
 use bi_base::Cause;
 use bi_commands::causes::sentence;
@@ -22,7 +23,7 @@ pub extern "C" fn bootimg_cause_name(number: u32, buffer: &mut [u8], answer: &mu
 {
     match cause_of(number) {
         Some(cause) => fill(cause.name().as_bytes(), 0, buffer, answer),
-        None => fail(Failure::WrongArgument, answer),
+        None => fail(Failure::WrongArgument(Argument::Number, 0), answer),
     }
 }
 
@@ -35,7 +36,7 @@ pub extern "C" fn bootimg_explain(number: u32, buffer: &mut [u8], answer: &mut A
 {
     match cause_of(number) {
         Some(cause) => fill(sentence(cause).as_bytes(), 0, buffer, answer),
-        None => fail(Failure::WrongArgument, answer),
+        None => fail(Failure::WrongArgument(Argument::Number, 0), answer),
     }
 }
 

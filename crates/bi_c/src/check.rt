@@ -2,11 +2,12 @@
 
 ghost use Rattle.bi_c.specs.Answers.{FillsBuffer, IsFailure, IsFailureBy};
 ghost use Rattle.bi_c.specs.Arguments.{bounds};
-ghost use Rattle.bi_c.specs.Calls.{IsCheckText, IsConcernsText, HasKinds};
+ghost use Rattle.bi_c.specs.Calls.{IsCheckText, IsConcernsText, KindsCheck};
 ghost use Rattle.bi_common.specs.declared.format.Format.TheVariants.{Lines, Json};
 ghost use Rattle.bi_report.specs.CheckedFiles.{IsCheckError};
 
 use crate::answer::{Answer, fail, fill};
+use crate::argument::{Argument, wrong_limit};
 use crate::arguments::{limits_of, policy_of};
 use crate::failure::{Failure, failure_of};
 use bi_base::{Limits, VecSink};
@@ -28,14 +29,14 @@ pub extern "C" fn bootimg_check(
     answer: &mut Answer,
 ) -> u32
     ensures { FillsBuffer (IsCheckText Lines limit depth kinds file.now)
-        (IsFailure (HasKinds limit depth kinds) (IsCheckError (bounds limit depth) file.now))
+        (IsFailure (KindsCheck limit depth kinds) (IsCheckError (bounds limit depth) file.now))
         buffer.old buffer.new answer.new result }
 {
     let Some(limits) = limits_of(limit, depth) else {
-        return fail(Failure::WrongArgument, answer);
+        return fail(Failure::WrongArgument(wrong_limit(limit), 0), answer);
     };
     let Some(policy) = policy_of(kinds) else {
-        return fail(Failure::WrongArgument, answer);
+        return fail(Failure::WrongArgument(Argument::Kinds, 0), answer);
     };
     let checker = Checker {
         policy,
@@ -57,14 +58,14 @@ pub extern "C" fn bootimg_check_json(
     answer: &mut Answer,
 ) -> u32
     ensures { FillsBuffer (IsCheckText Json limit depth kinds file.now)
-        (IsFailure (HasKinds limit depth kinds) (IsCheckError (bounds limit depth) file.now))
+        (IsFailure (KindsCheck limit depth kinds) (IsCheckError (bounds limit depth) file.now))
         buffer.old buffer.new answer.new result }
 {
     let Some(limits) = limits_of(limit, depth) else {
-        return fail(Failure::WrongArgument, answer);
+        return fail(Failure::WrongArgument(wrong_limit(limit), 0), answer);
     };
     let Some(policy) = policy_of(kinds) else {
-        return fail(Failure::WrongArgument, answer);
+        return fail(Failure::WrongArgument(Argument::Kinds, 0), answer);
     };
     let checker = Checker {
         policy,

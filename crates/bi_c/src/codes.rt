@@ -8,6 +8,7 @@ ghost use Rattle.bi_c.specs.CodeCalls.{IsCodeNameFailure, IsCodeNumberFailure, I
 ghost use Rattle.bi_c.specs.CodeCalls.{IsNumberOfName, names_of_field};
 
 use crate::answer::{Answer, fail, fill, succeed};
+use crate::argument::Argument;
 use crate::failure::Failure;
 use bi_legacy::codes::compression_name;
 use bi_show::show::codes::{
@@ -45,10 +46,10 @@ pub extern "C" fn bootimg_code_name(
         buffer.new answer.new result }
 {
     if field > CODE_COMPRESSION {
-        return fail(Failure::WrongArgument, answer);
+        return fail(Failure::WrongArgument(Argument::Field, 0), answer);
     }
     let Some(wanted) = code_of(code) else {
-        return fail(Failure::WrongArgument, answer);
+        return fail(Failure::WrongArgument(Argument::Code, 0), answer);
     };
     match name_in_field(field, wanted) {
         Some(name) => fill(name.as_bytes(), 0, buffer, answer),
@@ -63,7 +64,7 @@ pub extern "C" fn bootimg_code_number(field: u32, name: &[u8], answer: &mut Answ
         answer.new result }
 {
     if field > CODE_COMPRESSION {
-        return fail(Failure::WrongArgument, answer);
+        return fail(Failure::WrongArgument(Argument::Field, 0), answer);
     }
     match code_in_field(field, name) {
         Some(code) => succeed(0, usize::from(code), answer),

@@ -9,6 +9,7 @@ ghost use Rattle.bi_common.specs.declared.format.Format.TheVariants.{Lines, Json
 ghost use Rattle.bi_describe.specs.Comparing.{IsComparison, IsComparisonError, IsReadingError};
 
 use crate::answer::{Answer, fail, fill, succeed};
+use crate::argument::wrong_limit;
 use crate::arguments::limits_of;
 use crate::failure::Failure;
 use bi_commands::compare::{CompareError, Comparison, compare, compare_json, have_same_meaning};
@@ -29,7 +30,7 @@ pub extern "C" fn bootimg_same_meaning(
         answer.new result }
 {
     let Some(limits) = limits_of(limit, depth) else {
-        return fail(Failure::WrongArgument, answer);
+        return fail(Failure::WrongArgument(wrong_limit(limit), 0), answer);
     };
     match have_same_meaning(alloc, one, other, limits) {
         Ok(same) => succeed(0, usize::from(same), answer),
@@ -55,7 +56,7 @@ pub extern "C" fn bootimg_compare(
         buffer.old buffer.new answer.new result }
 {
     let Some(limits) = limits_of(limit, depth) else {
-        return fail(Failure::WrongArgument, answer);
+        return fail(Failure::WrongArgument(wrong_limit(limit), 0), answer);
     };
     fill_comparison(compare(alloc, one, other, limits), buffer, answer)
 }
@@ -78,7 +79,7 @@ pub extern "C" fn bootimg_compare_json(
         buffer.old buffer.new answer.new result }
 {
     let Some(limits) = limits_of(limit, depth) else {
-        return fail(Failure::WrongArgument, answer);
+        return fail(Failure::WrongArgument(wrong_limit(limit), 0), answer);
     };
     fill_comparison(compare_json(alloc, one, other, limits), buffer, answer)
 }

@@ -3,7 +3,7 @@
 ghost use Rattle.std.specs.Prelude.{◌≡◌, IfOk, map};
 ghost use Rattle.bi_c.specs.Answers.{FillsBuffer, IsFailure};
 ghost use Rattle.bi_c.specs.Arguments.{bounds};
-ghost use Rattle.bi_c.specs.Calls.{HasKinds};
+ghost use Rattle.bi_c.specs.Calls.{KindsCheck};
 ghost use Rattle.bi_c.specs.ConcernElements.{AreConcernElements};
 ghost use Rattle.bi_c.specs.ConcernElements.{concern_element as element_of_concern};
 ghost use Rattle.bi_c.specs.ConcernElements.{concern_number, key_number as number_of_key};
@@ -13,6 +13,7 @@ ghost use Rattle.bi_report.specs.ConcernValues.{found_value};
 ghost use Rattle.bi_report.specs.FoundConcerns.{kept_found};
 
 use crate::answer::{Answer, fail, fill};
+use crate::argument::{Argument, wrong_limit};
 use crate::arguments::{limits_of, policy_of};
 use crate::failure::{Failure, failure_of};
 use crate::nodes::name_region;
@@ -59,14 +60,14 @@ pub extern "C" fn bootimg_concerns(
     answer: &mut Answer,
 ) -> u32
     ensures { FillsBuffer (AreConcernElements limit depth kinds file.now)
-        (IsFailure (HasKinds limit depth kinds) (IsCheckError (bounds limit depth) file.now))
+        (IsFailure (KindsCheck limit depth kinds) (IsCheckError (bounds limit depth) file.now))
         concerns.old concerns.new answer.new result }
 {
     let Some(limits) = limits_of(limit, depth) else {
-        return fail(Failure::WrongArgument, answer);
+        return fail(Failure::WrongArgument(wrong_limit(limit), 0), answer);
     };
     let Some(policy) = policy_of(kinds) else {
-        return fail(Failure::WrongArgument, answer);
+        return fail(Failure::WrongArgument(Argument::Kinds, 0), answer);
     };
     let image = match CheckedImage::read(alloc, file, limits) {
         Ok(image) => image,

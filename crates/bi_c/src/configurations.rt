@@ -16,6 +16,7 @@ ghost use Rattle.bi_c.specs.FitElements.{AreReadIndices, IsListRefusal};
 ghost use Rattle.bi_c.specs.FitElements.{default_index_of, index_among};
 
 use crate::answer::{Answer, DONE, NO_ROOM, answer_with, fail};
+use crate::argument::{Argument, wrong_limit};
 use crate::arguments::{key_of, limits_of};
 use crate::failure::{Failure, failure_of, failure_of_list};
 use crate::nodes::fill_children;
@@ -41,7 +42,7 @@ pub extern "C" fn bootimg_configurations(
         names.old names.new answer.new result }
 {
     let Some(limits) = limits_of(limit, depth) else {
-        return fail(Failure::WrongArgument, answer);
+        return fail(Failure::WrongArgument(wrong_limit(limit), 0), answer);
     };
     match Fit::read(alloc, file, limits) {
         Ok(fit) => fill_children(
@@ -100,10 +101,10 @@ pub extern "C" fn bootimg_listed(
         images.old images.new answer.new result }
 {
     let Some(limits) = limits_of(limit, depth) else {
-        return fail(Failure::WrongArgument, answer);
+        return fail(Failure::WrongArgument(wrong_limit(limit), 0), answer);
     };
     let Some(listed) = key_of(key) else {
-        return fail(Failure::WrongArgument, answer);
+        return fail(Failure::WrongArgument(Argument::Key, 0), answer);
     };
     match Fit::read(alloc, file, limits) {
         Ok(fit) => list_images(alloc, &fit, name, listed, images, answer),

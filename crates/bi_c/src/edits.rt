@@ -7,6 +7,7 @@ ghost use Rattle.bi_edit.specs.declared.edit.Edit.{Edit};
 ghost use Rattle.bi_edit.specs.declared.edit.Edit.TheVariants.{SetField};
 ghost use Rattle.bi_edit.specs.declared.form_choice.FormChoice.{FormChoice};
 ghost use Rattle.bi_c.specs.Answers.{FillsBuffer, Sets};
+ghost use Rattle.bi_c.specs.Checks.{IsFirstWrong};
 ghost use Rattle.bi_c.specs.EditCalls.{AreEditNumbers, AreEditsFailure, GivesPayload};
 ghost use Rattle.bi_c.specs.EditCalls.{IsBadElement, IsEditCallFailure, IsEditElement, IsEditOf};
 ghost use Rattle.bi_c.specs.EditCalls.{IsEditText, IsEditedFile, IsSetting, edit_note_numbers};
@@ -14,7 +15,9 @@ ghost use Rattle.bi_c.specs.EditCalls.{failure_of_edit_error, number_of_choice};
 ghost use Rattle.bi_c.specs.PieceBuilding.{IsPieceInside, bytes_of_piece};
 
 use crate::answer::{Answer, fail, fill, succeed};
+use crate::argument::{Argument, wrong_limit};
 use crate::arguments::{form_of, limits_of};
+use crate::building::is_inside;
 use crate::failure::{Failure, WRONG_KIND};
 use crate::region::Region;
 use bi_base::{Error, VecSink};
@@ -167,19 +170,19 @@ fn edited_file(
     limit: u32,
     depth: u32,
 ) -> Result<EditedFile, Failure>
-    ensures made { IfOk result (λ made. IsEditedFile limit depth form input.now elements.now file.now
-        made.text.items made.notes) }
+    ensures made { IfOk result (λ made. IsEditedFile limit depth form input.now elements.now
+        file.now made.text.items made.notes) }
     ensures failed { IfErr result
         (IsEditCallFailure limit depth form input.now elements.now file.now) }
 {
     let Some(limits) = limits_of(limit, depth) else {
-        return Err(Failure::WrongArgument);
+        return Err(Failure::WrongArgument(wrong_limit(limit), 0));
     };
     let Some(choice) = choice_of(form) else {
-        return Err(Failure::WrongArgument);
+        return Err(Failure::WrongArgument(Argument::Form, 0));
     };
-    if !are_elements(input, elements) {
-        return Err(Failure::WrongArgument);
+    if let Some(index) = wrong_element(input, elements) {
+        return Err(Failure::WrongArgument(Argument::Edits, index));
     }
     let edits = match edits_of(alloc, input, elements) {
         Ok(edits) => edits,
@@ -209,16 +212,19 @@ fn choice_of(number: u32) -> Option<FormChoice>
     }
 }
 
-/// Returns whether each of these is an element of an edit.
-fn are_elements(input: &[u8], elements: &[EditElement]) -> bool
-    ensures { IsTrue result ↔ AllByRecursion (IsEditElement input.now) elements.now }
+/// Returns the index of the first of these that is not an element of an edit, if there is one.
+fn wrong_element(input: &[u8], elements: &[EditElement]) -> Option<usize>
+    ensures some { IfSome result (IsFirstWrong (IsEditElement input.now) elements.now) }
+    ensures none { IfNone result (AllByRecursion (IsEditElement input.now) elements.now) }
 {
+    let mut index = 0;
     for element in elements {
         if !is_element(input, element) {
-            return false;
+            return Some(index);
         }
+        index += 1;
     }
-    true
+    None
 }
 
 /// Returns whether this is an element of an edit: its kind is one, its regions are inside the
@@ -230,13 +236,6 @@ fn is_element(input: &[u8], element: &EditElement) -> bool
         && (element.kind < OS || element.number < 256)
         && is_inside(input, element.word)
         && is_inside(input, element.payload)
-}
-
-/// Returns whether a region is inside an input.
-fn is_inside(input: &[u8], region: Region) -> bool
-    ensures { IsTrue result ↔ IsPieceInside input.now region }
-{
-    region.offset <= input.len() && region.size <= input.len() - region.offset
 }
 
 /// Returns the bytes of a region of an input. Requires: it is inside the input.
@@ -318,7 +317,7 @@ fn setting<'a>(alloc: Global, word: &[u8]) -> Result<Option<Edit<'a>>, Error>
 }
 
 /// Returns the edit that gives the image that is printed as this word a payload. Returns None if
-/// and only if the word is no name. Fails if memory runs out.
+/// and only if the word is not a name. Fails if memory runs out.
 fn new_payload<'a>(alloc: Global, word: &[u8], payload: &'a [u8]) -> Result<Option<Edit<'a>>, Error>
     ensures some { IfOk result (λ found. IfSome found
         (GivesPayload word.now payload.entry.now)) }

@@ -5,12 +5,14 @@ ghost use Rattle.bi_base.specs.Limits.{IsInRange};
 ghost use Rattle.bi_commands.specs.declared.extract.Select.TheVariants.{Part, Image, Config};
 ghost use Rattle.bi_commands.specs.declared.extract.Select.TheVariants.{Default};
 ghost use Rattle.bi_c.specs.Answers.{Answers};
-ghost use Rattle.bi_c.specs.Arguments.{bounds, HasKey, key_of as key_of_number};
+ghost use Rattle.bi_c.specs.Arguments.{bounds, HasKey, KeyCheck, key_of as key_of_number};
+ghost use Rattle.bi_c.specs.Checks.{LimitsCheck};
 ghost use Rattle.bi_c.specs.Extracting.{IsExtracted, IsExtractCallFailure, IsFound};
 ghost use Rattle.bi_c.specs.Extracting.{IsSelectFailure};
 ghost use Rattle.bi_c.specs.Extracting.{failure_of_extract_error};
 
 use crate::answer::{Answer, fail, succeed};
+use crate::argument::{Argument, wrong_limit};
 use crate::arguments::{key_of, limits_of};
 use crate::failure::{Failure, failure_of, failure_of_list};
 use crate::regions::find;
@@ -32,11 +34,11 @@ pub extern "C" fn bootimg_extract_part(
 ) -> u32
     ensures { Answers
         (IsExtracted (IsInRange limit depth) (bounds limit depth) (Part index) file.now)
-        (IsExtractCallFailure (IsInRange limit depth) (bounds limit depth) (Part index) file.now)
+        (IsExtractCallFailure (LimitsCheck limit depth) (bounds limit depth) (Part index) file.now)
         answer.new result }
 {
     let Some(limits) = limits_of(limit, depth) else {
-        return fail(Failure::WrongArgument, answer);
+        return fail(Failure::WrongArgument(wrong_limit(limit), 0), answer);
     };
     extract(alloc, file, Select::Part(index), limits, answer)
 }
@@ -55,12 +57,12 @@ pub extern "C" fn bootimg_extract_image(
 ) -> u32
     ensures { Answers
         (IsExtracted (IsInRange limit depth) (bounds limit depth) (Image name.entry) file.now)
-        (IsExtractCallFailure (IsInRange limit depth) (bounds limit depth) (Image name.entry)
+        (IsExtractCallFailure (LimitsCheck limit depth) (bounds limit depth) (Image name.entry)
         file.now)
         answer.new result }
 {
     let Some(limits) = limits_of(limit, depth) else {
-        return fail(Failure::WrongArgument, answer);
+        return fail(Failure::WrongArgument(wrong_limit(limit), 0), answer);
     };
     extract(alloc, file, Select::Image(name), limits, answer)
 }
@@ -82,14 +84,14 @@ pub extern "C" fn bootimg_extract_config(
 ) -> u32
     ensures { let select = Config name.entry (key_of_number key) index in Answers
         (IsExtracted (HasKey limit depth key) (bounds limit depth) select file.now)
-        (IsExtractCallFailure (HasKey limit depth key) (bounds limit depth) select file.now)
+        (IsExtractCallFailure (KeyCheck limit depth key) (bounds limit depth) select file.now)
         answer.new result }
 {
     let Some(limits) = limits_of(limit, depth) else {
-        return fail(Failure::WrongArgument, answer);
+        return fail(Failure::WrongArgument(wrong_limit(limit), 0), answer);
     };
     let Some(listed) = key_of(key) else {
-        return fail(Failure::WrongArgument, answer);
+        return fail(Failure::WrongArgument(Argument::Key, 0), answer);
     };
     extract(
         alloc,
@@ -115,14 +117,14 @@ pub extern "C" fn bootimg_extract_default(
 ) -> u32
     ensures { let select = Default (key_of_number key) index in Answers
         (IsExtracted (HasKey limit depth key) (bounds limit depth) select file.now)
-        (IsExtractCallFailure (HasKey limit depth key) (bounds limit depth) select file.now)
+        (IsExtractCallFailure (KeyCheck limit depth key) (bounds limit depth) select file.now)
         answer.new result }
 {
     let Some(limits) = limits_of(limit, depth) else {
-        return fail(Failure::WrongArgument, answer);
+        return fail(Failure::WrongArgument(wrong_limit(limit), 0), answer);
     };
     let Some(chosen) = key_of(key) else {
-        return fail(Failure::WrongArgument, answer);
+        return fail(Failure::WrongArgument(Argument::Key, 0), answer);
     };
     extract(alloc, file, Select::Default(chosen, index), limits, answer)
 }

@@ -4,6 +4,7 @@ ghost use Rattle.std.specs.Prelude.{◌≡◌};
 ghost use Rattle.bi_c.specs.Answers.{failure_of_error};
 ghost use Rattle.bi_c.specs.FitElements.{failure_of_list_error};
 
+use crate::argument::Argument;
 use bi_base::{Error, Fault};
 use bi_fit::ConfigError;
 
@@ -19,8 +20,9 @@ pub(crate) const NO_PROPERTY: u32 = 11;
 /// Why a call fails.
 #[derive(Clone, Copy)]
 pub(crate) enum Failure {
-    /// An argument is out of its range.
-    WrongArgument,
+    /// An argument is out of its range, and, if it is an array, the index of the first element that
+    /// is. Otherwise the index is 0.
+    WrongArgument(Argument, usize),
     /// A file is refused: its index, counted from 1, and why.
     Refused(u32, Fault),
     /// An allocation failed.

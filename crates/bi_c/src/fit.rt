@@ -8,6 +8,7 @@ ghost use Rattle.bi_c.specs.FitElements.{AreFitFields, AreReservationElements};
 ghost use Rattle.bi_c.specs.FitElements.{element_of_reservation};
 
 use crate::answer::{Answer, DONE, NO_ROOM, answer_with, fail, succeed};
+use crate::argument::wrong_limit;
 use crate::arguments::limits_of;
 use crate::failure::{Failure, failure_of};
 use bi_fdt::Blob;
@@ -49,7 +50,7 @@ pub extern "C" fn bootimg_fit(
         fields.old fields.new answer.new result }
 {
     let Some(limits) = limits_of(limit, depth) else {
-        return fail(Failure::WrongArgument, answer);
+        return fail(Failure::WrongArgument(wrong_limit(limit), 0), answer);
     };
     match Fit::read(alloc, file, limits) {
         Ok(fit) => {
@@ -88,7 +89,7 @@ pub extern "C" fn bootimg_reservations(
         reservations.old reservations.new answer.new result }
 {
     let Some(limits) = limits_of(limit, depth) else {
-        return fail(Failure::WrongArgument, answer);
+        return fail(Failure::WrongArgument(wrong_limit(limit), 0), answer);
     };
     match Fit::read(alloc, file, limits) {
         Ok(fit) => fill_reservations(fit.blob(), reservations, answer),

@@ -3,11 +3,14 @@
 ghost use Rattle.std.specs.Prelude.{◌≡◌, IfErr, IfNone, IfOk, IfSome};
 ghost use Rattle.std.specs.List.{AllZip};
 ghost use Rattle.bi_c.specs.Answers.{FillsBuffer};
-ghost use Rattle.bi_c.specs.TreeBuilding.{AreSpecsFailure, IsSpecInside, IsSpecOf};
+ghost use Rattle.bi_c.specs.Checks.{IsElementFailure};
+ghost use Rattle.bi_c.specs.declared.argument.Argument.TheVariants.{Images};
+ghost use Rattle.bi_c.specs.TreeBuilding.{IsSpecInside, IsSpecOf};
 ghost use Rattle.bi_c.specs.TreeBuilding.{IsTreeBuildFailure, IsTreeOfPieces};
 ghost use Rattle.bi_c.specs.TreeBuilding.{address_if as chosen_address};
 
 use crate::answer::{Answer, fail, fill};
+use crate::argument::{Argument, wrong_limit};
 use crate::arguments::{form_of, has_bit, limits_of};
 use crate::building::piece;
 use crate::failure::{Failure, failure_of};
@@ -62,10 +65,10 @@ pub extern "C" fn bootimg_build_fit(
         buffer.old buffer.new answer.new result }
 {
     let Some(limits) = limits_of(limit, depth) else {
-        return fail(Failure::WrongArgument, answer);
+        return fail(Failure::WrongArgument(wrong_limit(limit), 0), answer);
     };
     let Some(kind) = form_of(form) else {
-        return fail(Failure::WrongArgument, answer);
+        return fail(Failure::WrongArgument(Argument::Form, 0), answer);
     };
     let specs = match specs_of(alloc, input, images) {
         Ok(specs) => specs,
@@ -89,12 +92,13 @@ pub(crate) fn specs_of<'a>(
 ) -> Result<Vec<ImageSpec<'a>>, Failure>
     ensures specs { IfOk result
         (λ specs. AllZip (IsSpecOf input.entry.now) images.now specs.items) }
-    ensures failed { IfErr result (AreSpecsFailure input.entry.now images.now) }
+    ensures failed { IfErr result
+        (IsElementFailure Images (IsSpecInside input.entry.now) images.now) }
 {
     let mut specs = Vec::new(alloc);
     for image in images {
         let Some(spec) = spec_of(input, *image) else {
-            return Err(Failure::WrongArgument);
+            return Err(Failure::WrongArgument(Argument::Images, specs.len()));
         };
         match specs.push(spec) {
             Ok(()) => {}

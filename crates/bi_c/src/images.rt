@@ -14,6 +14,7 @@ ghost use Rattle.bi_c.specs.ImageElements.{AreImageElements, element_of_image, i
 ghost use Rattle.bi_c.specs.ImageElements.{place_number};
 
 use crate::answer::{Answer, DONE, NO_ROOM, answer_with, fail};
+use crate::argument::wrong_limit;
 use crate::arguments::limits_of;
 use crate::failure::{Failure, failure_of};
 use crate::region::Region;
@@ -50,7 +51,7 @@ pub extern "C" fn bootimg_images(
         images.old images.new answer.new result }
 {
     let Some(limits) = limits_of(limit, depth) else {
-        return fail(Failure::WrongArgument, answer);
+        return fail(Failure::WrongArgument(wrong_limit(limit), 0), answer);
     };
     match Fit::read(alloc, file, limits) {
         Ok(fit) => fill_images(&fit, images, answer),

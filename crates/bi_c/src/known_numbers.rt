@@ -5,6 +5,7 @@ ghost use Rattle.bi_c.specs.KnownNumbers.{StatusNumbersAreKnown, AnswersAreKnown
 ghost use Rattle.bi_c.specs.KnownNumbers.{ReasonsAreKnown, ExtractFailuresAreKnown};
 ghost use Rattle.bi_c.specs.KnownNumbers.{NodeReasonsAreKnown, ValuesAreKnown, ArgumentsAreKnown};
 ghost use Rattle.bi_c.specs.KnownNumbers.{AllowedBitsAreKnown, ValueFailuresAreKnown};
+ghost use Rattle.bi_c.specs.KnownNumbers.{ArgumentNumbersAreKnown};
 
 /// The statuses are the numbers of the header.
 pub fn status_numbers_are_known()
@@ -14,6 +15,11 @@ pub fn status_numbers_are_known()
 /// The struct has known numbers after an output and after each failure.
 pub fn answers_are_known()
     ensures { AnswersAreKnown }
+{}
+
+/// The numbers of the arguments are those of the header.
+pub fn argument_numbers_are_known()
+    ensures { ArgumentNumbersAreKnown }
 {}
 
 /// The reasons why nothing is extracted are the numbers of the header.

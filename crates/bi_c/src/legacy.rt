@@ -8,6 +8,7 @@ ghost use Rattle.bi_c.specs.LegacyElements.{ArePartRegions, AreLegacyFields, IsL
 ghost use Rattle.bi_c.specs.LegacyElements.{fields_of_image, region_of_part};
 
 use crate::answer::{Answer, DONE, NO_ROOM, answer_with, fail, succeed};
+use crate::argument::wrong_limit;
 use crate::arguments::limits_of;
 use crate::failure::Failure;
 use crate::region::Region;
@@ -49,7 +50,7 @@ pub extern "C" fn bootimg_legacy(
         fields.old fields.new answer.new result }
 {
     let Some(limits) = limits_of(limit, depth) else {
-        return fail(Failure::WrongArgument, answer);
+        return fail(Failure::WrongArgument(wrong_limit(limit), 0), answer);
     };
     match Legacy::read(file, limits) {
         Ok(image) => {
@@ -95,7 +96,7 @@ pub extern "C" fn bootimg_parts(
         parts.old parts.new answer.new result }
 {
     let Some(limits) = limits_of(limit, depth) else {
-        return fail(Failure::WrongArgument, answer);
+        return fail(Failure::WrongArgument(wrong_limit(limit), 0), answer);
     };
     match Legacy::read(file, limits) {
         Ok(image) => fill_parts(&image, parts, answer),

@@ -4,6 +4,7 @@
 
 mod all_nodes;
 mod answer;
+mod argument;
 mod arguments;
 mod building;
 mod causes;

@@ -9,6 +9,7 @@ ghost use Rattle.bi_c.specs.NodeElements.{AreChildRegions, IsNodeFailure};
 ghost use Rattle.bi_c.specs.TreeRegions.{children_of_found, name_region_of};
 
 use crate::answer::{Answer, DONE, NO_ROOM, answer_with, fail};
+use crate::argument::wrong_limit;
 use crate::arguments::limits_of;
 use crate::failure::{Failure, NO_NODE, failure_of};
 use crate::paths::node_at;
@@ -33,7 +34,7 @@ pub extern "C" fn bootimg_children(
         (IsNodeFailure limit depth file.now path.now) names.old names.new answer.new result }
 {
     let Some(limits) = limits_of(limit, depth) else {
-        return fail(Failure::WrongArgument, answer);
+        return fail(Failure::WrongArgument(wrong_limit(limit), 0), answer);
     };
     let fit = match Fit::read(alloc, file, limits) {
         Ok(fit) => fit,

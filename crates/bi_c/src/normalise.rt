@@ -9,6 +9,7 @@ ghost use Rattle.bi_c.specs.Answers.{FillsBuffer, IsFailureBy};
 ghost use Rattle.bi_c.specs.Calls.{IsNormalised, IsNormaliseFailure};
 
 use crate::answer::{Answer, fail};
+use crate::argument::{Argument, wrong_limit};
 use crate::arguments::{form_of, limits_of};
 use crate::failure::{Failure, failure_of};
 use crate::writing::{write_legacy, write_tree};
@@ -35,10 +36,10 @@ pub extern "C" fn bootimg_normalise(
         (IsNormaliseFailure limit depth form file.now) buffer.old buffer.new answer.new result }
 {
     let Some(limits) = limits_of(limit, depth) else {
-        return fail(Failure::WrongArgument, answer);
+        return fail(Failure::WrongArgument(wrong_limit(limit), 0), answer);
     };
     let Some(kind) = form_of(form) else {
-        return fail(Failure::WrongArgument, answer);
+        return fail(Failure::WrongArgument(Argument::Form, 0), answer);
     };
     match BootImage::read(alloc, file, limits) {
         Ok(BootImage::Legacy(image)) => {

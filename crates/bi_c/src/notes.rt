@@ -6,6 +6,7 @@ ghost use Rattle.bi_c.specs.Calls.{IsUpdateFailure};
 ghost use Rattle.bi_c.specs.NoteNumbers.{AreNotes, note_numbers};
 
 use crate::answer::{Answer, fail, succeed};
+use crate::argument::{Argument, wrong_limit};
 use crate::arguments::{form_of, limits_of};
 use crate::failure::{Failure, failure_of};
 use crate::update::changes_of;
@@ -45,13 +46,13 @@ pub extern "C" fn bootimg_notes(
         result }
 {
     let Some(limits) = limits_of(limit, depth) else {
-        return fail(Failure::WrongArgument, answer);
+        return fail(Failure::WrongArgument(wrong_limit(limit), 0), answer);
     };
     let Some(kind) = form_of(form) else {
-        return fail(Failure::WrongArgument, answer);
+        return fail(Failure::WrongArgument(Argument::Form, 0), answer);
     };
     let Some(wanted) = changes_of(changes, time) else {
-        return fail(Failure::WrongArgument, answer);
+        return fail(Failure::WrongArgument(Argument::Changes, 0), answer);
     };
     let mut sink = VecSink::new(alloc);
     match update_with_kept(alloc, file, wanted, kind, limits, &mut sink) {

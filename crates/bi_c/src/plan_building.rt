@@ -2,25 +2,31 @@
 //! the caller's memory.
 
 ghost use Rattle.std.specs.Prelude.{◌≡◌, ◌+◌, ◌≤◌, ◌<◌, ◌↔◌, List, IfErr, IfNone, IfOk, IfSome};
-ghost use Rattle.std.specs.Prelude.{IsSome, drop, length, map, take};
+ghost use Rattle.std.specs.Prelude.{IsSome, IsTrue, drop, length, map, take};
 ghost use Rattle.std.specs.List.{AllByRecursion};
 ghost use Rattle.std.specs.Option.{option_map};
 ghost use Rattle.bi_base.specs.Slices.{bytes_of};
 ghost use Rattle.bi_norm.specs.FitBuilding.{descriptions_models, image_texts_model, texts_models};
 ghost use Rattle.bi_c.specs.Answers.{FillsBuffer};
+ghost use Rattle.bi_c.specs.Checks.{IsElementFailure, IsWrong};
 ghost use Rattle.bi_c.specs.PieceBuilding.{IsPieceInside, bytes_of_piece};
-ghost use Rattle.bi_c.specs.PlanBuilding.{AreConfigurationsOf, AreOptions, ArePlanParts, ArePieces};
-ghost use Rattle.bi_c.specs.PlanBuilding.{AreSettingsOf, AreTextsInside, IsConfigurationInside};
-ghost use Rattle.bi_c.specs.PlanBuilding.{IsConfigurationOf, IsElementFailure, IsPlanFailure};
-ghost use Rattle.bi_c.specs.PlanBuilding.{IsPlannedTree, PlanPieces, description_if_given};
+ghost use Rattle.bi_c.specs.PlanBuilding.{AreConfigurationsOf, AreOptions, AreOtherOptions};
+ghost use Rattle.bi_c.specs.PlanBuilding.{ArePlanParts, AreSettingsOf, AreTextsInside};
+ghost use Rattle.bi_c.specs.PlanBuilding.{IsConfigurationInside, IsConfigurationOf, IsPlanFailure};
+ghost use Rattle.bi_c.specs.PlanBuilding.{IsPlannedTree, OptionsCheck, PlanPieces};
+ghost use Rattle.bi_c.specs.PlanBuilding.{description_if_given};
 ghost use Rattle.bi_c.specs.PlanBuilding.{algorithm_of as algorithm_with, piece_if_given};
 ghost use Rattle.bi_c.specs.PlanBuilding.{pieces_of_call, texts_if_given};
+ghost use Rattle.bi_c.specs.declared.argument.Argument.TheVariants.{Algorithms, Configurations};
+ghost use Rattle.bi_c.specs.declared.argument.Argument.TheVariants.{Texts};
+ghost use Rattle.bi_c.specs.declared.failure.Failure.TheVariants.{OutOfMemory};
 ghost use Rattle.bi_c.specs.declared.plan_building.BuildOptions.{BuildOptions as OptionsModel};
 ghost use Rattle.bi_c.specs.declared.region.Region.{Region as RegionModel};
 
 use crate::answer::{Answer, fail, fill};
+use crate::argument::{Argument, wrong_limit};
 use crate::arguments::{form_of, has_bit, limits_of};
-use crate::building::{piece, pieces};
+use crate::building::{is_inside, piece, pieces};
 use crate::failure::{Failure, failure_of};
 use crate::fit_building::{BuildElement, specs_of};
 use crate::region::Region;
@@ -209,7 +215,7 @@ fn build_planned(
         (IsPlanFailure (pieces_of_call input.now options.now arrays.entry)) }
 {
     let Some(settings) = settings_of(input, options) else {
-        return Err(Failure::WrongArgument);
+        return Err(Failure::WrongArgument(wrong_option(input, options), 0));
     };
     let parts = parts_of(alloc, input, arrays)?;
     let configurations = configurations_of(alloc, input, &parts.lists, arrays.configurations)?;
@@ -251,6 +257,30 @@ fn settings_of<'a>(input: &'a [u8], options: &BuildOptions) -> Option<Settings<'
     })
 }
 
+/// Returns the first argument of these options that is wrong, if one is.
+fn wrong_option(input: &[u8], options: &BuildOptions) -> Argument
+    ensures { ¬ (AreOptions input.now options.now) →
+        IsWrong (OptionsCheck input.now options.now) result 0 }
+{
+    if !are_other_options(input, options) {
+        return Argument::Options;
+    }
+    if limits_of(options.limit, options.depth).is_none() {
+        return wrong_limit(options.limit);
+    }
+    Argument::Form
+}
+
+/// Returns whether what these options have besides the limits and the form is valid.
+fn are_other_options(input: &[u8], options: &BuildOptions) -> bool
+    ensures { IsTrue result ↔ AreOtherOptions input.now options.now }
+{
+    options.size == OPTIONS_SIZE
+        && options.given < 2
+        && is_inside(input, options.description)
+        && is_inside(input, options.default_name)
+}
+
 /// Returns what the elements of these arrays give, except the configurations.
 ///
 /// Errors: WrongArgument, if an element is not valid; OutOfMemory.
@@ -261,14 +291,14 @@ fn parts_of<'a>(
 ) -> Result<PlanParts<'a>, Failure>
     ensures parts { IfOk result (ArePlanParts input.entry.now arrays.entry) }
     ensures failed { IfErr result (λ failure. (options : OptionsModel) →
-        IsElementFailure (ArePieces (pieces_of_call input.entry.now options arrays.entry))
-        failure) }
+        AreOptions input.entry.now options →
+        IsPlanFailure (pieces_of_call input.entry.now options arrays.entry) failure) }
 {
     Ok(PlanParts {
         images: specs_of(alloc, input, arrays.images)?,
         texts: texts_of(alloc, input, arrays.texts)?,
         descriptions: descriptions_of(alloc, input, arrays.texts)?,
-        lists: pieces(alloc, input, arrays.lists)?,
+        lists: pieces(alloc, input, arrays.lists, Argument::Lists)?,
         algorithms: algorithms_of(alloc, arrays.algorithms)?,
     })
 }
@@ -286,12 +316,12 @@ fn texts_of<'a>(
     ensures texts { IfOk result (λ texts.
         texts_models texts.items ≡ map (texts_if_given input.entry.now) elements.now) }
     ensures failed { IfErr result
-        (IsElementFailure (AllByRecursion (AreTextsInside input.entry.now) elements.now)) }
+        (IsElementFailure Texts (AreTextsInside input.entry.now) elements.now) }
 {
     let mut texts = Vec::new(alloc);
     for element in elements {
         let Some(given) = texts_if(input, *element) else {
-            return Err(Failure::WrongArgument);
+            return Err(Failure::WrongArgument(Argument::Texts, texts.len()));
         };
         match texts.push(given) {
             Ok(()) => {}
@@ -336,13 +366,13 @@ fn descriptions_of<'a>(
 ) -> Result<Vec<Option<&'a [u8]>>, Failure>
     ensures descriptions { IfOk result (λ descriptions. descriptions_models descriptions.items
         ≡ map (description_if_given input.entry.now) elements.now) }
-    ensures failed { IfErr result
-        (IsElementFailure (AllByRecursion (AreTextsInside input.entry.now) elements.now)) }
+    ensures failed { IfErr result (λ failure.
+        AllByRecursion (AreTextsInside input.entry.now) elements.now → failure ≡ OutOfMemory) }
 {
     let mut descriptions = Vec::new(alloc);
     for element in elements {
         let Some(given) = piece_if(has_bit(1, element.given), input, element.description) else {
-            return Err(Failure::WrongArgument);
+            return Err(Failure::WrongArgument(Argument::Texts, descriptions.len()));
         };
         match descriptions.push(given) {
             Ok(()) => {}
@@ -382,14 +412,13 @@ fn configurations_of<'r>(
         AreConfigurationsOf input.entry.now lists elements.now configurations.items) }
     ensures failed { IfErr result (λ failure. (lists : List RegionModel) →
         bytes_of pieces.entry.now ≡ map (bytes_of_piece input.entry.now) lists →
-        IsElementFailure
-        (AllByRecursion (IsConfigurationInside input.entry.now lists) elements.now)
+        IsElementFailure Configurations (IsConfigurationInside input.entry.now lists) elements.now
         failure) }
 {
     let mut configurations = Vec::new(alloc);
     for element in elements {
         let Some(configuration) = configuration_of(input, pieces, element) else {
-            return Err(Failure::WrongArgument);
+            return Err(Failure::WrongArgument(Argument::Configurations, configurations.len()));
         };
         match configurations.push(configuration) {
             Ok(()) => {}
@@ -455,12 +484,12 @@ fn algorithms_of(alloc: Global, numbers: &[u32]) -> Result<Vec<Algo>, Failure>
     ensures algorithms { IfOk result (λ algorithms.
         algorithms.items ≡ map algorithm_with numbers.now) }
     ensures failed { IfErr result
-        (IsElementFailure (AllByRecursion (λ number. number < 6) numbers.now)) }
+        (IsElementFailure Algorithms (λ number. number < 6) numbers.now) }
 {
     let mut algorithms = Vec::new(alloc);
     for number in numbers {
         let Some(algorithm) = algorithm_of(*number) else {
-            return Err(Failure::WrongArgument);
+            return Err(Failure::WrongArgument(Argument::Algorithms, algorithms.len()));
         };
         match algorithms.push(algorithm) {
             Ok(()) => {}

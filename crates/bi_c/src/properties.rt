@@ -10,6 +10,7 @@ ghost use Rattle.bi_c.specs.NodeElements.{IsValueAt, element_of_property};
 ghost use Rattle.bi_c.specs.TreeRegions.{HasPropertyBytes};
 
 use crate::answer::{Answer, DONE, NO_ROOM, answer_with, fail, succeed};
+use crate::argument::wrong_limit;
 use crate::arguments::limits_of;
 use crate::failure::{Failure, NO_NODE, NO_PROPERTY, failure_of};
 use crate::paths::node_at;
@@ -49,7 +50,7 @@ pub extern "C" fn bootimg_properties(
         properties.old properties.new answer.new result }
 {
     let Some(limits) = limits_of(limit, depth) else {
-        return fail(Failure::WrongArgument, answer);
+        return fail(Failure::WrongArgument(wrong_limit(limit), 0), answer);
     };
     let fit = match Fit::read(alloc, file, limits) {
         Ok(fit) => fit,
@@ -78,7 +79,7 @@ pub extern "C" fn bootimg_property_value(
         (IsPropertyFailure limit depth file.now path.now name.now) answer.new result }
 {
     let Some(limits) = limits_of(limit, depth) else {
-        return fail(Failure::WrongArgument, answer);
+        return fail(Failure::WrongArgument(wrong_limit(limit), 0), answer);
     };
     let fit = match Fit::read(alloc, file, limits) {
         Ok(fit) => fit,

@@ -6,6 +6,7 @@ ghost use Rattle.bi_common.specs.declared.format.Format.TheVariants.{Json, Lines
 ghost use Rattle.bi_report.specs.Scanning.{IsScanError, IsScanText};
 
 use crate::answer::{Answer, fail};
+use crate::argument::wrong_limit;
 use crate::arguments::limits_of;
 use crate::failure::Failure;
 use crate::texts::fill_text;
@@ -29,7 +30,7 @@ pub extern "C" fn bootimg_scan(
         buffer.old buffer.new answer.new result }
 {
     let Some(limits) = limits_of(limit, depth) else {
-        return fail(Failure::WrongArgument, answer);
+        return fail(Failure::WrongArgument(wrong_limit(limit), 0), answer);
     };
     fill_text(scan(alloc, file, limits), buffer, answer)
 }
@@ -51,7 +52,7 @@ pub extern "C" fn bootimg_scan_json(
         buffer.old buffer.new answer.new result }
 {
     let Some(limits) = limits_of(limit, depth) else {
-        return fail(Failure::WrongArgument, answer);
+        return fail(Failure::WrongArgument(wrong_limit(limit), 0), answer);
     };
     fill_text(scan_json(alloc, file, limits), buffer, answer)
 }

@@ -6,6 +6,7 @@ ghost use Rattle.bi_report.specs.CheckedFiles.{IsCheckError};
 ghost use Rattle.bi_show.specs.ShownObjects.{IsShownObject};
 
 use crate::answer::{Answer, fail};
+use crate::argument::{Argument, wrong_limit};
 use crate::arguments::{limits_of, yes_of};
 use crate::failure::Failure;
 use crate::texts::fill_text;
@@ -28,10 +29,10 @@ pub extern "C" fn bootimg_show(
         (IsPageFailure limit depth layout file.now) buffer.old buffer.new answer.new result }
 {
     let Some(limits) = limits_of(limit, depth) else {
-        return fail(Failure::WrongArgument, answer);
+        return fail(Failure::WrongArgument(wrong_limit(limit), 0), answer);
     };
     let Some(has_layout) = yes_of(layout) else {
-        return fail(Failure::WrongArgument, answer);
+        return fail(Failure::WrongArgument(Argument::Layout, 0), answer);
     };
     fill_text(show(alloc, file, has_layout, limits), buffer, answer)
 }
@@ -53,7 +54,7 @@ pub extern "C" fn bootimg_show_json(
         buffer.old buffer.new answer.new result }
 {
     let Some(limits) = limits_of(limit, depth) else {
-        return fail(Failure::WrongArgument, answer);
+        return fail(Failure::WrongArgument(wrong_limit(limit), 0), answer);
     };
     fill_text(show_json(alloc, file, limits), buffer, answer)
 }

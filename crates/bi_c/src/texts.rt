@@ -6,15 +6,18 @@ ghost use Rattle.bi_c.specs.Calls.{IsTextOnly, IsTextWithFlag, IsFailureOfOne, f
 ghost use Rattle.bi_common.specs.declared.format.Format.TheVariants.{Lines, Json};
 ghost use Rattle.bi_report.specs.ListedFiles.{IsListing};
 ghost use Rattle.bi_report.specs.VerifiedFiles.{IsVerifyOutput};
+ghost use Rattle.bi_describe.specs.DeepDescribing.{IsDeepDescribeError, IsDeepDescription};
 ghost use Rattle.bi_describe.specs.Describing.{IsDescription, IsDescribeError};
 ghost use Rattle.bi_norm.specs.Converting.{IsConvertedFile, IsConvertError};
 ghost use Rattle.bi_norm.specs.Reading.{IsBootImageReadError};
 
 use crate::answer::{Answer, fail, fill};
+use crate::argument::wrong_limit;
 use crate::arguments::limits_of;
 use crate::failure::{Failure, failure_of};
 use bi_base::Error;
-use bi_commands::describe::{describe, describe_json};
+use bi_commands::describe::{describe, describe_deep, describe_json};
+use bi_commands::format::Format;
 use bi_commands::list::{listing, listing_json};
 use bi_commands::verify::{Report, verify, verify_json};
 use bi_norm::convert;
@@ -36,7 +39,7 @@ pub extern "C" fn bootimg_list(
         buffer.old buffer.new answer.new result }
 {
     let Some(limits) = limits_of(limit, depth) else {
-        return fail(Failure::WrongArgument, answer);
+        return fail(Failure::WrongArgument(wrong_limit(limit), 0), answer);
     };
     fill_text(listing(alloc, file, limits), buffer, answer)
 }
@@ -57,7 +60,7 @@ pub extern "C" fn bootimg_list_json(
         buffer.old buffer.new answer.new result }
 {
     let Some(limits) = limits_of(limit, depth) else {
-        return fail(Failure::WrongArgument, answer);
+        return fail(Failure::WrongArgument(wrong_limit(limit), 0), answer);
     };
     fill_text(listing_json(alloc, file, limits), buffer, answer)
 }
@@ -78,7 +81,7 @@ pub extern "C" fn bootimg_describe(
         buffer.old buffer.new answer.new result }
 {
     let Some(limits) = limits_of(limit, depth) else {
-        return fail(Failure::WrongArgument, answer);
+        return fail(Failure::WrongArgument(wrong_limit(limit), 0), answer);
     };
     fill_text(describe(alloc, file, limits), buffer, answer)
 }
@@ -100,9 +103,63 @@ pub extern "C" fn bootimg_describe_json(
         buffer.old buffer.new answer.new result }
 {
     let Some(limits) = limits_of(limit, depth) else {
-        return fail(Failure::WrongArgument, answer);
+        return fail(Failure::WrongArgument(wrong_limit(limit), 0), answer);
     };
     fill_text(describe_json(alloc, file, limits), buffer, answer)
+}
+
+/// Writes the deep description of what a file means to a buffer: with the devicetrees inside its
+/// payloads. Returns the status.
+#[unsafe(no_mangle)]
+pub extern "C" fn bootimg_describe_deep(
+    alloc: Global,
+    file: &[u8],
+    limit: u32,
+    depth: u32,
+    buffer: &mut [u8],
+    answer: &mut Answer,
+) -> u32
+    ensures { FillsBuffer
+        (IsTextOnly limit depth (λ limits text. IsDeepDescription Lines limits file.now text))
+        (IsFailureOfOne limit depth
+        (λ limits error. IsDeepDescribeError Lines limits file.now error))
+        buffer.old buffer.new answer.new result }
+{
+    let Some(limits) = limits_of(limit, depth) else {
+        return fail(Failure::WrongArgument(wrong_limit(limit), 0), answer);
+    };
+    fill_text(
+        describe_deep(alloc, file, limits, Format::Lines),
+        buffer,
+        answer,
+    )
+}
+
+/// Writes the deep description of what a file means as one text of JSON and a newline to a buffer.
+/// Returns the status.
+#[unsafe(no_mangle)]
+pub extern "C" fn bootimg_describe_deep_json(
+    alloc: Global,
+    file: &[u8],
+    limit: u32,
+    depth: u32,
+    buffer: &mut [u8],
+    answer: &mut Answer,
+) -> u32
+    ensures { FillsBuffer
+        (IsTextOnly limit depth (λ limits text. IsDeepDescription Json limits file.now text))
+        (IsFailureOfOne limit depth
+        (λ limits error. IsDeepDescribeError Json limits file.now error))
+        buffer.old buffer.new answer.new result }
+{
+    let Some(limits) = limits_of(limit, depth) else {
+        return fail(Failure::WrongArgument(wrong_limit(limit), 0), answer);
+    };
+    fill_text(
+        describe_deep(alloc, file, limits, Format::Json),
+        buffer,
+        answer,
+    )
 }
 
 /// Writes the text that a call on a file made to a buffer, and the answer. Returns the status.
@@ -134,7 +191,7 @@ pub extern "C" fn bootimg_verify(
         buffer.old buffer.new answer.new result }
 {
     let Some(limits) = limits_of(limit, depth) else {
-        return fail(Failure::WrongArgument, answer);
+        return fail(Failure::WrongArgument(wrong_limit(limit), 0), answer);
     };
     fill_report(verify(alloc, file, limits), buffer, answer)
 }
@@ -157,7 +214,7 @@ pub extern "C" fn bootimg_verify_json(
         buffer.old buffer.new answer.new result }
 {
     let Some(limits) = limits_of(limit, depth) else {
-        return fail(Failure::WrongArgument, answer);
+        return fail(Failure::WrongArgument(wrong_limit(limit), 0), answer);
     };
     fill_report(verify_json(alloc, file, limits), buffer, answer)
 }
@@ -195,7 +252,7 @@ pub extern "C" fn bootimg_convert(
         buffer.old buffer.new answer.new result }
 {
     let Some(limits) = limits_of(limit, depth) else {
-        return fail(Failure::WrongArgument, answer);
+        return fail(Failure::WrongArgument(wrong_limit(limit), 0), answer);
     };
     match convert(alloc, file, limits) {
         Ok(text) => fill(&text, 0, buffer, answer),

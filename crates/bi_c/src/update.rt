@@ -6,6 +6,7 @@ ghost use Rattle.bi_c.specs.Arguments.{changes_of as changes_of_numbers};
 ghost use Rattle.bi_c.specs.Calls.{IsUpdatedText, IsUpdateFailure};
 
 use crate::answer::{Answer, fail, fill};
+use crate::argument::{Argument, wrong_limit};
 use crate::arguments::{form_of, has_bit, limits_of};
 use crate::failure::{Failure, failure_of};
 use bi_base::VecSink;
@@ -33,13 +34,13 @@ pub extern "C" fn bootimg_update(
         result }
 {
     let Some(limits) = limits_of(limit, depth) else {
-        return fail(Failure::WrongArgument, answer);
+        return fail(Failure::WrongArgument(wrong_limit(limit), 0), answer);
     };
     let Some(kind) = form_of(form) else {
-        return fail(Failure::WrongArgument, answer);
+        return fail(Failure::WrongArgument(Argument::Form, 0), answer);
     };
     let Some(wanted) = changes_of(changes, time) else {
-        return fail(Failure::WrongArgument, answer);
+        return fail(Failure::WrongArgument(Argument::Changes, 0), answer);
     };
     let mut sink = VecSink::new(alloc);
     match update_into(alloc, file, wanted, kind, limits, &mut sink) {

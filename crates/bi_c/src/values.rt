@@ -10,6 +10,7 @@ ghost use Rattle.bi_c.specs.ValueCalls.{failure_of_get_error, words_of_place};
 ghost use Rattle.bi_c.specs.ValueCalls.{value_form_of as value_form_of_number};
 
 use crate::answer::{Answer, fail, fill};
+use crate::argument::{Argument, wrong_limit};
 use crate::arguments::limits_of;
 use crate::failure::{Failure, NO_PROPERTY, WRONG_KIND, failure_of};
 use bi_base::Error;
@@ -42,14 +43,14 @@ pub extern "C" fn bootimg_get(
         buffer.old buffer.new answer.new result }
 {
     let Some(limits) = limits_of(limit, depth) else {
-        return fail(Failure::WrongArgument, answer);
+        return fail(Failure::WrongArgument(wrong_limit(limit), 0), answer);
     };
     let Some(form) = value_form_of(form) else {
-        return fail(Failure::WrongArgument, answer);
+        return fail(Failure::WrongArgument(Argument::Form, 0), answer);
     };
     match one_name(alloc, place, name) {
         Ok(Some(names)) => fill_value(get(alloc, file, &names, form, limits), buffer, answer),
-        Ok(None) => fail(Failure::WrongArgument, answer),
+        Ok(None) => fail(Failure::WrongArgument(Argument::Place, 0), answer),
         Err(error) => fail(failure_of(error), answer),
     }
 }

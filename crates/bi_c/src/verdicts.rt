@@ -19,6 +19,7 @@ ghost use Rattle.bi_c.specs.VerdictElements.{hash_elements_among};
 ghost use Rattle.bi_c.specs.VerdictElements.{verdict_number as number_of_verdict};
 
 use crate::answer::{Answer, fail, fill};
+use crate::argument::wrong_limit;
 use crate::arguments::limits_of;
 use crate::failure::{Failure, failure_of};
 use crate::nodes::name_region;
@@ -62,7 +63,7 @@ pub extern "C" fn bootimg_verdicts(
         hashes.old hashes.new answer.new result }
 {
     let Some(limits) = limits_of(limit, depth) else {
-        return fail(Failure::WrongArgument, answer);
+        return fail(Failure::WrongArgument(wrong_limit(limit), 0), answer);
     };
     let fit = match Fit::read(alloc, file, limits) {
         Ok(fit) => fit,

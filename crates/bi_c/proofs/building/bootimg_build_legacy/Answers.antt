@@ -6,16 +6,33 @@ use Rattle.bi_c.specs.Answers.{FilledNothing}
 use Rattle.bi_c.specs.PieceBuilding.{HasPieces, IsPieceBuildFailure, legacy_in, legacy_of_pieces}
 use Rattle.bi_c.proofs.CallAnswers.{not_so, is_so, buffer_is_filled}
 use Rattle.bi_c.proofs.PieceBuilding.{built_of_pieces, no_pieces, not_built_of_pieces}
+use Rattle.bi_c.specs.declared.argument.Argument.TheVariants.{Fields, Parts}
+use Rattle.bi_base.specs.Limits.{IsInRange}
+use Rattle.bi_c.specs.Checks.{LimitsCheck, NextCheck}
+use Rattle.bi_c.specs.PieceBuilding.{IsPieceInside}
+use Rattle.bi_c.proofs.CheckFacts.{before_array_is_wrong, first_is_wrong, limits_are_wrong, next_is_wrong}
 use Rattle.bi_c.proofs.building.bootimg_build_legacy.Goals as goal
 
 pub returns-in_default : goal.returns-in_default
 returns-in_default c =
-    FilledNothing WrongArgument (λ has. not_so _ c.in_default.ensures.in_range has.limits) refl c.fail.ensures.answer c.fail.ensures.status
+    FilledNothing (WrongArgument c.wrong_limit.result 0)
+    (before_array_is_wrong (NextCheck (LimitsCheck c.args.limit c.args.depth) Fields
+    (IsInRange c.args.limit c.args.depth × IsPieceInside c.args.input.now c.args.fields.now.name)) Parts (IsPieceInside c.args.input.now)
+    c.args.parts.now _ 0
+    (first_is_wrong (LimitsCheck c.args.limit c.args.depth) Fields (IsInRange c.args.limit c.args.depth × IsPieceInside c.args.input.now
+    c.args.fields.now.name) _ 0 (λ valid. valid.0)
+    (limits_are_wrong c.args.limit c.args.depth _ c.wrong_limit.ensures (not_so _ c.in_default.ensures.in_range))))
+    refl c.fail.ensures.answer c.fail.ensures.status
 
 pub returns-in_default-piece : goal.returns-in_default-piece
 returns-in_default-piece c =
-    FilledNothing WrongArgument (λ has. c.in_default-piece.ensures.none has.name) refl c.fail-in_default-piece.ensures.answer
-    c.fail-in_default-piece.ensures.status
+    FilledNothing (WrongArgument Fields 0)
+    (before_array_is_wrong (NextCheck (LimitsCheck c.args.limit c.args.depth) Fields
+    (IsInRange c.args.limit c.args.depth × IsPieceInside c.args.input.now c.args.fields.now.name)) Parts (IsPieceInside c.args.input.now)
+    c.args.parts.now Fields 0
+    (next_is_wrong (LimitsCheck c.args.limit c.args.depth) Fields (IsInRange c.args.limit c.args.depth × IsPieceInside c.args.input.now
+    c.args.fields.now.name) (is_so _ c.in-Some.ensures.in_range) (λ valid. c.in_default-piece.ensures.none valid.1)))
+    refl c.fail-in_default-piece.ensures.answer c.fail-in_default-piece.ensures.status
 
 pub returns-in-Err : goal.returns-in-Err
 returns-in-Err c =

@@ -1,10 +1,12 @@
 use Rattle.std.proofs.Common.{◌≡◌, ◌+◌, ◌∷◌, [], ◌++◌, Bor, List, ℕ, drop, get_or, map, add-one, drop-cons, append_assoc, ap}
-use Rattle.std.proofs.Common.{sym, subst, ◌∙◌}
+use Rattle.std.proofs.Common.{refl, length, sym, subst, ◌∙◌}
 use Rattle.std.proofs.lemmas.List.{map-append}
-use Rattle.std.specs.List.{AllByRecursion}
 use Rattle.bi_base.specs.Slices.{bytes_of}
 use Rattle.bi_c.specs.declared.region.Region.{Region}
 use Rattle.bi_c.specs.PieceBuilding.{IsPieceInside, bytes_of_piece}
+use Rattle.bi_c.specs.Checks.{IsFirstWrong}
+use Rattle.bi_c.proofs.CheckFacts.{counted_more, wrong_at}
+use Rattle.bi_c.proofs.PlanBuilding.{one_more_inside}
 use Rattle.bi_c.proofs.building.pieces.Goals as goal
 
 -- A list of regions has no region past its end.
@@ -14,8 +16,8 @@ no_region = record { offset = 0; size = 0 }
 pub loop-region-init : goal.loop-region-init
 loop-region-init c = record {
   so_far = ap (λ items. bytes_of items ++ map (bytes_of_piece c.args.input.now) c.args.regions.now) c.new-pieces.ensures.items;
-  others = λ all. all;
-  each = λ all. all;
+  counted = ap length c.new-pieces.ensures.items;
+  inside = tt;
 }
 
 pub loop-region-preserved : goal.loop-region-preserved
@@ -37,6 +39,15 @@ loop-region-preserved c =
     record {
       so_far = ap (λ l. l ++ after) items ∙ append_assoc before (bytes_of_piece input region ∷ []) after
           ∙ ap (λ left. before ++ map (bytes_of_piece input) left) (sym first) ∙ loop.so_far;
-      others = λ rest. loop.others (subst (AllByRecursion (IsPieceInside input)) (sym first) (c.in-Some.ensures.inside, rest));
-      each = λ all. (subst (AllByRecursion (IsPieceInside input)) first (loop.each all)).1;
+      counted = counted_more c.loop-region.pieces.items c.push.new.self.items c.in-Some.bytes index pushed loop.counted;
+      inside = one_more_inside (IsPieceInside input) regions index no_region c.loop-region-test.true loop.inside c.in-Some.ensures.inside;
     }
+
+pub returns-in_default-clause-failed : goal.returns-in_default-clause-failed
+returns-in_default-clause-failed c = (
+  refl,
+  subst (IsFirstWrong (IsPieceInside c.args.input.now) c.args.regions.now) (sym (c.len.ensures ∙ c.loop-region.pieces.ok.0 ∙
+      c.loop-region.invariant.counted))
+      (wrong_at (IsPieceInside c.args.input.now) c.args.regions.now c.loop-region.region-index no_region c.loop-region-test.true
+      c.loop-region.invariant.inside c.in_default.ensures.none),
+)

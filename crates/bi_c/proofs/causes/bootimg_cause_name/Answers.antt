@@ -2,6 +2,7 @@ use Rattle.std.proofs.Common.{refl, ◌∙◌}
 use Rattle.bi_c.specs.declared.failure.Failure.TheVariants.{WrongArgument}
 use Rattle.bi_c.specs.Answers.{FilledNothing}
 use Rattle.bi_c.proofs.CallAnswers.{buffer_is_filled}
+use Rattle.bi_c.specs.declared.argument.Argument.TheVariants.{Number}
 use Rattle.bi_c.proofs.causes.bootimg_cause_name.Goals as goal
 
 pub returns-in-Some : goal.returns-in-Some
@@ -14,4 +15,4 @@ returns-in-Some c =
     }) c.fill.ensures.answer c.fill.ensures.filled
 
 pub returns-in-None : goal.returns-in-None
-returns-in-None c = FilledNothing WrongArgument c.in-None.ensures refl c.fail.ensures.answer c.fail.ensures.status
+returns-in-None c = FilledNothing (WrongArgument Number 0) (c.in-None.ensures, refl, refl) refl c.fail.ensures.answer c.fail.ensures.status

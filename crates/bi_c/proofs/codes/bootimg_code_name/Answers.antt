@@ -1,19 +1,29 @@
-use Rattle.std.proofs.Common.{◌≡◌, ◌∙◌, ℕ, Some, None, ap, refl, sym, subst, arith}
+use Rattle.std.proofs.Common.{◌≡◌, ◌<◌, ◌∙◌, ℕ, Some, None, ap, refl, sym, subst, arith}
 use Rattle.bi_legacy.specs.Codes.{name_of_code}
 use Rattle.bi_c.specs.Answers.{FilledNothing}
 use Rattle.bi_c.specs.CodeCalls.{names_of_field}
 use Rattle.bi_c.specs.declared.failure.Failure.TheVariants.{NotFound, WrongArgument}
 use Rattle.bi_c.proofs.CallAnswers.{buffer_is_filled, is_so, not_so}
+use Rattle.bi_c.specs.declared.argument.Argument.TheVariants.{Code, Field}
+use Rattle.bi_c.specs.Checks.{NoCheck}
+use Rattle.bi_c.specs.CodeCalls.{FieldCheck, HasCodeOfField}
+use Rattle.bi_c.proofs.CheckFacts.{first_is_wrong, next_is_wrong}
 use Rattle.bi_c.proofs.codes.bootimg_code_name.Goals as goal
 
 pub returns-then-field-gt-CODE_COMPRESSION : goal.returns-then-field-gt-CODE_COMPRESSION
 returns-then-field-gt-CODE_COMPRESSION c =
-    FilledNothing WrongArgument (λ has. omega (arith, has.is_field, c.if-field-gt-CODE_COMPRESSION.true)) refl c.fail.ensures.answer
+    FilledNothing (WrongArgument Field 0)
+    (first_is_wrong (FieldCheck c.args.field) Code (HasCodeOfField c.args.field c.args.code) Field 0 (λ has. has.is_field)
+    (next_is_wrong NoCheck Field (c.args.field < 4) tt (λ is_field. omega (arith, is_field, c.if-field-gt-CODE_COMPRESSION.true)))) refl
+    c.fail.ensures.answer
     c.fail.ensures.status
 
 pub returns-in_default : goal.returns-in_default
 returns-in_default c =
-    FilledNothing WrongArgument (λ has. not_so _ c.in_default.ensures.in_range has.is_code) refl c.fail-in_default.ensures.answer
+    FilledNothing (WrongArgument Code 0)
+    (next_is_wrong (FieldCheck c.args.field) Code (HasCodeOfField c.args.field c.args.code)
+    (omega (arith, c.if-field-gt-CODE_COMPRESSION.false))
+    (λ has. not_so _ c.in_default.ensures.in_range has.is_code)) refl c.fail-in_default.ensures.answer
     c.fail-in_default.ensures.status
 
 pub returns-in-Some-name_in_field : goal.returns-in-Some-name_in_field

@@ -1,11 +1,16 @@
-use Rattle.std.proofs.Common.{◌∙◌, Some, ap, refl, sym, arith}
+use Rattle.std.proofs.Common.{◌∙◌, ◌<◌, Some, ap, refl, sym, arith}
 use Rattle.bi_c.specs.Answers.{Failed, Returned}
 use Rattle.bi_c.specs.declared.failure.Failure.TheVariants.{NotFound, WrongArgument}
+use Rattle.bi_c.specs.declared.argument.Argument.TheVariants.{Field}
+use Rattle.bi_c.specs.Checks.{NoCheck}
+use Rattle.bi_c.proofs.CheckFacts.{next_is_wrong}
 use Rattle.bi_c.proofs.codes.bootimg_code_number.Goals as goal
 
 pub returns-then-field-gt-CODE_COMPRESSION : goal.returns-then-field-gt-CODE_COMPRESSION
 returns-then-field-gt-CODE_COMPRESSION c =
-    Failed WrongArgument (λ is_field. omega (arith, is_field, c.if-field-gt-CODE_COMPRESSION.true)) c.fail.ensures.answer
+    Failed (WrongArgument Field 0)
+    (next_is_wrong NoCheck Field (c.args.field < 4) tt (λ is_field. omega (arith, is_field, c.if-field-gt-CODE_COMPRESSION.true)))
+    c.fail.ensures.answer
     c.fail.ensures.status
 
 pub returns-in-Some : goal.returns-in-Some

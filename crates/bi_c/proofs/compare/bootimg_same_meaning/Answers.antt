@@ -5,11 +5,14 @@ use Rattle.bi_describe.specs.Comparing.{IsReadingError}
 use Rattle.bi_c.specs.declared.failure.Failure.TheVariants.{WrongArgument}
 use Rattle.bi_c.specs.Answers.{Returned, Failed}
 use Rattle.bi_c.proofs.CallAnswers.{not_so, is_so, byte_is_flag}
+use Rattle.bi_c.proofs.CheckFacts.{limits_are_wrong}
 use Rattle.bi_c.proofs.ComparedFiles.{failed_of_two}
 use Rattle.bi_c.proofs.compare.bootimg_same_meaning.Goals as goal
 
 pub returns-in_default : goal.returns-in_default
-returns-in_default c = Failed WrongArgument (not_so _ c.in_default.ensures.in_range) c.fail.ensures.answer c.fail.ensures.status
+returns-in_default c = Failed (WrongArgument c.wrong_limit.result 0)
+    (limits_are_wrong c.args.limit c.args.depth _ c.wrong_limit.ensures (not_so _ c.in_default.ensures.in_range))
+    c.fail.ensures.answer c.fail.ensures.status
 
 pub returns-in-Ok : goal.returns-in-Ok
 returns-in-Ok c =

@@ -7,16 +7,27 @@ use Rattle.bi_c.specs.Arguments.{HasKey, bounds}
 use Rattle.bi_c.proofs.CallAnswers.{not_so, is_so, fills_as}
 use Rattle.bi_c.proofs.FitFiles.{tree_failed}
 use Rattle.bi_c.proofs.ListedIndices.{listed_as, not_listed}
+use Rattle.bi_c.specs.declared.argument.Argument.TheVariants as argument
+use Rattle.bi_c.specs.Checks.{LimitsCheck}
+use Rattle.bi_c.proofs.CheckFacts.{first_is_wrong, limits_are_wrong, next_is_wrong}
+use Rattle.bi_c.specs.Arguments.{KeyCheck}
 use Rattle.bi_c.proofs.configurations.bootimg_listed.Goals as goal
 
 pub returns-in_default : goal.returns-in_default
-returns-in_default c = FilledNothing WrongArgument
-    (λ valid. not_so _ c.in_default.ensures.in_range valid.limits) refl c.fail.ensures.answer c.fail.ensures.status
+returns-in_default c =
+    FilledNothing (WrongArgument c.wrong_limit.result 0)
+    (first_is_wrong (LimitsCheck c.args.limit c.args.depth) argument.Key (HasKey c.args.limit c.args.depth c.args.key) _ 0
+    (λ valid. valid.limits)
+    (limits_are_wrong c.args.limit c.args.depth _ c.wrong_limit.ensures (not_so _ c.in_default.ensures.in_range)))
+    refl c.fail.ensures.answer c.fail.ensures.status
 
 pub returns-in_default-key_of : goal.returns-in_default-key_of
 returns-in_default-key_of c =
-    FilledNothing WrongArgument (λ valid. not_so _ c.in_default-key_of.ensures.in_range valid.is_key) refl
-    c.fail-in_default-key_of.ensures.answer c.fail-in_default-key_of.ensures.status
+    FilledNothing (WrongArgument argument.Key 0)
+    (next_is_wrong (LimitsCheck c.args.limit c.args.depth) argument.Key (HasKey c.args.limit c.args.depth c.args.key)
+    (is_so _ c.in-Some.ensures.in_range)
+    (λ valid. not_so _ c.in_default-key_of.ensures.in_range valid.is_key))
+    refl c.fail-in_default-key_of.ensures.answer c.fail-in_default-key_of.ensures.status
 
 pub returns-in-Ok : goal.returns-in-Ok
 returns-in-Ok c =
@@ -38,7 +49,7 @@ returns-in-Err c =
       is_key = is_so _ c.in-Some-key_of.ensures.in_range;
     } in
     FilledNothing c.failure_of.result
-    (tree_failed (HasKey c.args.limit c.args.depth c.args.key) (bounds c.args.limit c.args.depth) c.args.file.now _ c.in-Err.error
+    (tree_failed (KeyCheck c.args.limit c.args.depth c.args.key) (bounds c.args.limit c.args.depth) c.args.file.now _ c.in-Err.error
     c.failure_of.result valid c.failure_of.ensures
     (subst (λ (l : Limits). IsFitReadError l c.args.file.now c.in-Err.error) c.in-Some.ensures.value c.in-Err.ensures.failed))
     refl c.fail-in-Err.ensures.answer c.fail-in-Err.ensures.status

@@ -15,7 +15,7 @@ returns-in-Ok-edit_file_into-clause-made c =
       limits = is_so _ c.in-Some.ensures.in_range;
       choice = c.in-Some-choice_of.choice;
       is_choice = c.in-Some-choice_of.ensures.some;
-      are_elements = c.are_elements.ensures.0 c.if-not-are_elements.false;
+      are_elements = c.in_default-wrong_element.ensures.none;
     } in
     let appended = c.in-Ok-edit_file_into.ensures.appended in
     let same : c.into_vec.result.items ≡ appended.text =
@@ -33,7 +33,7 @@ returns-clause-failed c =
       limits = is_so _ c.in-Some.ensures.in_range;
       choice = c.in-Some-choice_of.choice;
       is_choice = c.in-Some-choice_of.ensures.some;
-      are_elements = c.are_elements.ensures.0 c.if-not-are_elements.false;
+      are_elements = c.in_default-wrong_element.ensures.none;
     } in
     subst (IsEditCallFailure c.args.limit c.args.depth c.args.form input elements file) (sym c.failure_of_edit.ensures)
     (not_made_in_memory c.args.limit c.args.depth c.args.form input elements file has c.in-Some.limits c.deref.result.now

@@ -4,11 +4,14 @@ use Rattle.bi_fit.specs.Reading.{IsFitReadError}
 use Rattle.bi_c.specs.declared.failure.Failure.TheVariants.{WrongArgument}
 use Rattle.bi_c.specs.Answers.{WasSet, WasNotSet}
 use Rattle.bi_c.proofs.CallAnswers.{not_so, is_so, failed_of_one}
+use Rattle.bi_c.proofs.CheckFacts.{limits_are_wrong}
 use Rattle.bi_c.proofs.FitFiles.{means_within}
 use Rattle.bi_c.proofs.fit.bootimg_fit.Goals as goal
 
 pub returns-in_default : goal.returns-in_default
-returns-in_default c = WasNotSet WrongArgument (not_so _ c.in_default.ensures.in_range) refl c.fail.ensures.answer c.fail.ensures.status
+returns-in_default c = WasNotSet (WrongArgument c.wrong_limit.result 0)
+    (limits_are_wrong c.args.limit c.args.depth _ c.wrong_limit.ensures (not_so _ c.in_default.ensures.in_range))
+    refl c.fail.ensures.answer c.fail.ensures.status
 
 pub returns-in-Ok : goal.returns-in-Ok
 returns-in-Ok c =

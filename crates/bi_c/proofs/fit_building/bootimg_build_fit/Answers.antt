@@ -7,16 +7,29 @@ use Rattle.bi_c.specs.Arguments.{HasForm}
 use Rattle.bi_c.specs.TreeBuilding.{IsSpecOf, IsTreeBuildFailure}
 use Rattle.bi_c.proofs.CallAnswers.{not_so, is_so, buffer_is_filled}
 use Rattle.bi_c.proofs.TreeBuilding.{no_specs, no_tree_of_pieces, tree_of_pieces}
+use Rattle.bi_c.specs.declared.argument.Argument.TheVariants.{Form, Images}
+use Rattle.bi_c.specs.Checks.{LimitsCheck}
+use Rattle.bi_c.specs.Arguments.{FormCheck}
+use Rattle.bi_c.specs.TreeBuilding.{IsSpecInside}
+use Rattle.bi_c.proofs.CheckFacts.{before_array_is_wrong, first_is_wrong, limits_are_wrong, next_is_wrong}
 use Rattle.bi_c.proofs.fit_building.bootimg_build_fit.Goals as goal
 
 pub returns-in_default : goal.returns-in_default
-returns-in_default c = FilledNothing WrongArgument
-    (λ has. not_so _ c.in_default.ensures.in_range has.arguments.limits) refl c.fail.ensures.answer c.fail.ensures.status
+returns-in_default c =
+    FilledNothing (WrongArgument c.wrong_limit.result 0)
+    (before_array_is_wrong (FormCheck c.args.limit c.args.depth c.args.form) Images (IsSpecInside c.args.input.now) c.args.images.now _ 0
+    (first_is_wrong (LimitsCheck c.args.limit c.args.depth) Form (HasForm c.args.limit c.args.depth c.args.form) _ 0 (λ valid. valid.limits)
+    (limits_are_wrong c.args.limit c.args.depth _ c.wrong_limit.ensures (not_so _ c.in_default.ensures.in_range))))
+    refl c.fail.ensures.answer c.fail.ensures.status
 
 pub returns-in_default-form_of : goal.returns-in_default-form_of
 returns-in_default-form_of c =
-    FilledNothing WrongArgument (λ has. c.in_default-form_of.ensures.none has.arguments.form has.arguments.is_form) refl
-    c.fail-in_default-form_of.ensures.answer c.fail-in_default-form_of.ensures.status
+    FilledNothing (WrongArgument Form 0)
+    (before_array_is_wrong (FormCheck c.args.limit c.args.depth c.args.form) Images (IsSpecInside c.args.input.now) c.args.images.now Form 0
+    (next_is_wrong (LimitsCheck c.args.limit c.args.depth) Form (HasForm c.args.limit c.args.depth c.args.form)
+    (is_so _ c.in-Some.ensures.in_range)
+    (λ valid. c.in_default-form_of.ensures.none valid.form valid.is_form)))
+    refl c.fail-in_default-form_of.ensures.answer c.fail-in_default-form_of.ensures.status
 
 pub returns-in-Err : goal.returns-in-Err
 returns-in-Err c =

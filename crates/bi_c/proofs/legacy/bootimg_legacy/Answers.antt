@@ -7,11 +7,14 @@ use Rattle.bi_c.specs.declared.failure.Failure.TheVariants.{WrongArgument, Refus
 use Rattle.bi_c.specs.declared.legacy.LegacyFields.{LegacyFields}
 use Rattle.bi_c.specs.Answers.{WasSet, WasNotSet}
 use Rattle.bi_c.proofs.CallAnswers.{not_so, is_so}
+use Rattle.bi_c.proofs.CheckFacts.{limits_are_wrong}
 use Rattle.bi_c.proofs.LegacyElements.{name_is_there}
 use Rattle.bi_c.proofs.legacy.bootimg_legacy.Goals as goal
 
 pub returns-in_default : goal.returns-in_default
-returns-in_default c = WasNotSet WrongArgument (not_so _ c.in_default.ensures.in_range) refl c.fail.ensures.answer c.fail.ensures.status
+returns-in_default c = WasNotSet (WrongArgument c.wrong_limit.result 0)
+    (limits_are_wrong c.args.limit c.args.depth _ c.wrong_limit.ensures (not_so _ c.in_default.ensures.in_range))
+    refl c.fail.ensures.answer c.fail.ensures.status
 
 pub returns-in-Ok : goal.returns-in-Ok
 returns-in-Ok c =

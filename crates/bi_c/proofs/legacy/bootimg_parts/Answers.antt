@@ -5,10 +5,13 @@ use Rattle.bi_legacy.specs.Reading.{IsReadLegacy}
 use Rattle.bi_c.specs.declared.failure.Failure.TheVariants.{WrongArgument, Refused}
 use Rattle.bi_c.specs.Answers.{FilledNothing}
 use Rattle.bi_c.proofs.CallAnswers.{not_so, is_so, fills_as}
+use Rattle.bi_c.proofs.CheckFacts.{limits_are_wrong}
 use Rattle.bi_c.proofs.legacy.bootimg_parts.Goals as goal
 
 pub returns-in_default : goal.returns-in_default
-returns-in_default c = FilledNothing WrongArgument (not_so _ c.in_default.ensures.in_range) refl c.fail.ensures.answer c.fail.ensures.status
+returns-in_default c = FilledNothing (WrongArgument c.wrong_limit.result 0)
+    (limits_are_wrong c.args.limit c.args.depth _ c.wrong_limit.ensures (not_so _ c.in_default.ensures.in_range))
+    refl c.fail.ensures.answer c.fail.ensures.status
 
 pub returns-in-Ok : goal.returns-in-Ok
 returns-in-Ok c =

@@ -6,16 +6,25 @@ use Rattle.bi_c.specs.Arguments.{HasForm}
 use Rattle.bi_c.proofs.CallAnswers.{not_so, is_so, fills_as}
 use Rattle.bi_norm.proofs.NormalForms.{normalise_error_of_reading}
 use Rattle.bi_c.proofs.NormalisedFiles.{normalised_as, not_normalised}
+use Rattle.bi_c.specs.declared.argument.Argument.TheVariants.{Form}
+use Rattle.bi_c.specs.Checks.{LimitsCheck}
+use Rattle.bi_c.proofs.CheckFacts.{first_is_wrong, limits_are_wrong, next_is_wrong}
 use Rattle.bi_c.proofs.normalise.bootimg_normalise.Goals as goal
 
 pub returns-in_default : goal.returns-in_default
-returns-in_default c = FilledNothing WrongArgument
-    (λ valid. not_so _ c.in_default.ensures.in_range valid.limits) refl c.fail.ensures.answer c.fail.ensures.status
+returns-in_default c =
+    FilledNothing (WrongArgument c.wrong_limit.result 0)
+    (first_is_wrong (LimitsCheck c.args.limit c.args.depth) Form (HasForm c.args.limit c.args.depth c.args.form) _ 0 (λ valid. valid.limits)
+    (limits_are_wrong c.args.limit c.args.depth _ c.wrong_limit.ensures (not_so _ c.in_default.ensures.in_range)))
+    refl c.fail.ensures.answer c.fail.ensures.status
 
 pub returns-in_default-form_of : goal.returns-in_default-form_of
 returns-in_default-form_of c =
-    FilledNothing WrongArgument (λ valid. c.in_default-form_of.ensures.none valid.form valid.is_form) refl
-    c.fail-in_default-form_of.ensures.answer c.fail-in_default-form_of.ensures.status
+    FilledNothing (WrongArgument Form 0)
+    (next_is_wrong (LimitsCheck c.args.limit c.args.depth) Form (HasForm c.args.limit c.args.depth c.args.form)
+    (is_so _ c.in-Some.ensures.in_range)
+    (λ valid. c.in_default-form_of.ensures.none valid.form valid.is_form))
+    refl c.fail-in_default-form_of.ensures.answer c.fail-in_default-form_of.ensures.status
 
 pub normalise_legacy-requires : goal.normalise_legacy-requires
 normalise_legacy-requires c = subst (IsReadBootImage c.in-Some.limits c.args.file.now) c.in-Ok-Legacy.field-0-is c.in-Ok-Legacy.ensures.read

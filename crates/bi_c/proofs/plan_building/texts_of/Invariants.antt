@@ -1,4 +1,4 @@
-use Rattle.std.proofs.Common.{◌≡◌, map, take}
+use Rattle.std.proofs.Common.{◌≡◌, length, map, take}
 use Rattle.std.specs.List.{AllByRecursion}
 use Rattle.bi_norm.specs.FitBuilding.{texts_models}
 use Rattle.bi_c.specs.PlanBuilding.{AreTextsInside, texts_if_given}
@@ -8,5 +8,6 @@ use Rattle.bi_c.proofs.plan_building.texts_of.Given as goal
 abbrev pub invariant-loop-element : goal.invariant-loop-element
 invariant-loop-element l = record {
   inside : AllByRecursion (AreTextsInside l.input) (take l.element-index l.elements);
+  counted : length l.texts.items ≡ l.element-index;
   so_far : texts_models l.texts.items ≡ map (texts_if_given l.input) (take l.element-index l.elements);
 }

@@ -5,11 +5,14 @@ use Rattle.bi_fdt.specs.Views.{node_of}
 use Rattle.bi_c.specs.declared.failure.Failure.TheVariants.{WrongArgument, NotFound}
 use Rattle.bi_c.specs.Answers.{Returned, Failed}
 use Rattle.bi_c.proofs.CallAnswers.{not_so, is_so}
+use Rattle.bi_c.proofs.CheckFacts.{limits_are_wrong}
 use Rattle.bi_c.proofs.NodeFiles.{has_node, named_property, no_node, node_bytes, node_read_failed}
 use Rattle.bi_c.proofs.properties.bootimg_property_value.Goals as goal
 
 pub returns-in_default : goal.returns-in_default
-returns-in_default c = Failed WrongArgument (not_so _ c.in_default.ensures.in_range) c.fail.ensures.answer c.fail.ensures.status
+returns-in_default c = Failed (WrongArgument c.wrong_limit.result 0)
+    (limits_are_wrong c.args.limit c.args.depth _ c.wrong_limit.ensures (not_so _ c.in_default.ensures.in_range))
+    c.fail.ensures.answer c.fail.ensures.status
 
 pub returns-in-Err : goal.returns-in-Err
 returns-in-Err c =

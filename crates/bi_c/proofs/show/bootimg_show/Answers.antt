@@ -7,16 +7,26 @@ use Rattle.bi_c.specs.Arguments.{HasLayout}
 use Rattle.bi_c.specs.Calls.{IsPageFailure, IsPageText}
 use Rattle.bi_c.proofs.CallAnswers.{not_so, is_so, made_fills}
 use Rattle.bi_c.proofs.ShownPages.{shown_as, not_shown}
+use Rattle.bi_c.specs.declared.argument.Argument.TheVariants.{Layout}
+use Rattle.bi_c.specs.Checks.{LimitsCheck}
+use Rattle.bi_c.proofs.CheckFacts.{first_is_wrong, limits_are_wrong, next_is_wrong}
 use Rattle.bi_c.proofs.show.bootimg_show.Goals as goal
 
 pub returns-in_default : goal.returns-in_default
-returns-in_default c = FilledNothing WrongArgument
-    (λ valid. not_so _ c.in_default.ensures.in_range valid.limits) refl c.fail.ensures.answer c.fail.ensures.status
+returns-in_default c =
+    FilledNothing (WrongArgument c.wrong_limit.result 0)
+    (first_is_wrong (LimitsCheck c.args.limit c.args.depth) Layout (HasLayout c.args.limit c.args.depth c.args.layout) _ 0
+    (λ valid. valid.limits)
+    (limits_are_wrong c.args.limit c.args.depth _ c.wrong_limit.ensures (not_so _ c.in_default.ensures.in_range)))
+    refl c.fail.ensures.answer c.fail.ensures.status
 
 pub returns-in_default-yes_of : goal.returns-in_default-yes_of
 returns-in_default-yes_of c =
-    FilledNothing WrongArgument (λ valid. not_so _ c.in_default-yes_of.ensures.in_range valid.is_layout) refl
-    c.fail-in_default-yes_of.ensures.answer c.fail-in_default-yes_of.ensures.status
+    FilledNothing (WrongArgument Layout 0)
+    (next_is_wrong (LimitsCheck c.args.limit c.args.depth) Layout (HasLayout c.args.limit c.args.depth c.args.layout)
+    (is_so _ c.in-Some.ensures.in_range)
+    (λ valid. not_so _ c.in_default-yes_of.ensures.in_range valid.is_layout))
+    refl c.fail-in_default-yes_of.ensures.answer c.fail-in_default-yes_of.ensures.status
 
 pub returns : goal.returns
 returns c =

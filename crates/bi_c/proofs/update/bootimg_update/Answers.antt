@@ -9,21 +9,43 @@ use Rattle.bi_c.specs.Answers.{FilledNothing}
 use Rattle.bi_c.specs.Arguments.{bounds, changes_of, HasChanges}
 use Rattle.bi_c.proofs.CallAnswers.{not_so, is_so, buffer_is_filled}
 use Rattle.bi_c.proofs.UpdatedCalls.{not_updated}
+use Rattle.bi_c.specs.declared.argument.Argument.TheVariants as argument
+use Rattle.bi_c.specs.Checks.{LimitsCheck}
+use Rattle.bi_c.proofs.CheckFacts.{first_is_wrong, limits_are_wrong, next_is_wrong}
+use Rattle.bi_c.specs.Arguments.{FormCheck, HasForm}
 use Rattle.bi_c.proofs.update.bootimg_update.Goals as goal
 
 pub returns-in_default : goal.returns-in_default
-returns-in_default c = FilledNothing WrongArgument
-    (λ valid. not_so _ c.in_default.ensures.in_range valid.has_form.limits) refl c.fail.ensures.answer c.fail.ensures.status
+returns-in_default c =
+    FilledNothing (WrongArgument c.wrong_limit.result 0)
+    (first_is_wrong (FormCheck c.args.limit c.args.depth c.args.form) argument.Changes
+    (HasChanges c.args.limit c.args.depth c.args.form c.args.changes) _ 0 (λ valid. valid.has_form)
+    (first_is_wrong (LimitsCheck c.args.limit c.args.depth) argument.Form (HasForm c.args.limit c.args.depth c.args.form) _ 0
+    (λ valid. valid.limits)
+    (limits_are_wrong c.args.limit c.args.depth _ c.wrong_limit.ensures (not_so _ c.in_default.ensures.in_range))))
+    refl c.fail.ensures.answer c.fail.ensures.status
 
 pub returns-in_default-form_of : goal.returns-in_default-form_of
 returns-in_default-form_of c =
-    FilledNothing WrongArgument (λ valid. c.in_default-form_of.ensures.none valid.has_form.form valid.has_form.is_form) refl
-    c.fail-in_default-form_of.ensures.answer c.fail-in_default-form_of.ensures.status
+    FilledNothing (WrongArgument argument.Form 0)
+    (first_is_wrong (FormCheck c.args.limit c.args.depth c.args.form) argument.Changes
+    (HasChanges c.args.limit c.args.depth c.args.form c.args.changes) argument.Form 0 (λ valid. valid.has_form)
+    (next_is_wrong (LimitsCheck c.args.limit c.args.depth) argument.Form (HasForm c.args.limit c.args.depth c.args.form)
+    (is_so _ c.in-Some.ensures.in_range)
+    (λ valid. c.in_default-form_of.ensures.none valid.form valid.is_form)))
+    refl c.fail-in_default-form_of.ensures.answer c.fail-in_default-form_of.ensures.status
 
 pub returns-in_default-changes_of : goal.returns-in_default-changes_of
 returns-in_default-changes_of c =
-    FilledNothing WrongArgument (λ valid. not_so _ c.in_default-changes_of.ensures.in_range valid.are_changes) refl
-    c.fail-in_default-changes_of.ensures.answer c.fail-in_default-changes_of.ensures.status
+    FilledNothing (WrongArgument argument.Changes 0)
+    (next_is_wrong (FormCheck c.args.limit c.args.depth c.args.form) argument.Changes
+    (HasChanges c.args.limit c.args.depth c.args.form c.args.changes) (record {
+      limits = is_so _ c.in-Some.ensures.in_range;
+      form = c.in-Some-form_of.kind;
+      is_form = c.in-Some-form_of.ensures.some;
+    })
+    (λ valid. not_so _ c.in_default-changes_of.ensures.in_range valid.are_changes))
+    refl c.fail-in_default-changes_of.ensures.answer c.fail-in_default-changes_of.ensures.status
 
 pub returns-in-Ok : goal.returns-in-Ok
 returns-in-Ok c =

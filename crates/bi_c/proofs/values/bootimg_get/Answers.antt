@@ -8,17 +8,31 @@ use Rattle.bi_c.specs.ValueCalls.{HasValueForm, IsValueFailure, IsGotten, IsOneN
 use Rattle.bi_c.proofs.CallAnswers.{is_so, made_fills, not_so}
 use Rattle.bi_values.proofs.ValueWords.{none_holds}
 use Rattle.bi_c.proofs.ValueCallAnswers.{gotten, not_gotten}
+use Rattle.bi_c.specs.declared.argument.Argument.TheVariants.{Form, Place}
+use Rattle.bi_c.specs.Checks.{LimitsCheck, NextCheck}
+use Rattle.bi_c.specs.ValueCalls.{HasPlace}
+use Rattle.bi_c.proofs.CheckFacts.{first_is_wrong, limits_are_wrong, next_is_wrong}
 use Rattle.bi_c.proofs.values.bootimg_get.Goals as goal
 
 pub returns-in_default : goal.returns-in_default
 returns-in_default c =
-    FilledNothing WrongArgument (λ valid. absurd (not_so _ c.in_default.ensures.in_range valid.limits)) refl c.fail.ensures.answer
-    c.fail.ensures.status
+    FilledNothing (WrongArgument c.wrong_limit.result 0)
+    (first_is_wrong (NextCheck (LimitsCheck c.args.limit c.args.depth) Form (HasValueForm c.args.limit c.args.depth c.args.form)) Place
+    (HasPlace c.args.limit c.args.depth c.args.form c.args.place.now c.args.name.now) _ 0 (λ valid. valid.arguments)
+    (first_is_wrong (LimitsCheck c.args.limit c.args.depth) Form (HasValueForm c.args.limit c.args.depth c.args.form) _ 0
+    (λ valid. valid.limits)
+    (limits_are_wrong c.args.limit c.args.depth _ c.wrong_limit.ensures (not_so _ c.in_default.ensures.in_range))))
+    refl c.fail.ensures.answer c.fail.ensures.status
 
 pub returns-in_default-value_form_of : goal.returns-in_default-value_form_of
 returns-in_default-value_form_of c =
-    FilledNothing WrongArgument (λ valid. absurd (not_so _ c.in_default-value_form_of.ensures.in_range valid.is_form)) refl
-    c.fail-in_default-value_form_of.ensures.answer c.fail-in_default-value_form_of.ensures.status
+    FilledNothing (WrongArgument Form 0)
+    (first_is_wrong (NextCheck (LimitsCheck c.args.limit c.args.depth) Form (HasValueForm c.args.limit c.args.depth c.args.form)) Place
+    (HasPlace c.args.limit c.args.depth c.args.form c.args.place.now c.args.name.now) Form 0 (λ valid. valid.arguments)
+    (next_is_wrong (LimitsCheck c.args.limit c.args.depth) Form (HasValueForm c.args.limit c.args.depth c.args.form)
+    (is_so _ c.in-Some.ensures.in_range)
+    (λ valid. not_so _ c.in_default-value_form_of.ensures.in_range valid.is_form)))
+    refl c.fail-in_default-value_form_of.ensures.answer c.fail-in_default-value_form_of.ensures.status
 
 pub returns-in-Ok-Some : goal.returns-in-Ok-Some
 returns-in-Ok-Some c =
@@ -48,8 +62,12 @@ returns-in-Ok-Some c =
 
 pub returns-in-Ok-None : goal.returns-in-Ok-None
 returns-in-Ok-None c =
-    FilledNothing WrongArgument (λ valid. none_holds _ c.in-Ok-None.field-0 c.in-Ok-None.field-0-is c.in-Ok-None.ensures.none) refl
-    c.fail-in-Ok-None.ensures.answer c.fail-in-Ok-None.ensures.status
+    FilledNothing (WrongArgument Place 0)
+    (next_is_wrong (NextCheck (LimitsCheck c.args.limit c.args.depth) Form (HasValueForm c.args.limit c.args.depth c.args.form)) Place
+    (HasPlace c.args.limit c.args.depth c.args.form c.args.place.now c.args.name.now)
+    (record { limits = is_so _ c.in-Some.ensures.in_range; is_form = is_so _ c.in-Some-value_form_of.ensures.in_range })
+    (λ valid. none_holds _ c.in-Ok-None.field-0 c.in-Ok-None.field-0-is c.in-Ok-None.ensures.none valid.names valid.is_one))
+    refl c.fail-in-Ok-None.ensures.answer c.fail-in-Ok-None.ensures.status
 
 -- Memory ran out.
 pub returns-in-Err : goal.returns-in-Err

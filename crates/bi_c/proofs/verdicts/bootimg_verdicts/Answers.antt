@@ -5,13 +5,16 @@ use Rattle.bi_c.specs.declared.failure.Failure.TheVariants as failure
 use Rattle.bi_fit.specs.Reading.{IsFitReadError}
 use Rattle.bi_c.specs.Answers.{FilledNothing}
 use Rattle.bi_c.proofs.CallAnswers.{not_so, is_so, buffer_is_filled, failed_of_one}
+use Rattle.bi_c.proofs.CheckFacts.{limits_are_wrong}
 use Rattle.bi_c.proofs.FitFiles.{read_needs_memory}
 use Rattle.bi_c.proofs.VerdictFiles.{are_hash_elements}
 use Rattle.bi_c.proofs.verdicts.bootimg_verdicts.Goals as goal
 
 pub returns-in_default : goal.returns-in_default
 returns-in_default c =
-    FilledNothing failure.WrongArgument (not_so _ c.in_default.ensures.in_range) refl c.fail.ensures.answer c.fail.ensures.status
+    FilledNothing (failure.WrongArgument c.wrong_limit.result 0)
+    (limits_are_wrong c.args.limit c.args.depth _ c.wrong_limit.ensures (not_so _ c.in_default.ensures.in_range))
+    refl c.fail.ensures.answer c.fail.ensures.status
 
 pub returns-in-Err : goal.returns-in-Err
 returns-in-Err c =
