@@ -75,18 +75,3 @@ no_hashes text same (Err (outcome.Failure failure)) is not (inl bad) = inl (bad.
   neither : NoneIs (AreHashesOf text)
   neither algorithms (inl none) = not_none text same is not none.0
   neither algorithms (inr are) = bad.1 algorithms are
-
--- Whether a text gives algorithms, by how parsing it ends.
-pub hashes_are_given : (text : List ℕ) (algorithms : List Algo) → AreHashesOf text algorithms
-    → IsTrue true ↔ ((all : List Algo) × AreHashesOf text all)
-hashes_are_given text algorithms are = (λ holds. (algorithms, are), λ given. refl)
-
-pub no_hashes_are_given : (text : List ℕ) (failure : NoRequest) → failure ≡ outcome.Failure BadValue
-    → IsFailureOutcome (IsBadValue (AreHashesOf text)) failure → IsTrue false ↔ ((all : List Algo) × AreHashesOf text all)
-no_hashes_are_given text failure same fails =
-    let none = not_memory (subst (IsFailureOutcome (IsBadValue (AreHashesOf text))) same fails) in
-    (λ holds. absurd (true≢false (sym holds)), λ given. absurd (none given.0 given.1))
-  where
-    not_memory : IsFailureOutcome (IsBadValue (AreHashesOf text)) (outcome.Failure BadValue) → NoneIs (AreHashesOf text)
-    not_memory (inl bad) = bad.1
-    not_memory (inr memory) = absurd cc

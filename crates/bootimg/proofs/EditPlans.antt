@@ -47,7 +47,7 @@ pub memory_failure : {T : Type 0} (Is : Failure → Type 0) (result : Result T N
 memory_failure Is (Ok value) error is memory = tt
 memory_failure Is (Err given) error is memory = subst (λ o. IsFailureOutcome Is o) (sym is) (inr (ap Call memory))
 
--- A word that is no number is no new time.
+-- A word that is not a number is not a new time.
 pub no_new_time : (text : Option (List ℕ)) (argument : List ℕ) → text ≡ Some argument → NoneIs (IsNumber argument) → NoneIs (IsNewTime text)
 no_new_time text argument is none = λ time given. by time (subst (λ t. IsNewTime t time) is given) where
   by : (time : Option ℕ) → IsNewTime (Some argument) time → ⊥

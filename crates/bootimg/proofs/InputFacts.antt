@@ -9,6 +9,7 @@ use Rattle.bi_blob.specs.Layout.{text_of_events, text_of_blocks, tree_with_place
 use Rattle.bi_blob.specs.Tree.{none}
 use Rattle.bi_common.specs.declared.format.Format.TheVariants.{Json}
 use Rattle.bi_describe.specs.declared.ignored.Ignored.{Ignored}
+use Rattle.bi_describe.specs.DeepComparing.{AreTheSame}
 use Rattle.bi_describe.specs.KnownRefusals.{longer_meaning, shorter_meaning}
 use Rattle.bi_describe.proofs.ComparedWithoutFacts.{compared_without_is_known, ignoring_errors_are_known}
 use Rattle.bi_describe.proofs.DescribedFileFacts.{compared_texts_are_known}
@@ -19,14 +20,15 @@ use Rattle.bi_fit.specs.KnownFiles.{plain_tree}
 use Rattle.bi_fit.proofs.FileFacts.{blob_by_test}
 use Rattle.bi_legacy.specs.File.{LegacyMeans}
 use Rattle.bi_legacy.specs.KnownFaults.{limited_to}
+use Rattle.bi_legacy.specs.KnownFiles.{kernel_file_with_rest}
 use Rattle.bi_legacy.specs.KnownImages.{kernel_file, kernel_image, multi_file}
 use Rattle.bi_legacy.specs.Laws.{OneLegacyMeaning}
-use Rattle.bi_norm.specs.Comparing.{MeansOnly}
+use Rattle.bi_norm.specs.Comparing.{AreCompared, MeansOnly}
 use Rattle.bi_norm.proofs.ComparisonFacts.{compared_files_are_known, kernel_means}
 use Rattle.bi_norm.proofs.KindLaws.{one_file_meaning}
 use Rattle.std.specs.Borrow.{Bor}
 use Rattle.bootimg.specs.ComparedFiles.{IsCompareOutput}
-use Rattle.bootimg.specs.KnownInputs.{ComparedInputsAreKnown, ComparedOutputsAreKnown}
+use Rattle.bootimg.specs.KnownInputs.{ComparedInputsAreKnown, ComparedOutputsAreKnown, DeepOutputsAreKnown}
 use Rattle.bootimg.specs.KnownInputs.{ComparesFiles, ExplanationsAreKnown, FailsAbout, FailsToOpen}
 use Rattle.bootimg.specs.KnownInputs.{ImagesAtAreKnown, one_file, two_files, without_files}
 use Rattle.bootimg.specs.KnownRequests.{IsFileNamed}
@@ -185,7 +187,7 @@ module _ (one_legacy : OneLegacyMeaning) where
         one_file_meaning one_legacy (limited_to 88) (limited_to 88) smallest_text other shorter_meaning means smallest_within;
   }
 
-  quiet_output : (same : Bool) (text : List ℕ) → IsCompareOutput [] true Json widest kernel_file multi_file same text →
+  quiet_output : (same : Bool) (text : List ℕ) → IsCompareOutput [] true false Json widest kernel_file multi_file same text →
       (same ≡ false) × (text ≡ [])
   quiet_output false text is = (refl, is.1)
   quiet_output true text is = absurd ((compared_files_are_known one_legacy).other_image.no_other is.0)
@@ -221,6 +223,30 @@ module _ (one_legacy : OneLegacyMeaning) where
     });
     quiet_described = λ fault is. is.1 longer_meaning kernel_within;
     quiet_other_described = λ fault is. is.has_error.1 longer_meaning kernel_within;
+  }
+
+  -- What two kernel images mean that are the same.
+  same_kernels : AreCompared widest kernel_file_with_rest kernel_file true
+  same_kernels = (compared_files_are_known one_legacy).same.are_compared
+
+  pub deep_outputs_are_known : DeepOutputsAreKnown
+  deep_outputs_are_known = record {
+    quiet = (same_kernels, refl);
+    same = record {
+      compared = same_kernels;
+      differs = record {
+        lines = [];
+        differences = AreTheSame refl;
+        empty = (λ _. refl, λ _. refl);
+        is_text = refl;
+      };
+    };
+    deep = λ one other same text is. is;
+    ignored = λ one other same text is. is;
+    not_read = reading_errors_are_known.only_first;
+    other_not_read = inl reading_errors_are_known.only_second;
+    ignored_not_read = inl reading_errors_are_known.only_first;
+    quiet_described = λ fault is. is.1 longer_meaning kernel_within;
   }
 
 -- ---- offsets

@@ -102,6 +102,7 @@ mistakes_are_known = record {
   no_json = refl;
   no_offset = refl;
   no_layout = refl;
+  no_deep = refl;
   option_twice = refl;
   missing_value = refl;
 }

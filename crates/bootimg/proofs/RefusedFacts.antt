@@ -1,5 +1,5 @@
 use Rattle.std.proofs.Common.{◌≡◌, ◌<◌, ◌≤◌, ◌∙◌, ◌+◌, ℕ, Bool, true, false, List, [], ◌∷◌, ◌++◌, Option, None, Some, ap, drop, flat_map}
-use Rattle.std.proofs.Common.{append-nil, get_or, length, map, refl, subst, sym, take, true≢false}
+use Rattle.std.proofs.Common.{append-nil, get_or, inl, inr, length, map, refl, subst, sym, take, true≢false}
 use Rattle.std.specs.Prelude.{◌↔◌, IfNone, IfSome, IsTrue, is_some, nat_le, option_map}
 use Rattle.std.specs.Option.{option_or}
 use Rattle.std.specs.List.{AllByRecursion, find}
@@ -11,17 +11,20 @@ use Rattle.bi_base.proofs.ListMembers.{each-append}
 use Rattle.std.specs.Borrow.{Bor}
 use Rattle.bi_edit.specs.declared.words.PayloadWord.{PayloadWord}
 use Rattle.bi_edit.specs.EditWords.{IsPayloadWord}
-use Rattle.bootimg.specs.CommandLine.{NoneIs, texts_of}
+use Rattle.bootimg.specs.CommandLine.{IsBadValue, IsFailureOutcome, NoneIs, texts_of}
 use Rattle.bootimg.specs.RefusedWords.{FindsFirst, GivenWordModel, IsFirstRefusedWord, IsRefused, OptionTextModel, RefusedWordModel}
 use Rattle.bootimg.specs.RefusedWords.{all_option_words}
 use Rattle.bootimg.specs.RefusedWords.{option_words}
 use Rattle.bootimg.specs.RefusedWords.{option_text_model, taking_options, words_given}
 use Rattle.bootimg.specs.RefusedWords.{edits_between, first_near, given_word}
+use Rattle.bootimg.specs.declared.command_line.NoRequest.{NoRequest}
+use Rattle.bootimg.specs.declared.command_line.NoRequest.TheVariants as outcome
 use Rattle.bootimg.specs.declared.command_line.refused.GivenWord.{GivenWord}
 use Rattle.bootimg.specs.declared.command_line.table.OptionForm.TheVariants as form
 use Rattle.bootimg.specs.declared.command_line.table.OptionText.{OptionText}
 use Rattle.bootimg.specs.declared.command_line.takes.Place.TheVariants as place
 use Rattle.bootimg.specs.declared.command_line.takes.Takes.TheVariants as takes
+use Rattle.bootimg.specs.declared.failure.Failure.TheVariants.{BadValue}
 use Rattle.bootimg.specs.TakenWords.{IsTaken}
 
 -- The first word that is not taken, in lists that are looked through one word after another.
@@ -230,3 +233,19 @@ pub payload_is_taken : (word : List ℕ) (given : Option PayloadWord) (is_given 
 payload_is_taken word None is_given some none same =
     (λ holds. absurd (true≢false (sym holds ∙ same)), λ is. absurd (none is.0 is.1 is.2))
 payload_is_taken word (Some payload) is_given some none same = (λ holds. (payload.image, payload.file.now, some), λ is. same)
+
+-- ---- words that are parsed
+
+-- A word is taken if it is parsed, and not if that fails for another reason than memory.
+pub taken_if_parsed : {X : Type 0} (P : X → Type 0) (found : X) → P found → IsTrue true ↔ ((value : X) × P value)
+taken_if_parsed P found is = (λ holds. (found, is), λ given. refl)
+
+pub refused_if_bad : {X : Type 0} (P : X → Type 0) (failure : NoRequest) → failure ≡ outcome.Failure BadValue
+    → IsFailureOutcome (IsBadValue P) failure → IsTrue false ↔ ((value : X) × P value)
+refused_if_bad P failure same fails =
+    let none = not_memory (subst (IsFailureOutcome (IsBadValue P)) same fails) in
+    (λ holds. absurd (true≢false (sym holds)), λ given. absurd (none given.0 given.1))
+  where
+    not_memory : IsFailureOutcome (IsBadValue P) (outcome.Failure BadValue) → NoneIs P
+    not_memory (inl bad) = bad.1
+    not_memory (inr memory) = absurd cc

@@ -145,6 +145,12 @@ flags_are_known = record {
   layout_in_json = λ options is how holds.
       no_layout_in_json options how (flag_is (codes "show --layout --json") (codes "show") options is (codes "json") ∙ refl)
       (flag_is (codes "show --layout --json") (codes "show") options is (codes "layout") ∙ refl) holds;
+  deep = λ options is deep holds. holds.given (flag_is (codes "describe --deep") (codes "describe") options is (codes "deep") ∙ refl);
+  not_deep = λ options is deep holds. holds.not_given (flag_is (codes "describe") (codes "describe") options is (codes "deep") ∙ refl);
+  deep_comparison = λ options is deep holds.
+      holds.given (flag_is (codes "compare --deep a b") (codes "compare") options is (codes "deep") ∙ refl);
+  no_deep_comparison = λ options is deep holds.
+      holds.not_given (flag_is (codes "compare a b") (codes "compare") options is (codes "deep") ∙ refl);
   quiet = λ options is quiet holds. holds.given (flag_is (codes "compare --quiet a b") (codes "compare") options is (codes "quiet") ∙ refl);
   not_quiet = λ options is quiet holds. holds.not_given (flag_is (codes "compare a b") (codes "compare") options is (codes "quiet") ∙ refl);
   signed = λ options is signed holds. holds.given (flag_is (codes "check --signed") (codes "check") options is (codes "signed") ∙ refl);

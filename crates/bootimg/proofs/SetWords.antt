@@ -107,7 +107,7 @@ module _ (word first : List ℕ) (after : Option (List ℕ)) (cut : IsCutAt 32 w
       cut_is 32 word first after cut (path place.path) (Some (shown_text place.name ++ from_byte 32 is.after)) (path_no_space place.path)
       (sym (append_assoc (path place.path) (32 ∷ shown_text place.name) (from_byte 32 is.after)) ∙ is.is)
 
-  -- Without a space it is no word for a new value.
+  -- Without a space it is not a word for a new value.
   pub no_set_word : after ≡ None → (edit : Edit) → ¬ (IsSetWord word edit)
   no_set_word none (SetProperty place value) is = absurd (let e = (property_cut place value.items is).1 ∙ none in cc)
   no_set_word none (SetField value) is = absurd (let e = (field_cut value is).1 ∙ none in cc)

@@ -1,12 +1,19 @@
-use Rattle.std.proofs.Common.{◌≡◌, ◌∙◌, ℕ, Bool, false, List, [], ◌∷◌, ap, inl, inr, refl, subst, subst₂, sym}
+use Rattle.std.proofs.Common.{◌≡◌, ◌≤◌, ◌∙◌, ℕ, Bool, false, List, [], ◌∷◌, ap, arith, codes, inl, inr, length, refl, subst, subst₂, sym}
 use Rattle.bi_base.specs.declared.fault.Error.TheVariants.{OutOfMemory}
 use Rattle.bi_base.specs.Limits.{widest}
+use Rattle.bi_blob.specs.KnownTexts.{smallest_text}
 use Rattle.bi_commands.proofs.ExtractFacts.{extracts_are_known}
 use Rattle.bi_common.specs.declared.format.Format.TheVariants.{Lines}
-use Rattle.bi_describe.proofs.DescribedFileFacts.{described_files_are_known}
+use Rattle.bi_common.specs.KnownWords.{lines}
+use Rattle.bi_common.specs.Lines.{text_of_lines}
+use Rattle.bi_describe.specs.DeepDescribing.{IsDeepDescription}
+use Rattle.bi_describe.specs.DeepLaws.{IsPlainlyDescribed, NothingInsideIsDescription, with_nothing_inside}
+use Rattle.bi_describe.specs.Describing.{IsDescription, description_text}
+use Rattle.bi_describe.proofs.DescribedFileFacts.{described_files_are_known, only_smallest, small, tree_of_smallest_text}
 use Rattle.bi_fit.specs.KnownJudgements.{short_crc}
 use Rattle.bi_legacy.specs.KnownImages.{kernel_file}
 use Rattle.bi_legacy.specs.Laws.{OneLegacyMeaning}
+use Rattle.bi_norm.specs.Meaning.{OfFit}
 use Rattle.bi_norm.proofs.NormalFormFacts.{kept_of_normal_forms_is_known}
 use Rattle.bi_report.specs.KnownOutputs.{bad_lines, file_with_hash}
 use Rattle.bi_report.specs.KnownScans.{ScansAreKnown}
@@ -39,6 +46,31 @@ ends good = record {
   says_nothing = record { alignment = refl; positions = refl };
   none_inside = refl;
 }
+
+-- ---- describing
+
+abbrev smallest_lines : List ℕ
+smallest_lines = lines (codes "kind fit" ∷ codes "boot-cpu 0" ∷ codes "node /" ∷ codes "node /images" ∷ [])
+
+-- The smallest tree has no payloads, so nothing is inside.
+deep_smallest : OneLegacyMeaning → NothingInsideIsDescription → IsDeepDescription Lines widest smallest_text smallest_lines
+deep_smallest one_legacy nothing_inside =
+    let described : IsDescription Lines widest smallest_text smallest_lines = (described_files_are_known one_legacy).text.is_text in
+    let plainly : IsPlainlyDescribed (OfFit tree_of_smallest_text) = nothing_inside (OfFit tree_of_smallest_text) in
+    let only : described.meaning ≡ OfFit tree_of_smallest_text =
+    (only_smallest one_legacy).only described.meaning described.means.means in
+    record {
+      deep = with_nothing_inside (OfFit tree_of_smallest_text);
+      means = record {
+        means = only_smallest one_legacy;
+        are_inside = record { each = λ place payload is. absurd (omega (arith, is.1)); other = λ place no. refl };
+      };
+      within = record {
+        payloads = (small one_legacy).payloads;
+        short = subst (λ (text : List ℕ). length text ≤ widest.file) (ap text_of_lines (sym plainly.lines)) (small one_legacy).short;
+      };
+      is_text = described.is_text ∙ ap (description_text Lines) only ∙ ap text_of_lines (sym plainly.lines);
+    }
 
 -- ---- getting values
 
@@ -87,8 +119,8 @@ get_failures_are_known one_legacy = record {
       ];
 }
 
-pub task_ends_are_known : OneLegacyMeaning → ScansAreKnown → PagesAreKnown → ObjectsAreKnown → TaskEndsAreKnown
-task_ends_are_known one_legacy scans pages objects =
+pub task_ends_are_known : OneLegacyMeaning → ScansAreKnown → PagesAreKnown → ObjectsAreKnown → NothingInsideIsDescription → TaskEndsAreKnown
+task_ends_are_known one_legacy scans pages objects nothing_inside =
     let verified = verify_outputs_are_known one_legacy in
     let checked = check_outputs_are_known one_legacy in
     let got = field_values_are_known one_legacy in
@@ -100,6 +132,8 @@ task_ends_are_known one_legacy scans pages objects =
       page_in_json = (objects.kernel, ends _);
       list = ((json_listings_are_known one_legacy).legacy, ends _);
       describe = ((described_files_are_known one_legacy).text.is_text, ends _);
+      deep = (deep_smallest one_legacy nothing_inside, ends _);
+      with_inside = λ format input output is. (is, ends _);
       verify = (_, verified.good, ends _);
       bad_hash = (_, verified.bad, ends _);
       bad_answer = λ done output is.

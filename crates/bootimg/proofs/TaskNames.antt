@@ -12,7 +12,7 @@ pub not_a_task : (given : Task) → ¬ (codes "build-fit" ≡ name_of_task given
 not_a_task (task.Normalise form) = other_bytes (codes "build-fit") (codes "normalise") refl
 not_a_task (task.Show how) = other_bytes (codes "build-fit") (codes "show") refl
 not_a_task (task.List format) = other_bytes (codes "build-fit") (codes "list") refl
-not_a_task (task.Describe format) = other_bytes (codes "build-fit") (codes "describe") refl
+not_a_task (task.Describe deep format) = other_bytes (codes "build-fit") (codes "describe") refl
 not_a_task (task.Verify format) = other_bytes (codes "build-fit") (codes "verify") refl
 not_a_task (task.Check policy format) = other_bytes (codes "build-fit") (codes "check") refl
 not_a_task (task.Scan format) = other_bytes (codes "build-fit") (codes "scan") refl
@@ -24,7 +24,7 @@ pub no_task_explains : (given : Task) → ¬ (codes "explain" ≡ name_of_task g
 no_task_explains (task.Normalise form) same = other_bytes (codes "explain") (codes "normalise") refl same
 no_task_explains (task.Show how) same = other_bytes (codes "explain") (codes "show") refl same
 no_task_explains (task.List format) same = other_bytes (codes "explain") (codes "list") refl same
-no_task_explains (task.Describe format) same = other_bytes (codes "explain") (codes "describe") refl same
+no_task_explains (task.Describe deep format) same = other_bytes (codes "explain") (codes "describe") refl same
 no_task_explains (task.Verify format) same = other_bytes (codes "explain") (codes "verify") refl same
 no_task_explains (task.Check policy format) same = other_bytes (codes "explain") (codes "check") refl same
 no_task_explains (task.Scan format) same = other_bytes (codes "explain") (codes "scan") refl same
@@ -36,7 +36,7 @@ pub no_task_updates : (given : Task) → ¬ (codes "update" ≡ name_of_task giv
 no_task_updates (task.Normalise form) same = other_bytes (codes "update") (codes "normalise") refl same
 no_task_updates (task.Show how) same = other_bytes (codes "update") (codes "show") refl same
 no_task_updates (task.List format) same = other_bytes (codes "update") (codes "list") refl same
-no_task_updates (task.Describe format) same = other_bytes (codes "update") (codes "describe") refl same
+no_task_updates (task.Describe deep format) same = other_bytes (codes "update") (codes "describe") refl same
 no_task_updates (task.Verify format) same = other_bytes (codes "update") (codes "verify") refl same
 no_task_updates (task.Check policy format) same = other_bytes (codes "update") (codes "check") refl same
 no_task_updates (task.Scan format) same = other_bytes (codes "update") (codes "scan") refl same
@@ -50,7 +50,7 @@ pub list_task : (options : ArgMatches) → json_flag options ≡ Some (codes "tr
 list_task options flag (task.Normalise form) is = absurd (other_bytes (codes "list") (codes "normalise") refl is.0)
 list_task options flag (task.Show how) is = absurd (other_bytes (codes "list") (codes "show") refl is.0)
 list_task options flag (task.List format) is = ap task.List (is.1.given flag)
-list_task options flag (task.Describe format) is = absurd (other_bytes (codes "list") (codes "describe") refl is.0)
+list_task options flag (task.Describe deep format) is = absurd (other_bytes (codes "list") (codes "describe") refl is.0)
 list_task options flag (task.Verify format) is = absurd (other_bytes (codes "list") (codes "verify") refl is.0)
 list_task options flag (task.Check policy format) is = absurd (other_bytes (codes "list") (codes "check") refl is.0)
 list_task options flag (task.Scan format) is = absurd (other_bytes (codes "list") (codes "scan") refl is.0)
@@ -65,7 +65,7 @@ pub verify_task : (options : ArgMatches) → json_flag options ≡ Some (codes "
 verify_task options flag (task.Normalise form) is = absurd (other_bytes (codes "verify") (codes "normalise") refl is.0)
 verify_task options flag (task.Show how) is = absurd (other_bytes (codes "verify") (codes "show") refl is.0)
 verify_task options flag (task.List format) is = absurd (other_bytes (codes "verify") (codes "list") refl is.0)
-verify_task options flag (task.Describe format) is = absurd (other_bytes (codes "verify") (codes "describe") refl is.0)
+verify_task options flag (task.Describe deep format) is = absurd (other_bytes (codes "verify") (codes "describe") refl is.0)
 verify_task options flag (task.Verify format) is = ap task.Verify (is.1.given flag)
 verify_task options flag (task.Check policy format) is = absurd (other_bytes (codes "verify") (codes "check") refl is.0)
 verify_task options flag (task.Scan format) is = absurd (other_bytes (codes "verify") (codes "scan") refl is.0)

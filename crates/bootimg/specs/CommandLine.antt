@@ -288,6 +288,16 @@ pub record AreSources (arguments : List (List ℕ)) (sources : List ImageSource)
   pub each : AreImageSources arguments sources
   pub one_input : count_by is_standard sources ≤ 1
 
+-- ---- describe and compare
+
+-- The text of the flag `--deep`: `true` or `false`.
+abbrev pub deep_flag : ArgMatches → Option (List ℕ)
+deep_flag options = one_text (found_of options) (codes "deep")
+
+-- What is inside payloads is described or compared with `--deep`, and else not.
+abbrev pub IsDeep : ArgMatches → Bool → Type 0
+IsDeep options deep = IsFlag (deep_flag options) deep
+
 -- ---- compare
 
 -- The text of the flag `--quiet`: `true` or `false`.
@@ -312,6 +322,7 @@ pub record IsComparePlan (options : ArgMatches) (plan : ComparePlan) : Type 0 wh
   pub one : IsImageSource (option_of options (codes "one")) plan.one
   pub other : IsImageSource (option_of options (codes "other")) plan.other
   pub quiet : IsQuiet options plan.quiet
+  pub deep : IsDeep options plan.deep
   pub format : IsFormat options plan.format
   pub ignored : IsIgnored options (ignored_words plan.ignored.items)
   pub names_a_file : NamesAFile plan.one plan.other
@@ -443,8 +454,8 @@ pub record IsEditPlan (options : ArgMatches) (plan : EditPlan) : Type 0 where
 abbrev pub HasBadEdits : ArgMatches → Type 0
 HasBadEdits options = NoneIs (IsEditPlan options) ⊎ HasNoFormChoice options
 
--- The failure of options of `update` that are no such plan: that nothing is requested, or else that
--- of a bad value.
+-- The failure of options of `update` that do not give such a plan: that nothing is requested, or
+-- else that of a bad value.
 abbrev pub IsEditPlanFailure : ArgMatches → Failure → Type 0
 IsEditPlanFailure options NoChange = AsksForNoEdit options
 IsEditPlanFailure options BadValue = AsksForEdits options × HasBadEdits options
@@ -764,7 +775,7 @@ abbrev pub name_of_task : Task → List ℕ
 name_of_task (task.Normalise form) = codes "normalise"
 name_of_task (task.Show how) = codes "show"
 name_of_task (task.List format) = codes "list"
-name_of_task (task.Describe format) = codes "describe"
+name_of_task (task.Describe deep format) = codes "describe"
 name_of_task (task.Verify format) = codes "verify"
 name_of_task (task.Check policy format) = codes "check"
 name_of_task (task.Scan format) = codes "scan"
@@ -777,7 +788,7 @@ abbrev pub AreTaskOptions : ArgMatches → Task → Type 0
 AreTaskOptions options (task.Normalise form) = IsForm options form
 AreTaskOptions options (task.Show how) = IsShown options how
 AreTaskOptions options (task.List format) = IsFormat options format
-AreTaskOptions options (task.Describe format) = IsFormat options format
+AreTaskOptions options (task.Describe deep format) = IsDeep options deep × IsFormat options format
 AreTaskOptions options (task.Verify format) = IsFormat options format
 AreTaskOptions options (task.Check policy format) =
     IsPolicy options policy × IsFormat options format

@@ -118,6 +118,7 @@ hint_given true failure = Some (failure_hint failure)
 abbrev pub is_about_word : Failure → Bool
 is_about_word BadValue = true
 is_about_word (BadImage index) = true
+is_about_word (BadConfiguration index) = true
 is_about_word other = false
 
 -- The hint: what is taken in the place of the refused word, or else that for the failure.

@@ -65,9 +65,11 @@ pub record DefaultsAreKnown : Type 0 where
   pub show : GivesValues (codes "show") (codes "show")
       (with_value (codes "layout") (codes "false") ∷ defaults_with_json)
   pub list : GivesValues (codes "list") (codes "list") defaults_with_json
-  pub describe : GivesValues (codes "describe") (codes "describe") defaults_with_json
+  pub describe : GivesValues (codes "describe") (codes "describe")
+      (with_value (codes "deep") (codes "false") ∷ defaults_with_json)
   pub compare : GivesValues (codes "compare a b") (codes "compare")
       (without_value (codes "ignore")
+      ∷ with_value (codes "deep") (codes "false")
       ∷ with_value (codes "quiet") (codes "false")
       ∷ with_value (codes "json") (codes "false")
       ∷ default_limit
@@ -148,6 +150,12 @@ offset_and_others =
 abbrev pub json_and_others : List ValuesOf
 json_and_others = with_value (codes "json") (codes "true") ∷ offset_and_others
 
+-- A command line with edits.
+abbrev pub edits_line : List ℕ
+edits_line =
+    codes
+    "update --set a --remove b --payload c --keep-form --remove d --offset 7 --limit 64 -o out in"
+
 -- Each option of each command, and the other names of two commands.
 pub record OptionsAreKnown : Type 0 where
   pub normalise : GivesValues
@@ -163,13 +171,14 @@ pub record OptionsAreKnown : Type 0 where
       (with_value (codes "layout") (codes "true") ∷ json_and_others)
   pub list : GivesValues (codes "list --json --offset 7 --limit 64 --output out in") (codes "list")
       json_and_others
-  pub describe : GivesValues (codes "describe --json --offset=7 --limit=64 -o out in")
+  pub describe : GivesValues (codes "describe --deep --json --offset=7 --limit=64 -o out in")
       (codes "describe")
-      json_and_others
+      (with_value (codes "deep") (codes "true") ∷ json_and_others)
   pub compare : GivesValues
-      (codes "compare --ignore time --ignore /a --quiet --json --limit 64 -o out - in")
+      (codes "compare --ignore time --ignore /a --deep --quiet --json --limit 64 -o out - in")
       (codes "compare")
       ((codes "ignore", codes "time" ∷ codes "/a" ∷ [])
+      ∷ with_value (codes "deep") (codes "true")
       ∷ with_value (codes "quiet") (codes "true")
       ∷ with_value (codes "json") (codes "true")
       ∷ with_value (codes "limit") (codes "64")
@@ -199,10 +208,7 @@ pub record OptionsAreKnown : Type 0 where
       ∷ with_value (codes "external") (codes "true")
       ∷ with_value (codes "align") (codes "8")
       ∷ offset_and_others)
-  pub update_edits : GivesValues
-      (codes
-      "update --set a --remove b --payload c --keep-form --remove d --offset 7 --limit 64 -o out in")
-      (codes "update")
+  pub update_edits : GivesValues edits_line (codes "update")
       ((codes "remove", codes "b" ∷ codes "d" ∷ [])
       ∷ with_value (codes "set") (codes "a")
       ∷ with_value (codes "payload") (codes "c")
@@ -298,6 +304,8 @@ pub record MistakesAreKnown : Type 0 where
   pub no_offset : fault_of program_app (words_of_line (codes "compare --offset 0 a b"))
       ≡ UnknownArgument ∷ []
   pub no_layout : fault_of program_app (words_of_line (codes "list --layout"))
+      ≡ UnknownArgument ∷ []
+  pub no_deep : fault_of program_app (words_of_line (codes "list --deep"))
       ≡ UnknownArgument ∷ []
   pub option_twice : fault_of program_app (words_of_line (codes "list --limit 64 --limit 65"))
       ≡ ArgumentConflict ∷ []

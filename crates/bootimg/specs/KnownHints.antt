@@ -4,8 +4,8 @@ use Rattle.bi_base.specs.declared.fault.Error.TheVariants.{OutOfMemory, Refused}
 use Rattle.bootimg.specs.Hints.{failure_hint, hint_given, hint_line, names_with_commas}
 use Rattle.bootimg.specs.Hints.{refused_text}
 use Rattle.bootimg.specs.Program.{writes_image}
-use Rattle.bootimg.specs.RefusedWords.{AtArgument, AtField, AtOption, GivenWordModel, near_name}
-use Rattle.bootimg.specs.RefusedWords.{with_near}
+use Rattle.bootimg.specs.RefusedWords.{AtArgument, AtField, AtOption, GivenWordModel}
+use Rattle.bootimg.specs.RefusedWords.{configuration_given, near_name, with_near}
 use Rattle.bootimg.specs.TakenWords.{names_taken}
 use Rattle.bootimg.specs.declared.codes.CodeField.TheVariants.{Arch, Compression}
 use Rattle.bootimg.specs.declared.command_line.takes.Takes.TheVariants as takes
@@ -62,6 +62,21 @@ pub record RefusedWordsAreKnown : Type 0 where
     word = codes "";
   })
       ≡ codes "image 1: LEN takes a length in bytes, and a file is given as @FILE"
+  pub left_out : hint_for (record {
+    place = AtOption (codes "ignore");
+    takes = takes.LeftOut;
+    word = codes "load";
+  })
+      ≡ codes "--ignore takes time, signatures, a PATH, or 'PATH NAME' of a property, not 'load'"
+  pub configuration : hint_for (configuration_given (codes "a"))
+      ≡ codes "--config takes NAME:KEY=IMAGE, a new NAME and names of images that are built, not "
+      ++ codes "'a'"
+  pub own_text : hint_for (record {
+    place = AtOption (codes "describe-image");
+    takes = takes.OwnText;
+    word = codes "kernel";
+  })
+      ≡ codes "--describe-image takes NAME:TEXT, the NAME of what the TEXT is for, not 'kernel'"
   pub near : near_name (names_taken (takes.Code Arch)) (codes "amd64") ≡ Some (codes "arm64")
   pub nearer : near_name (names_taken takes.Key) (codes "fd") ≡ Some (codes "fdt")
   pub none_near : near_name (names_taken takes.Key) (codes "disk") ≡ None

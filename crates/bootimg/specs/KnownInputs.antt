@@ -17,7 +17,8 @@ use Rattle.bi_common.specs.KnownWords.{lines}
 use Rattle.bi_common.specs.declared.format.Format.TheVariants.{Lines, Json}
 use Rattle.bi_describe.specs.declared.compare.CompareError.TheVariants.{One, Other}
 use Rattle.bi_describe.specs.declared.ignored.Ignored.{Ignored as IgnoredWord}
-use Rattle.bi_describe.specs.KnownComparedWithout.{node_a}
+use Rattle.bi_describe.specs.DeepComparing.{AreComparedDeepWithout, IsDeepComparison}
+use Rattle.bi_describe.specs.KnownComparedWithout.{node_a, options_with}
 use Rattle.bi_files.specs.Files.{FileStep, KnownFiles, NoFile, NotOpened, RegularFile}
 use Rattle.bi_fit.specs.KnownFiles.{bare_file}
 use Rattle.bi_legacy.specs.KnownFaults.{limited_to}
@@ -97,26 +98,47 @@ pub record ComparedInputsAreKnown (ignored : Vec IgnoredWord) : Type 0 where
 -- unless something is left out. The description of the kernel image is longer than 191 bytes.
 pub record ComparedOutputsAreKnown : Type 0 where
   pub quiet : (same : Bool) (text : List ℕ)
-      → IsCompareOutput [] true Json widest kernel_file multi_file same text
+      → IsCompareOutput [] true false Json widest kernel_file multi_file same text
       → (same ≡ false) × (text ≡ [])
-  pub quiet_same : IsCompareOutput [] true Lines widest kernel_file_with_rest kernel_file true []
-  pub differences : IsCompareOutput [] false Lines widest smallest_text bare_file false
+  pub quiet_same : IsCompareOutput [] true false Lines widest kernel_file_with_rest kernel_file
+      true []
+  pub differences : IsCompareOutput [] false false Lines widest smallest_text bare_file false
       (lines (codes "+node /images/a" ∷ codes "+payload /images/a none" ∷ []))
-  pub ignored : IsCompareOutput (node_a ∷ []) false Json widest smallest_text bare_file true
+  pub ignored : IsCompareOutput (node_a ∷ []) false false Json widest smallest_text bare_file true
       (lines (codes "{\"same\":true,\"differences\":[]}" ∷ []))
-  pub not_read : IsCompareFailure [] true widest file_without_magic kernel_file (One no_magic)
-  pub other_not_read : IsCompareFailure [] false widest kernel_file file_without_magic
+  pub not_read : IsCompareFailure [] true false widest file_without_magic kernel_file (One no_magic)
+  pub other_not_read : IsCompareFailure [] false false widest kernel_file file_without_magic
       (Other no_magic)
-  pub ignored_not_described : IsCompareFailure (node_a ∷ []) true (limited_to 191) kernel_file
+  pub ignored_not_described : IsCompareFailure (node_a ∷ []) true false (limited_to 191) kernel_file
       kernel_file (One (too_large 191))
-  pub not_described : IsCompareFailure [] false (limited_to 88) kernel_file smallest_text
+  pub not_described : IsCompareFailure [] false false (limited_to 88) kernel_file smallest_text
       (One (too_large 88))
-  pub other_not_described : IsCompareFailure [] false (limited_to 88) smallest_text kernel_file
-      (Other (too_large 88))
+  pub other_not_described : IsCompareFailure [] false false (limited_to 88) smallest_text
+      kernel_file (Other (too_large 88))
   pub quiet_described : (fault : Fault)
-      → ¬ (IsCompareFailure [] true (limited_to 88) kernel_file smallest_text (One fault))
+      → ¬ (IsCompareFailure [] true false (limited_to 88) kernel_file smallest_text (One fault))
   pub quiet_other_described : (fault : Fault)
-      → ¬ (IsCompareFailure [] true (limited_to 88) smallest_text kernel_file (Other fault))
+      → ¬ (IsCompareFailure [] true false (limited_to 88) smallest_text kernel_file (Other fault))
+
+-- With `--deep` what is inside payloads is compared too, also if something is left out. With
+-- `--quiet` alone nothing is described.
+pub record DeepOutputsAreKnown : Type 0 where
+  pub quiet : IsCompareOutput [] true true Lines widest kernel_file_with_rest kernel_file true []
+  pub same : IsCompareOutput [] false true Json widest kernel_file_with_rest kernel_file true
+      (lines (codes "{\"same\":true,\"differences\":[]}" ∷ []))
+  pub deep : (one other : List ℕ) (same : Bool) (text : List ℕ)
+      → IsDeepComparison Json widest one other same text
+      → IsCompareOutput [] false true Json widest one other same text
+  pub ignored : (one other : List ℕ) (same : Bool) (text : List ℕ)
+      → AreComparedDeepWithout (options_with (node_a ∷ []) true Lines) widest one other same text
+      → IsCompareOutput (node_a ∷ []) true true Lines widest one other same text
+  pub not_read : IsCompareFailure [] true true widest file_without_magic kernel_file (One no_magic)
+  pub other_not_read : IsCompareFailure [] false true widest kernel_file file_without_magic
+      (Other no_magic)
+  pub ignored_not_read : IsCompareFailure (node_a ∷ []) true true widest file_without_magic
+      kernel_file (One no_magic)
+  pub quiet_described : (fault : Fault)
+      → ¬ (IsCompareFailure [] true true (limited_to 88) kernel_file smallest_text (One fault))
 
 -- ---- offsets
 

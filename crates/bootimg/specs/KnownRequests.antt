@@ -23,7 +23,7 @@ use Rattle.bootimg.specs.CommandLine.{AreEscaped, AsksForSignatures, ChangesHash
 use Rattle.bootimg.specs.CommandLine.{IsAllowedBy, IsBuildPlan}
 use Rattle.bootimg.specs.CommandLine.{AreChanges, IsComparePlan, IsFields, IsForm}
 use Rattle.bootimg.specs.CommandLine.{IsFormat, IsImageSource, IsImageText, IsJob, IsPartSource}
-use Rattle.bootimg.specs.CommandLine.{IsGetPlan, IsIgnored, IsQuiet, IsSelected}
+use Rattle.bootimg.specs.CommandLine.{IsDeep, IsGetPlan, IsIgnored, IsQuiet, IsSelected}
 use Rattle.bootimg.specs.CommandLine.{IsSelectionFailure, NoneIs}
 use Rattle.bootimg.specs.CommandLine.{IsAllFailure, IsAllRequest, IsNoneGiven, SelectsAll}
 use Rattle.bootimg.specs.CommandLine.{IsShown, SelectsDefault, ShowsLayout, given_offset}
@@ -88,6 +88,14 @@ pub record FlagsAreKnown : Type 0 where
       (λ options. IsOnlyOne (IsShown options) show_form.Json)
   pub layout_in_json : HoldsFor (codes "show --layout --json") (codes "show")
       (λ options. NoneIs (IsShown options))
+  pub deep : HoldsFor (codes "describe --deep") (codes "describe")
+      (λ options. IsOnlyOne (IsDeep options) true)
+  pub not_deep : HoldsFor (codes "describe") (codes "describe")
+      (λ options. IsOnlyOne (IsDeep options) false)
+  pub deep_comparison : HoldsFor (codes "compare --deep a b") (codes "compare")
+      (λ options. IsOnlyOne (IsDeep options) true)
+  pub no_deep_comparison : HoldsFor (codes "compare a b") (codes "compare")
+      (λ options. IsOnlyOne (IsDeep options) false)
   pub quiet : HoldsFor (codes "compare --quiet a b") (codes "compare")
       (λ options. IsOnlyOne (IsQuiet options) true)
   pub not_quiet : HoldsFor (codes "compare a b") (codes "compare")

@@ -130,6 +130,7 @@ compared_plan ignored = record {
   one = File (lent (codes "a"));
   other = File (lent (codes "b"));
   quiet = false;
+  deep = false;
   format = Lines;
   ignored = ignored;
 }

@@ -12,7 +12,9 @@ use Rattle.bi_commands.specs.KnownParts.{given_parts, mixed_parts}
 use Rattle.bi_commands.specs.declared.parts.Part.{Part}
 use Rattle.bi_commands.specs.declared.parts.Part.TheVariants.{Bytes}
 use Rattle.bi_common.specs.KnownWords.{lines}
+use Rattle.bi_common.specs.declared.format.Format.{Format}
 use Rattle.bi_common.specs.declared.format.Format.TheVariants.{Lines, Json}
+use Rattle.bi_describe.specs.DeepDescribing.{IsDeepDescription}
 use Rattle.bi_files.specs.Files.{FileStep}
 use Rattle.bi_fit.specs.declared.form.Form.TheVariants.{Embedded, External}
 use Rattle.bi_fit.specs.KnownBuilds.{known_text}
@@ -84,9 +86,15 @@ pub record TaskEndsAreKnown : Type 0 where
       kernel_file_with_rest page_object
   pub list : TaskDone (task.List Json) widest (without_notes true) kernel_file_with_rest
       kernel_object
-  pub describe : TaskDone (task.Describe Lines) widest (without_notes true) smallest_text
+  pub describe : TaskDone (task.Describe false Lines) widest (without_notes true) smallest_text
       (lines
       (codes "kind fit" ∷ codes "boot-cpu 0" ∷ codes "node /" ∷ codes "node /images" ∷ []))
+  pub deep : TaskDone (task.Describe true Lines) widest (without_notes true) smallest_text
+      (lines
+      (codes "kind fit" ∷ codes "boot-cpu 0" ∷ codes "node /" ∷ codes "node /images" ∷ []))
+  pub with_inside : (format : Format) (input output : List ℕ)
+      → IsDeepDescription format widest input output
+      → TaskDone (task.Describe true format) widest (without_notes true) input output
   pub verify : TaskDone (task.Verify Lines) widest (without_notes true) (file_with_hash good_crc)
       good_lines
   pub bad_hash : TaskDone (task.Verify Lines) widest (without_notes false)

@@ -81,6 +81,10 @@ external = flag_option (codes "external")
 abbrev pub align : Rule
 align = value_option (codes "align")
 
+-- `--deep`.
+abbrev pub deep : Rule
+deep = flag_option (codes "deep")
+
 -- `--json`.
 abbrev pub json : Rule
 json = flag_option (codes "json")
@@ -125,14 +129,14 @@ list = command (codes "list") (json ∷ offset ∷ limit ∷ output ∷ files �
 
 -- `describe`.
 abbrev pub describe : Shape
-describe = command (codes "describe") (json ∷ offset ∷ limit ∷ output ∷ file ∷ [])
+describe = command (codes "describe") (deep ∷ json ∷ offset ∷ limit ∷ output ∷ file ∷ [])
 
 -- `compare`, or `diff`.
 abbrev pub compare : Shape
 compare =
     with_alias
     (command (codes "compare")
-    (repeated_option (codes "ignore") ∷ flag_option (codes "quiet") ∷ json ∷ limit ∷ output
+    (repeated_option (codes "ignore") ∷ deep ∷ flag_option (codes "quiet") ∷ json ∷ limit ∷ output
     ∷ required_positional (codes "one") ∷ required_positional (codes "other") ∷ []))
     (codes "diff")
 

@@ -19,6 +19,7 @@ use Rattle.bootimg.specs.declared.command_line.takes.Takes.{Takes}
 use Rattle.bootimg.specs.declared.command_line.takes.Takes.TheVariants as takes
 use Rattle.bootimg.specs.declared.failure.Failure.{Failure}
 use Rattle.bootimg.specs.declared.failure.Failure.TheVariants.{BadValue, BadImage}
+use Rattle.bootimg.specs.declared.failure.Failure.TheVariants.{BadConfiguration}
 
 -- The word that is the reason for a failure of the arguments: the first one that is not taken where
 -- it stands (profile of this project).
@@ -91,7 +92,9 @@ taking_options =
     ∷ taking (codes "as") takes.ValueForm ∷ taking (codes "part") takes.Number
     ∷ taking (codes "key") takes.Key ∷ taking (codes "index") takes.Number
     ∷ taking (codes "remove") takes.Removal ∷ taking (codes "set") takes.NewValue
-    ∷ taking (codes "payload") takes.NewPayload
+    ∷ taking (codes "payload") takes.NewPayload ∷ taking (codes "ignore") takes.LeftOut
+    ∷ taking (codes "compatible") takes.OwnText ∷ taking (codes "describe-config") takes.OwnText
+    ∷ taking (codes "describe-image") takes.OwnText
     ∷ record { id = codes "cause"; place = AtArgument (codes "NAME"); takes = takes.Topic }
     ∷ taking (codes "align") takes.Alignment ∷ taking (codes "offset") takes.Number
     ∷ taking (codes "limit") takes.Limit ∷ []
@@ -151,10 +154,20 @@ pub data FindsField (options : ArgMatches) (index : ℕ)
 
 -- ---- the reason for a failure
 
+-- A configuration as an option gives it.
+abbrev pub configuration_given : (word : List ℕ) → GivenWordModel
+configuration_given word = record {
+  place = AtOption (codes "config");
+  takes = takes.Configuration;
+  word = word;
+}
+
 -- What is found for a failure of these options.
 abbrev pub FindsReason : ArgMatches → Failure → Option GivenWordModel → Type 0
 FindsReason options BadValue found = FindsFirst (all_option_words (values_of options)) found
 FindsReason options (BadImage index) found = FindsField options index found
+FindsReason options (BadConfiguration index) found =
+    found ≡ option_map configuration_given (slice_get (values_of options (codes "config")) index)
 FindsReason options failure found = found ≡ None
 
 -- ---- names near a word

@@ -256,19 +256,20 @@ pub data IsComparedWork (plan : ComparePlan) (limits : Limits) (one other : List
     : Type 0
   where
     WroteDifferences : (same : Bool) (text : List ℕ)
-        → IsCompareOutput (ignored_words plan.ignored.items) plan.quiet plan.format limits one other
-        same text
+        → IsCompareOutput (ignored_words plan.ignored.items) plan.quiet plan.deep plan.format limits
+        one other same text
         → WroteAndFlushed work.output text work.new_output
         → (done : Done) → EndedWith same done → work.outcome ≡ Ok done
         → IsComparedWork plan limits one other work
     NotAllWritten : (same : Bool) (text : List ℕ)
-        → IsCompareOutput (ignored_words plan.ignored.items) plan.quiet plan.format limits one other
-        same text
+        → IsCompareOutput (ignored_words plan.ignored.items) plan.quiet plan.deep plan.format limits
+        one other same text
         → (error : Error) → WriteOrFlushStopped work.output text work.new_output error
         → work.outcome ≡ Err (source_failure Standard (Call error))
         → IsComparedWork plan limits one other work
     NotCompared : (error : CompareError)
-        → IsCompareFailure (ignored_words plan.ignored.items) plan.quiet limits one other error
+        → IsCompareFailure (ignored_words plan.ignored.items) plan.quiet plan.deep limits one other
+        error
         → IsFailedWork (refused_source plan error) (failure_of_comparing error) work
         → IsComparedWork plan limits one other work
 

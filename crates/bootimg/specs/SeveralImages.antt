@@ -40,7 +40,7 @@ source_text (File name) = shown_text name.now
 -- The form of what a task writes.
 abbrev pub format_of_task : Task → Format
 format_of_task (task.List format) = format
-format_of_task (task.Describe format) = format
+format_of_task (task.Describe deep format) = format
 format_of_task (task.Verify format) = format
 format_of_task (task.Check policy format) = format
 format_of_task (task.Scan format) = format

@@ -1,6 +1,8 @@
 use Rattle.std.specs.Prelude.{◌≡◌, ⊤, ℕ, List, [], ◌∷◌, Option, Some, codes, map}
 use Rattle.bi_base.specs.Limits.{Limits}
 use Rattle.bi_base.specs.declared.align.Align.{Align}
+use Rattle.bi_describe.specs.IgnoredWords.{AreWordsOfValues}
+use Rattle.bi_describe.specs.Ignoring.{Ignored}
 use Rattle.bi_edit.specs.declared.edit.Edit.{Edit}
 use Rattle.bi_edit.specs.EditWords.{IsPayloadWord, IsRemovalWord}
 use Rattle.bi_fit.specs.Names.{all_keys, key_name}
@@ -12,15 +14,18 @@ use Rattle.bi_report.specs.declared.check.Allowed.{Allowed}
 use Rattle.bi_values.specs.declared.value_form.ValueForm.{ValueForm}
 use Rattle.bootimg.specs.CodeWords.{IsCode, names_given_for}
 use Rattle.bootimg.specs.CommandLine.{IsAddress, IsAlignOf, IsAllowed, IsLimits, IsPartSource}
-use Rattle.bootimg.specs.ConfigurationWords.{AreHashesOf}
+use Rattle.bootimg.specs.ConfigurationWords.{AreHashesOf, IsConfigurationWord}
 use Rattle.bootimg.specs.EditOptions.{IsSetWord}
 use Rattle.bootimg.specs.Explanations.{IsAbout, all_kinds}
 use Rattle.bootimg.specs.Numbers.{IsNumber}
+use Rattle.bootimg.specs.OwnTexts.{IsNamedText}
 use Rattle.bootimg.specs.ValueWords.{form_argument}
 use Rattle.bootimg.specs.Words.{listed_words}
+use Rattle.bootimg.specs.declared.command_line.configurations.ConfigurationWord.{ConfigurationWord}
 use Rattle.bootimg.specs.declared.command_line.part.PartSource.{PartSource}
 use Rattle.bootimg.specs.declared.command_line.takes.Takes.{Takes}
 use Rattle.bootimg.specs.declared.command_line.takes.Takes.TheVariants as takes
+use Rattle.bootimg.specs.declared.command_line.texts.NamedText.{NamedText}
 use Rattle.bootimg.specs.declared.explanations.Topic.{Topic}
 
 -- Which words options and arguments take (profile of this project).
@@ -42,6 +47,10 @@ IsTaken takes.Topic word = (topic : Topic) × IsAbout word topic
 IsTaken takes.Removal word = (edit : Edit) × IsRemovalWord word edit
 IsTaken takes.NewValue word = (edit : Edit) × IsSetWord word edit
 IsTaken takes.NewPayload word = (image : List ℕ) × (file : List ℕ) × IsPayloadWord word image file
+IsTaken takes.LeftOut word = (words : List Ignored) × AreWordsOfValues (word ∷ []) words
+IsTaken takes.Configuration word =
+    (configuration : ConfigurationWord) × IsConfigurationWord word configuration
+IsTaken takes.OwnText word = (text : NamedText) × IsNamedText word text
 
 -- The names of the forms of values.
 abbrev form_names : List (List ℕ)
@@ -73,6 +82,10 @@ words_before_names takes.Topic = codes "a name that bootimg explain prints, or a
 words_before_names takes.Removal = codes "the PATH of a node, or 'PATH NAME' of a property"
 words_before_names takes.NewValue = codes "'PATH NAME', 'PATH NAME VALUE' or 'FIELD VALUE'"
 words_before_names takes.NewPayload = codes "IMAGE=@FILE"
+words_before_names takes.LeftOut = codes "time, signatures, a PATH, or 'PATH NAME' of a property"
+words_before_names takes.Configuration =
+    codes "NAME:KEY=IMAGE, a new NAME and names of images that are built"
+words_before_names takes.OwnText = codes "NAME:TEXT, the NAME of what the TEXT is for"
 
 abbrev pub words_after_names : Takes → List ℕ
 words_after_names (takes.Code field) = codes ", or a number of at most 255"

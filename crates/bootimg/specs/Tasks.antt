@@ -15,6 +15,8 @@ use Rattle.bi_report.specs.Checking.{allowed_under}
 use Rattle.bi_report.specs.ListedFiles.{IsListing}
 use Rattle.bi_report.specs.Scanning.{IsScanText, IsScanError, IsScanOutput}
 use Rattle.bi_report.specs.VerifiedFiles.{IsReport, IsVerifyOutput}
+use Rattle.bi_common.specs.declared.format.Format.{Format}
+use Rattle.bi_describe.specs.DeepDescribing.{IsDeepDescription, IsDeepDescribeError}
 use Rattle.bi_describe.specs.Describing.{IsDescription, IsDescribeError}
 use Rattle.bi_show.specs.ShownFiles.{IsPage}
 use Rattle.bi_show.specs.ShownObjects.{IsShownObject}
@@ -68,6 +70,16 @@ IsShownAs (show_form.Page presenter) limits input output =
     IsPage presenter.layout limits input output
 IsShownAs show_form.Json limits input output = IsShownObject limits input output
 
+-- The text is the description of an image, in a form: the deep one if the flag is set.
+abbrev pub IsDescribedAs : (deep : Bool) → Format → Limits → (input output : List ℕ) → Type 0
+IsDescribedAs false format limits = IsDescription format limits
+IsDescribedAs true format limits = IsDeepDescription format limits
+
+-- The error that it can have.
+abbrev pub IsDescribeErrorAs : (deep : Bool) → Format → Limits → (input : List ℕ) → Error → Type 0
+IsDescribeErrorAs false format limits input = IsDescribeError format limits input
+IsDescribeErrorAs true format limits input = IsDeepDescribeError format limits input
+
 -- The task makes this output of the input, and ends so. The answer of `verify` is good if no
 -- verdict is other than Good, that of `check` if it wrote no concern, and that of `scan` if it
 -- found an image. The answer of any other task is good.
@@ -78,8 +90,8 @@ TaskDone (Show how) limits done input output =
     IsShownAs how limits input output × EndedWith true done
 TaskDone (ListImage format) limits done input output =
     IsListing format limits input output × EndedWith true done
-TaskDone (Describe format) limits done input output =
-    IsDescription format limits input output × EndedWith true done
+TaskDone (Describe deep format) limits done input output =
+    IsDescribedAs deep format limits input output × EndedWith true done
 TaskDone (Verify format) limits done input output =
     (good : Bool) × IsVerifyOutput format limits good input output × EndedWith good done
 TaskDone (Check policy format) limits done input output =
@@ -100,7 +112,8 @@ abbrev pub TaskText : Task → Limits → (input output : List ℕ) → Type 0
 TaskText (Normalise form) limits input output = IsNormalForm limits form input output
 TaskText (Show how) limits input output = IsShownAs how limits input output
 TaskText (ListImage format) limits input output = IsListing format limits input output
-TaskText (Describe format) limits input output = IsDescription format limits input output
+TaskText (Describe deep format) limits input output =
+    IsDescribedAs deep format limits input output
 TaskText (Verify format) limits input output = IsReport format limits input output
 TaskText (Check policy format) limits input output =
     IsChecked format (allowed_under policy) limits input output
@@ -139,8 +152,8 @@ TaskFails (Show how) limits input failure =
     IsCallFailure (IsCheckError limits input) failure
 TaskFails (ListImage format) limits input failure =
     IsCallFailure (IsBootImageReadError limits input) failure
-TaskFails (Describe format) limits input failure =
-    IsCallFailure (IsDescribeError format limits input) failure
+TaskFails (Describe deep format) limits input failure =
+    IsCallFailure (IsDescribeErrorAs deep format limits input) failure
 TaskFails (Verify format) limits input failure =
     IsCallFailure (IsBootImageReadError limits input) failure
 TaskFails (Check policy format) limits input failure =
@@ -169,7 +182,7 @@ task_text : (task : Task) (limits : Limits) (done : Done) (input output : List �
 task_text (Normalise form) limits done input output is = is.0.output.normal
 task_text (Show how) limits done input output is = is.0
 task_text (ListImage format) limits done input output is = is.0
-task_text (Describe format) limits done input output is = is.0
+task_text (Describe deep format) limits done input output is = is.0
 task_text (Verify format) limits done input output is = is.1.report
 task_text (Check policy format) limits done input output is = is.1.checked
 task_text (Scan format) limits done input output is = is.1.is_scan
@@ -246,8 +259,10 @@ task_in_memory (Show how) limits input failure is =
     call_in_memory (IsCheckError limits input) (λ no. no) (λ no. no) failure is
 task_in_memory (ListImage format) limits input failure is =
     call_in_memory (IsBootImageReadError limits input) (λ no. no) (λ no. no) failure is
-task_in_memory (Describe format) limits input failure is =
+task_in_memory (Describe false format) limits input failure is =
     call_in_memory (IsDescribeError format limits input) (λ no. no) (λ no. no) failure is
+task_in_memory (Describe true format) limits input failure is =
+    call_in_memory (IsDeepDescribeError format limits input) (λ no. no) (λ no. no) failure is
 task_in_memory (Verify format) limits input failure is =
     call_in_memory (IsBootImageReadError limits input) (λ no. no) (λ no. no) failure is
 task_in_memory (Check policy format) limits input failure is =

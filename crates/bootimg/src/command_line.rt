@@ -75,8 +75,9 @@ pub enum Task<'a> {
     Show(ShowForm),
     /// Write the listing, in this form.
     List(Format),
-    /// Write the description of what the image means, in this form.
-    Describe(Format),
+    /// Write the description of what the image means, the deep one if the flag is set, in this
+    /// form.
+    Describe(bool, Format),
     /// Write the report on the checksums and digests, in this form.
     Verify(Format),
     /// Write the concerns that this policy does not allow, in this form.
@@ -325,7 +326,7 @@ fn parse_task<'a>(
         "normalise" => Task::Normalise(form(options)?),
         "show" => Task::Show(show_form(options)?),
         "list" => Task::List(format(options)),
-        "describe" => Task::Describe(format(options)),
+        "describe" => Task::Describe(flag(options, "deep"), format(options)),
         "verify" => Task::Verify(format(options)),
         "check" => Task::Check(policy(options)?, format(options)),
         "scan" => Task::Scan(format(options)),

@@ -90,7 +90,10 @@ impl<'a> Failure<'a> {
     pub fn is_about_word(self) -> bool
         ensures { result ≡ is_about_word_of self.entry }
     {
-        matches!(self, Failure::BadValue | Failure::BadImage(_))
+        matches!(
+            self,
+            Failure::BadValue | Failure::BadImage(_) | Failure::BadConfiguration(_)
+        )
     }
 
     /// Returns the hint for the failure, whatever the arguments.

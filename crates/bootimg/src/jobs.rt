@@ -2,9 +2,11 @@
 
 ghost use Rattle.std.specs.Prelude.{◌≡◌, [], Err, IfOk, IfErr, string_bytes};
 ghost use Rattle.bi_base.specs.declared.fault.Error.TheVariants.{OutOfMemory};
+ghost use Rattle.bi_describe.specs.MadeOptions.{ignoring_model};
 ghost use Rattle.bi_describe.specs.MadeWords.{ignored_words};
 ghost use Rattle.bootimg.specs.CommandLine.{HasJobLengths};
 ghost use Rattle.bootimg.specs.ComparedFiles.{IsCompareOutput, IsCompareFailure};
+ghost use Rattle.bootimg.specs.ComparedFiles.{IsFailureWithout, IsOutputWithout};
 ghost use Rattle.bootimg.specs.ComparedFiles.{failure_of_comparing, refused_source};
 ghost use Rattle.bootimg.specs.declared.command_line.source.ImageSource.TheVariants.{Standard};
 ghost use Rattle.bootimg.specs.declared.failure.Failure.TheVariants.{Call};
@@ -25,8 +27,8 @@ use bi_base::{
     Cause, Command, Error, Limits, TracedRead, TracedWrite, pipe, read_all_traced, write_and_flush,
 };
 use bi_commands::compare::{
-    CompareError, Comparison, IgnoringOptions, compare, compare_ignoring, compare_json,
-    have_same_meaning,
+    CompareError, Comparison, IgnoringOptions, compare, compare_deep, compare_ignoring,
+    compare_ignoring_deep, compare_json, have_same_meaning,
 };
 use bi_commands::format::Format;
 use bi_files::FileSystem;
@@ -302,8 +304,8 @@ fn compare_files<'a, T: TracedWrite>(
 }
 
 /// Returns whether two images mean the same without what the plan leaves out, and the differences
-/// that it gives: none if it is quiet. Fails as `compare_ignoring` does if something is left out,
-/// and else as `have_same_meaning` does if the plan is quiet, or as `compare` does.
+/// that it gives: none if it is quiet. Fails as `differences_without` does if something is left
+/// out, and else as `differences_of_all` does.
 fn differences(
     alloc: Global,
     plan: &ComparePlan<'_>,
@@ -312,10 +314,10 @@ fn differences(
     limits: Limits,
 ) -> Result<Comparison, CompareError>
     ensures compared { IfOk result (λ comparison. IsCompareOutput
-        (ignored_words plan.now.ignored.items) plan.now.quiet plan.now.format limits one.now
-        other.now comparison.same (string_bytes comparison.differences)) }
+        (ignored_words plan.now.ignored.items) plan.now.quiet plan.now.deep plan.now.format limits
+        one.now other.now comparison.same (string_bytes comparison.differences)) }
     ensures failed { IfErr result (IsCompareFailure (ignored_words plan.now.ignored.items)
-        plan.now.quiet limits one.now other.now) }
+        plan.now.quiet plan.now.deep limits one.now other.now) }
 {
     if plan.ignored.is_empty() {
         return differences_of_all(alloc, plan, one, other, limits);
@@ -325,11 +327,35 @@ fn differences(
         quiet: plan.quiet,
         format: plan.format,
     };
-    compare_ignoring(alloc, one, other, limits, options)
+    differences_without(alloc, one, other, limits, plan.deep, options)
+}
+
+/// Returns whether two images mean the same once something is left out of both, and what differs
+/// then: also inside payloads if the flag is set. Fails as `compare_ignoring` or
+/// `compare_ignoring_deep` does.
+fn differences_without(
+    alloc: Global,
+    one: &[u8],
+    other: &[u8],
+    limits: Limits,
+    deep: bool,
+    options: IgnoringOptions<'_>,
+) -> Result<Comparison, CompareError>
+    ensures compared { IfOk result (λ comparison. IsOutputWithout deep
+        (ignoring_model options.entry) limits one.now other.now comparison.same
+        (string_bytes comparison.differences)) }
+    ensures failed { IfErr result (IsFailureWithout deep limits one.now other.now) }
+{
+    if deep {
+        compare_ignoring_deep(alloc, one, other, limits, options)
+    } else {
+        compare_ignoring(alloc, one, other, limits, options)
+    }
 }
 
 /// Returns whether two images mean the same, and the differences that the plan gives if it leaves
-/// nothing out. Fails as `differences` does then.
+/// nothing out. Fails as `have_same_meaning` does if the plan is quiet, and else as `compare_deep`
+/// or `compare` does.
 fn differences_of_all(
     alloc: Global,
     plan: &ComparePlan<'_>,
@@ -337,16 +363,20 @@ fn differences_of_all(
     other: &[u8],
     limits: Limits,
 ) -> Result<Comparison, CompareError>
-    ensures compared { IfOk result (λ comparison. IsCompareOutput [] plan.now.quiet
+    ensures compared { IfOk result (λ comparison. IsCompareOutput [] plan.now.quiet plan.now.deep
         plan.now.format limits one.now other.now comparison.same
         (string_bytes comparison.differences)) }
-    ensures failed { IfErr result (IsCompareFailure [] plan.now.quiet limits one.now other.now) }
+    ensures failed { IfErr result (IsCompareFailure [] plan.now.quiet plan.now.deep limits one.now
+        other.now) }
 {
     if plan.quiet {
         return Ok(Comparison {
             same: have_same_meaning(alloc, one, other, limits)?,
             differences: String::new(alloc),
         });
+    }
+    if plan.deep {
+        return compare_deep(alloc, one, other, limits, plan.format);
     }
     match plan.format {
         Format::Lines => compare(alloc, one, other, limits),

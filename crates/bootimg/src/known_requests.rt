@@ -10,7 +10,8 @@ ghost use Rattle.bootimg.specs.KnownBuildRequests.{NamedTextsAreKnown, OwnTextOp
 ghost use Rattle.bootimg.specs.KnownBuildRequests.{TextsOfNamesAreKnown};
 ghost use Rattle.bootimg.specs.KnownOrders.{RequestsAreKnown, RejectionsAreKnown};
 ghost use Rattle.bootimg.specs.KnownInputs.{ComparedInputsAreKnown, ImagesAtAreKnown};
-ghost use Rattle.bootimg.specs.KnownInputs.{ComparedOutputsAreKnown, ExplanationsAreKnown};
+ghost use Rattle.bootimg.specs.KnownInputs.{ComparedOutputsAreKnown, DeepOutputsAreKnown};
+ghost use Rattle.bootimg.specs.KnownInputs.{ExplanationsAreKnown};
 ghost use Rattle.bootimg.specs.KnownInputs.{MessagesAreKnown};
 ghost use Rattle.bootimg.specs.KnownRequests.{IgnoredOptionsAreKnown};
 ghost use Rattle.bootimg.specs.KnownEditOptions.{EditFailuresAreKnown, EditOptionsAreKnown};
@@ -68,6 +69,13 @@ pub fn ignored_options_are_known()
 /// The outputs of `compare` for small files are known, and so are its errors.
 pub fn compared_outputs_are_known()
     ensures { ComparedOutputsAreKnown }
+{
+    bi_legacy::laws::one_meaning();
+}
+
+/// The outputs of `compare --deep` for small files are known, and so are its errors.
+pub fn deep_outputs_are_known()
+    ensures { DeepOutputsAreKnown }
 {
     bi_legacy::laws::one_meaning();
 }

@@ -63,6 +63,7 @@ pub fn task_ends_are_known()
     bi_report::known_texts::scans_are_known();
     bi_show::known_texts::pages_are_known();
     bi_show::known_texts::objects_are_known();
+    bi_describe::laws::nothing_inside_is_description();
 }
 
 /// The failures of getting values are those of the calls behind them, and have the words for the

@@ -3,7 +3,8 @@
 ghost use Rattle.std.specs.Prelude.{◌≡◌, ◌≤◌, ⊤, IfErr, IfOk, OnOk, length, true};
 ghost use Rattle.bi_base.specs.Commands.{AppendFailed, Appended, CommandFailed};
 ghost use Rattle.bi_report.specs.CheckedFiles.{IsCheckError};
-ghost use Rattle.bootimg.specs.Tasks.{EndedWith, EndedWithNotes, IsShownAs};
+ghost use Rattle.bootimg.specs.Tasks.{EndedWith, EndedWithNotes, IsDescribedAs};
+ghost use Rattle.bootimg.specs.Tasks.{IsDescribeErrorAs, IsShownAs};
 ghost use Rattle.bootimg.specs.Tasks.{TaskDone, TaskFails, TaskText};
 ghost use Rattle.bootimg.specs.SeveralImages.{format_of_task};
 ghost use Rattle.bootimg.specs.Tasks.{placed_laws, placed_promise, status_of};
@@ -14,7 +15,7 @@ use crate::failure::Failure;
 use bi_base::{Command, Error, Limits, Sink};
 use bi_commands::at_offset::image_at;
 use bi_commands::check::{Checker, check_into};
-use bi_commands::describe::Describer;
+use bi_commands::describe::{DeepDescriber, Describer};
 use bi_commands::extract::Extractor;
 use bi_commands::format::Format;
 use bi_commands::list::Lister;
@@ -95,7 +96,7 @@ impl<'a> Task<'a> {
         ensures { result ≡ format_of_task self.now }
     {
         match self {
-            Task::List(format) | Task::Describe(format) => *format,
+            Task::List(format) | Task::Describe(_, format) => *format,
             Task::Verify(format) | Task::Check(_, format) | Task::Scan(format) => *format,
             _ => Format::Lines,
         }
@@ -133,8 +134,8 @@ impl<'a> Task<'a> {
                 Lister { format: *format }.run(alloc, image, limits, sink)?;
                 return Ok(Done::with_answer(true));
             }
-            Task::Describe(format) => {
-                Describer { format: *format }.run(alloc, image, limits, sink)?;
+            Task::Describe(deep, format) => {
+                append_described(alloc, image, limits, *deep, *format, sink)?;
                 return Ok(Done::with_answer(true));
             }
             Task::Verify(format) => {
@@ -187,6 +188,31 @@ fn append_shown<S: Sink>(
     match how {
         ShowForm::Page(presenter) => presenter.run(alloc, image, limits, sink),
         ShowForm::Json => JsonPresenter.run(alloc, image, limits, sink),
+    }
+}
+
+/// Appends the description of an image, in a form: the deep one if the flag is set. Fails as
+/// `describe` or `describe_deep` does, or as the sink does. Requires: the image is not longer than
+/// the limit on files.
+fn append_described<S: Sink>(
+    alloc: Global,
+    image: &[u8],
+    limits: Limits,
+    deep: bool,
+    format: Format,
+    sink: &mut S,
+) -> Result<(), Error>
+    requires short { length image.now ≤ limits.file }
+    ensures appended { OnOk result (Appended S.appends (IsDescribedAs deep format limits image.now)
+        sink.old sink.new) }
+    ensures failed { IfErr result (AppendFailed S.fails
+        (IsDescribedAs deep format limits image.now)
+        (IsDescribeErrorAs deep format limits image.now) sink.old sink.new) }
+{
+    if deep {
+        DeepDescriber { format }.run(alloc, image, limits, sink)
+    } else {
+        Describer { format }.run(alloc, image, limits, sink)
     }
 }
 

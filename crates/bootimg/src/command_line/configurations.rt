@@ -123,7 +123,7 @@ fn names_of<'a>(alloc: Global, images: &[ImageSpec<'a>]) -> Result<BTreeSet<&'a 
 
 /// Parses a configuration: `NAME:KEY=IMAGE[,IMAGE]..[:KEY=IMAGE[,IMAGE]..]..`. Fails with the given
 /// failure for any other text, or with OutOfMemory.
-fn parse_configuration<'a>(
+pub fn parse_configuration<'a>(
     alloc: Global,
     word: &'a str,
     bad: Failure<'static>,

@@ -1,10 +1,10 @@
 //! The word that an option, an argument or a field of an image word does not take.
 
-ghost use Rattle.std.specs.Prelude.{◌≡◌, IfNone, IfOk, IfSome, map, option_map};
+ghost use Rattle.std.specs.Prelude.{◌≡◌, IfNone, IfOk, IfSome, codes, map, option_map, slice_get};
 ghost use Rattle.bootimg.specs.CommandLine.{NoneIs, texts_of, values_of};
 ghost use Rattle.bootimg.specs.RefusedWords.{FindsField, FindsFirst, FindsReason, FindsRefused};
 ghost use Rattle.bootimg.specs.RefusedWords.{FindsRefusedWord, HasFields, all_option_words};
-ghost use Rattle.bootimg.specs.RefusedWords.{field_given};
+ghost use Rattle.bootimg.specs.RefusedWords.{configuration_given, field_given};
 ghost use Rattle.bootimg.specs.RefusedWords.{fields_given, first_near, given_word, near_name};
 ghost use Rattle.bootimg.specs.RefusedWords.{refused_model, option_text_model, words_given};
 ghost use Rattle.bootimg.specs.RefusedWords.{taking_options as all_taking_options};
@@ -43,7 +43,8 @@ struct GivenWord<'a> {
 
 /// Returns the word that is the reason for a failure of these arguments, which are without the
 /// program's own name: for BadValue the first word that its option or argument does not take, and
-/// for BadImage the first field of the image word that is not taken. Returns None if there is none.
+/// for BadImage the first field of the image word that is not taken, for BadConfiguration the word
+/// of the configuration. Returns None if there is none.
 /// Fails if memory runs out.
 pub fn refused_word<'a>(
     alloc: Global,
@@ -87,6 +88,7 @@ fn reason<'a>(
     match failure {
         Failure::BadValue => refused_value(alloc, options),
         Failure::BadImage(index) => refused_field(alloc, options, index),
+        Failure::BadConfiguration(index) => Ok(configuration_at(options, index)),
         _ => Ok(None),
     }
 }
@@ -158,6 +160,19 @@ fn refused_of<'a>(
         }
     }
     Ok(None)
+}
+
+/// Returns the word of the configuration at this index, if there is one.
+fn configuration_at<'a>(options: &ArgMatches<'a>, index: usize) -> Option<GivenWord<'a>>
+    ensures { option_map given_word result ≡ option_map configuration_given
+        (slice_get (values_of options.now (codes "config")) index) }
+{
+    let word = all_values(options, "config").get(index)?;
+    Some(GivenWord {
+        place: Place::Option("config"),
+        takes: Takes::Configuration,
+        word,
+    })
 }
 
 /// Returns the first field of the image word at this index that is not taken. Returns None if the

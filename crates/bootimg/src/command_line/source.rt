@@ -57,6 +57,8 @@ pub struct ComparePlan<'a> {
     pub other: ImageSource<'a>,
     /// Whether the differences are left out.
     pub quiet: bool,
+    /// Whether what is inside payloads and parts is compared, too.
+    pub deep: bool,
     /// The form of the differences.
     pub format: Format,
     /// What is left out of both images: nothing without `--ignore`, and something with it.
@@ -96,6 +98,7 @@ pub fn compare_plan<'a>(
     let one = source(options, "one");
     let other = source(options, "other");
     let quiet = flag(options, "quiet");
+    let deep = flag(options, "deep");
     let format = format(options);
     let ignored = ignored_words(alloc, options)?;
     match (one, other) {
@@ -106,6 +109,7 @@ pub fn compare_plan<'a>(
             one,
             other,
             quiet,
+            deep,
             format,
             ignored,
         }),

@@ -17,8 +17,8 @@ use crate::command_line::takes::{Place, Takes};
 use clap::{Arg, ArgAction, Command};
 pub use options::TAKING_OPTIONS;
 use options::{
-    ALIGN, ALL, ALLOW, ARCH, AS, CAUSE, COMPATIBLE, COMPRESSION, CONFIG, CONFIGURATIONS, DEFAULT,
-    DEFAULT_NAME, DESCRIBE_CONFIGURATION, DESCRIBE_IMAGE, DESCRIPTION, ENTRY, ESCAPED,
+    ALIGN, ALL, ALLOW, ARCH, AS, CAUSE, COMPATIBLE, COMPRESSION, CONFIG, CONFIGURATIONS, DEEP,
+    DEFAULT, DEFAULT_NAME, DESCRIBE_CONFIGURATION, DESCRIBE_IMAGE, DESCRIPTION, ENTRY, ESCAPED,
     EXTERNAL_BUILT, EXTERNAL_NORMAL, FILE, FILES, HASH, HASHES, IGNORE, IMAGE, IMAGES, INDEX, JSON,
     KEEP_FORM, KEY, LAYOUT, LENGTHS, LIMIT, LOAD, NAME, NEW_TIME, OFFSET, ONE, OS, OTHER, OUTPUT,
     PART, PAYLOAD, QUIET, REMOVE, REQUIRED_FILE, SET, SIGNED, TIME, TYPE, WHERE,
@@ -360,9 +360,14 @@ static READING_COMMANDS: [CommandText; 4] = [
                  padding or versions, and not whether payloads are inside a FIT or after it. Each\n\
                  payload or part has a line with its size and SHA-256. Neither the payloads\n\
                  together nor the description may be longer than the limit.\n\n\
-                 Example: bootimg describe kernel.itb",
+                 With --deep, after the line of a payload or part that is a devicetree come its\n\
+                 boot processor, memory reservations, nodes and properties. The path of a node\n\
+                 inside it is the path of the payload, /, and its path in the devicetree:\n\
+                 /images/fdt-1//chosen, or part-1//chosen. A FIT is not a devicetree.\n\n\
+                 Example: bootimg describe kernel.itb\n\
+                 Example: bootimg describe --deep kernel.itb",
         writes_image: false,
-        options: &[JSON, OFFSET, LIMIT, OUTPUT, FILE],
+        options: &[DEEP, JSON, OFFSET, LIMIT, OUTPUT, FILE],
     },
 ];
 
@@ -383,12 +388,17 @@ static CHECKING_COMMANDS: [CommandText; 4] = [
                  a node with all that is below it and its payload; a property; or a part of a\n\
                  legacy image. A node or a part that is not there is no error. Images of\n\
                  different kinds differ, whatever is left out.\n\n\
+                 With --deep, the lines are those of describe --deep, and --ignore can leave out\n\
+                 something inside: /images/fdt-1//chosen. Then that payload is compared by what\n\
+                 stays of its devicetree, if it is one in both images, and not by its bytes. All\n\
+                 other payloads are compared byte by byte.\n\n\
                  The exit status is 0 if both mean the same thing, and 1 if they do not.\n\n\
                  Example: bootimg compare yesterday.itb today.itb\n\
                  Example: bootimg compare --ignore time \
-                 --ignore '/images/kernel-1 load' a.itb b.itb",
+                 --ignore '/images/kernel-1 load' a.itb b.itb\n\
+                 Example: bootimg compare --deep --ignore /images/fdt-1//chosen a.itb b.itb",
         writes_image: false,
-        options: &[IGNORE, QUIET, JSON, LIMIT, OUTPUT, ONE, OTHER],
+        options: &[IGNORE, DEEP, QUIET, JSON, LIMIT, OUTPUT, ONE, OTHER],
     },
     CommandText {
         name: "verify",

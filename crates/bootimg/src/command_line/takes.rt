@@ -1,14 +1,20 @@
 //! What the words of options and arguments have to be.
 
-ghost use Rattle.std.specs.Prelude.{◌≡◌, ◌↔◌, IfOk, IsTrue, map};
+ghost use Rattle.std.specs.Prelude.{◌≡◌, ◌↔◌, IfOk, IsTrue, List, map};
+ghost use Rattle.bi_common.specs.MadeFields.{bytes_of_names};
+ghost use Rattle.bi_describe.specs.IgnoredWords.{AreWordsOfValues};
+ghost use Rattle.bi_describe.specs.Ignoring.{Ignored as IgnoredModel};
 ghost use Rattle.bootimg.specs.TakenWords.{IsTaken, names_taken};
 ghost use Rattle.bootimg.specs.TakenWords.{words_after_names, words_before_names};
 ghost use Rattle.bootimg.specs.declared.command_line.takes.Takes.TheVariants.{Algorithms, Removal};
+ghost use Rattle.bootimg.specs.declared.command_line.takes.Takes.TheVariants.{Configuration};
+ghost use Rattle.bootimg.specs.declared.command_line.takes.Takes.TheVariants.{LeftOut};
 ghost use Rattle.bootimg.specs.declared.command_line.takes.Takes.TheVariants.{NewPayload, NewValue};
 
 use crate::codes::{CodeField, names_of_field, parse_code};
 use crate::command_line::NoRequest;
 use crate::command_line::allowed::parse_allowed;
+use crate::command_line::configurations::parse_configuration;
 use crate::command_line::edits::parse_set_word;
 use crate::command_line::explain::parse_topic;
 use crate::command_line::extract::parse_key;
@@ -17,8 +23,10 @@ use crate::command_line::hashes::parse_hashes;
 use crate::command_line::image::parse_address;
 use crate::command_line::options::{parse_align, parse_limits};
 use crate::command_line::part::parse_part;
+use crate::command_line::texts::parse_text;
 use crate::failure::Failure;
 use crate::numbers::parse_number;
+use bi_commands::ignored::{Ignored, IgnoredError};
 use bi_edit::words::{parse_payload, parse_removal};
 use std::alloc::{AllocError, Global};
 
@@ -55,6 +63,12 @@ pub enum Takes {
     NewValue,
     /// A new payload.
     NewPayload,
+    /// What is left out of two images.
+    LeftOut,
+    /// A configuration.
+    Configuration,
+    /// A text for one image or one configuration.
+    OwnText,
 }
 
 /// Where a word stands.
@@ -124,6 +138,9 @@ impl Takes {
             Takes::Removal => is_removal(alloc, word),
             Takes::NewValue => is_new_value(alloc, word),
             Takes::NewPayload => is_new_payload(alloc, word),
+            Takes::LeftOut => is_left_out(alloc, word),
+            Takes::Configuration => is_configuration(alloc, word),
+            Takes::OwnText => Ok(parse_text(word).is_some()),
         }
     }
 
@@ -159,6 +176,9 @@ impl Takes {
             Takes::Removal => "the PATH of a node, or 'PATH NAME' of a property",
             Takes::NewValue => "'PATH NAME', 'PATH NAME VALUE' or 'FIELD VALUE'",
             Takes::NewPayload => "IMAGE=@FILE",
+            Takes::LeftOut => "time, signatures, a PATH, or 'PATH NAME' of a property",
+            Takes::Configuration => "NAME:KEY=IMAGE, a new NAME and names of images that are built",
+            Takes::OwnText => "NAME:TEXT, the NAME of what the TEXT is for",
         }
     }
 
@@ -210,6 +230,36 @@ fn is_new_payload(alloc: Global, word: &str) -> Result<bool, AllocError>
 {
     match parse_payload(alloc, word) {
         Ok(found) => Ok(found.is_some()),
+        Err(_) => Err(AllocError),
+    }
+}
+
+/// Returns whether a word is for what is left out of two images.
+fn is_left_out(alloc: Global, word: &str) -> Result<bool, AllocError>
+    ensures { IfOk result (λ is_taken. IsTrue is_taken ↔ IsTaken LeftOut word.now) }
+{
+    are_left_out(alloc, &[word.as_bytes()])
+}
+
+/// Returns whether values are for what is left out of two images.
+fn are_left_out(alloc: Global, values: &[&[u8]]) -> Result<bool, AllocError>
+    ensures { IfOk result (λ are. IsTrue are ↔ ((words : List IgnoredModel)
+        × AreWordsOfValues (bytes_of_names values.now) words)) }
+{
+    match Ignored::parse_all(alloc, values) {
+        Ok(_words) => Ok(true),
+        Err(IgnoredError::BadValue(_)) => Ok(false),
+        Err(IgnoredError::OutOfMemory) => Err(AllocError),
+    }
+}
+
+/// Returns whether a word is a configuration.
+fn is_configuration(alloc: Global, word: &str) -> Result<bool, AllocError>
+    ensures { IfOk result (λ is_taken. IsTrue is_taken ↔ IsTaken Configuration word.now) }
+{
+    match parse_configuration(alloc, word, Failure::BadValue) {
+        Ok(_) => Ok(true),
+        Err(NoRequest::Failure(Failure::BadValue)) => Ok(false),
         Err(_) => Err(AllocError),
     }
 }

@@ -131,7 +131,7 @@ fn parse_texts<'a>(
 
 /// Parses a text: `NAME:TEXT`. Returns None exactly for a word without a colon, or with nothing
 /// after the first.
-fn parse_text(word: &str) -> Option<NamedText<'_>>
+pub fn parse_text(word: &str) -> Option<NamedText<'_>>
     ensures some { IfSome result (IsNamedText word.now) }
     ensures none { IfNone result (NoneIs (IsNamedText word.now)) }
 {

@@ -14,7 +14,7 @@ returns-clause-task c =
       | in-normalise+in_ok-form-in-normalise w ↦ subst is_task (sym w.result-is) (w.in-normalise.is, w.in_ok-form-in-normalise.ensures.form)
       | in-show+in_ok-show_form-in-show w ↦ subst is_task (sym w.result-is) (w.in-show.is, w.in_ok-show_form-in-show.ensures.shown)
       | in-list w ↦ subst is_task (sym w.result-is) (w.in-list.is, w.format.ensures)
-      | in-describe w ↦ subst is_task (sym w.result-is) (w.in-describe.is, w.format-in-describe.ensures)
+      | in-describe w ↦ subst is_task (sym w.result-is) (w.in-describe.is, (w.flag.ensures, w.format-in-describe.ensures))
       | in-verify w ↦ subst is_task (sym w.result-is) (w.in-verify.is, w.format-in-verify.ensures)
       | in-check+in_ok-policy-in-check w ↦ subst is_task (sym w.result-is) (
         w.in-check.is,

@@ -65,6 +65,14 @@ pub const IGNORE: OptionText = OptionText {
          node or 'PATH NAME' of a property, as describe prints them, or part-N; may be given any \
          number of times",
     form: OptionForm::Repeated,
+    takes: Takes::LeftOut,
+};
+
+pub const DEEP: OptionText = OptionText {
+    name: "deep",
+    value_name: "",
+    help: "Also look inside each payload or part that is a devicetree: at its nodes and properties",
+    form: OptionForm::Flag,
     takes: Takes::Anything,
 };
 
@@ -376,7 +384,7 @@ pub const COMPATIBLE: OptionText = OptionText {
     help: "A board that configuration NAME of --config is for, such as acme,one; may be given any \
          number of times",
     form: OptionForm::Repeated,
-    takes: Takes::Anything,
+    takes: Takes::OwnText,
 };
 
 pub const DESCRIBE_CONFIGURATION: OptionText = OptionText {
@@ -384,7 +392,7 @@ pub const DESCRIBE_CONFIGURATION: OptionText = OptionText {
     value_name: "NAME:TEXT",
     help: "The description of configuration NAME of --config, once for each; else that of the tree",
     form: OptionForm::Repeated,
-    takes: Takes::Anything,
+    takes: Takes::OwnText,
 };
 
 pub const DESCRIBE_IMAGE: OptionText = OptionText {
@@ -392,7 +400,7 @@ pub const DESCRIBE_IMAGE: OptionText = OptionText {
     value_name: "NAME:TEXT",
     help: "The description of image NAME, once for each; else that of the tree",
     form: OptionForm::Repeated,
-    takes: Takes::Anything,
+    takes: Takes::OwnText,
 };
 
 pub const HASH: OptionText = OptionText {
@@ -422,7 +430,7 @@ pub const IMAGES: OptionText = OptionText {
 
 /// The options and arguments whose words can be judged one by one. Those of the same name take the
 /// same words in each command.
-pub static TAKING_OPTIONS: [OptionText; 21] = [
+pub static TAKING_OPTIONS: [OptionText; 25] = [
     OS,
     ARCH,
     TYPE,
@@ -440,6 +448,10 @@ pub static TAKING_OPTIONS: [OptionText; 21] = [
     REMOVE,
     SET,
     PAYLOAD,
+    IGNORE,
+    COMPATIBLE,
+    DESCRIBE_CONFIGURATION,
+    DESCRIBE_IMAGE,
     CAUSE,
     ALIGN,
     OFFSET,

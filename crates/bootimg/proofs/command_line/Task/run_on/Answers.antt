@@ -9,10 +9,9 @@ use Rattle.bi_report.specs.Checking.{allowed_under}
 use Rattle.bi_report.specs.ListedFiles.{IsListing}
 use Rattle.bi_report.specs.Scanning.{IsScanText, IsScanError}
 use Rattle.bi_report.specs.VerifiedFiles.{IsReport}
-use Rattle.bi_describe.specs.Describing.{IsDescription, IsDescribeError}
 use Rattle.bi_commands.specs.Extracting.{IsChosen, IsExtractError}
 use Rattle.bootimg.specs.Selections.{select_of}
-use Rattle.bootimg.specs.Tasks.{IsShownAs}
+use Rattle.bootimg.specs.Tasks.{IsDescribedAs, IsDescribeErrorAs, IsShownAs}
 use Rattle.bootimg.proofs.SelectionNames.{same_chosen, same_failure}
 use Rattle.bi_values.specs.Getting.{IsGetError, IsTextOfValues}
 use Rattle.bi_values.specs.ValueNames.{value_name_models}
@@ -53,15 +52,18 @@ returns-in_err-run-in-List-clause-failed g c =
     c.args.sink.now c.run.new.sink c.in_err-run-in-List.field-0.0 p.0 p.2
     c.in_err-run-in-List.ensures.failed)
 
-pub returns-in_err-run-in-Describe-clause-failed : goal.returns-in_err-run-in-Describe-clause-failed
-returns-in_err-run-in-Describe-clause-failed g c =
+pub returns-in_err-append_described-in-Describe-clause-failed : goal.returns-in_err-append_described-in-Describe-clause-failed
+returns-in_err-append_described-in-Describe-clause-failed g c =
     let limits = c.args.limits in
     let image = c.args.image.now in
-    let p = err_from_is_err_and c.from_residual-in_err-run-in-Describe.result c.from_residual-in_err-run-in-Describe.ensures.1 in
+    let deep = c.in-Describe.deep in
+    let format = c.in-Describe.format in
+    let p = err_from_is_err_and c.from_residual-in_err-append_described-in-Describe.result
+    c.from_residual-in_err-append_described-in-Describe.ensures.1 in
     rw (c.in-Describe.is, p.1)
-    (call_failed g.S.Sink.fails (IsDescription c.in-Describe.format limits image) (IsDescribeError c.in-Describe.format limits image)
-    c.args.sink.now c.run-in-Describe.new.sink c.in_err-run-in-Describe.field-0.0 p.0 p.2
-    c.in_err-run-in-Describe.ensures.failed)
+    (call_failed g.S.Sink.fails (IsDescribedAs deep format limits image) (IsDescribeErrorAs deep format limits image)
+    c.args.sink.now c.append_described.new.sink c.in_err-append_described-in-Describe.field-0.0 p.0 p.2
+    c.in_err-append_described-in-Describe.ensures.failed)
 
 pub returns-in_err-good-in-Verify-clause-failed : goal.returns-in_err-good-in-Verify-clause-failed
 returns-in_err-good-in-Verify-clause-failed g c =

@@ -71,3 +71,15 @@ returns-in-NewValue c = rw c.in-NewValue.is c.is_new_value.ensures
 
 pub returns-in-NewPayload : goal.returns-in-NewPayload
 returns-in-NewPayload c = rw c.in-NewPayload.is c.is_new_payload.ensures
+
+pub returns-in-LeftOut : goal.returns-in-LeftOut
+returns-in-LeftOut c = rw c.in-LeftOut.is c.is_left_out.ensures
+
+pub returns-in-Configuration : goal.returns-in-Configuration
+returns-in-Configuration c = rw c.in-Configuration.is c.is_configuration.ensures
+
+pub returns-in-OwnText : goal.returns-in-OwnText
+returns-in-OwnText c =
+    rw c.in-OwnText.is
+    (taken_if_some _ c.parse_text.result c.is_some-in-OwnText.result c.parse_text.ensures.some c.parse_text.ensures.none
+    c.is_some-in-OwnText.ensures)
