@@ -42,6 +42,7 @@ from typing import Any, Iterable, Iterator, NamedTuple, TypeVar, overload
 __version__ = "0.4.0"
 __all__ = [
     "ALGORITHMS",
+    "ARGUMENTS",
     "Buffer",
     "BuildConfiguration",
     "BuildImage",
@@ -159,6 +160,30 @@ REASONS = (
     "bad edit",
     "nothing to remove",
 )
+ARGUMENTS = (
+    "options",
+    "limit",
+    "depth",
+    "form",
+    "changes",
+    "layout",
+    "kinds",
+    "key",
+    "field",
+    "code",
+    "number",
+    "place",
+    "fields",
+    "parts",
+    "words",
+    "edits",
+    "images",
+    "texts",
+    "lists",
+    "algorithms",
+    "configurations",
+)
+_ARRAYS = ARGUMENTS[ARGUMENTS.index("parts") :]
 VALUE_FORMS = ("shown", "text", "number", "raw")
 
 _OK, _REFUSED, _OUT_OF_MEMORY, _NO_ROOM, _WRONG_ARGUMENT, _NOT_FOUND = range(6)
@@ -213,7 +238,15 @@ class OutOfMemory(BootimgError, MemoryError):
 
 
 class WrongArgument(BootimgError, ValueError):
-    """A number is out of the range of its argument, or a name is unknown."""
+    """A number is out of the range of its argument, or a name is unknown. `argument` is the name of
+    the argument: one of ARGUMENTS, or of another number or name that the module looks at itself.
+    `index` is None, or, if the argument is several values, such as words, the index of the first
+    wrong one, counted from 0. Of `edit` it is the index in its parameter."""
+
+    def __init__(self, argument: str, shown: str | None = None, index: int | None = None) -> None:
+        super().__init__(f"wrong argument: {argument if shown is None else shown}")
+        self.argument = argument
+        self.index = index
 
 
 class NotFound(BootimgError, LookupError):
@@ -399,6 +432,8 @@ _CALLS = {
     "list_json": _FILE + _NUMBER * 2 + _BUFFER,
     "describe": _FILE + _NUMBER * 2 + _BUFFER,
     "describe_json": _FILE + _NUMBER * 2 + _BUFFER,
+    "describe_deep": _FILE + _NUMBER * 2 + _BUFFER,
+    "describe_deep_json": _FILE + _NUMBER * 2 + _BUFFER,
     "scan": _FILE + _NUMBER * 2 + _BUFFER,
     "scan_json": _FILE + _NUMBER * 2 + _BUFFER,
     "show": _FILE + _NUMBER * 3 + _BUFFER,
@@ -417,6 +452,8 @@ _CALLS = {
     "compare_json": _FILE * 2 + _NUMBER * 2 + _BUFFER,
     "compare_ignoring": _FILE * 4 + _NUMBER * 2 + _BUFFER,
     "compare_ignoring_json": _FILE * 4 + _NUMBER * 2 + _BUFFER,
+    "compare_deep": _FILE * 4 + _NUMBER * 2 + _BUFFER,
+    "compare_deep_json": _FILE * 4 + _NUMBER * 2 + _BUFFER,
     "build_fit_as": _FILE + [ctypes.c_void_p] + _FILE * 5 + _BUFFER,
     "build_legacy": _FILE + [ctypes.c_void_p] + _FILE + _NUMBER * 2 + _BUFFER,
     "code_name": _NUMBER * 2 + _BUFFER,
@@ -441,17 +478,23 @@ def _load() -> ctypes.CDLL:
 _library = _load()
 
 
-def _number(number: int) -> int:
+def _number(number: int, argument: str) -> int:
     """Returns a number that C can take. Raises WrongArgument for any other number."""
     if not 0 <= number <= 0xFFFFFFFF:
-        raise WrongArgument("wrong argument")
+        raise WrongArgument(argument)
     return number
 
 
-def _index_of(name: str, names: tuple[str, ...]) -> int:
-    """Returns the number of a name that C passes as a number."""
+def _bounds(limit: int, depth: int) -> tuple[int, int]:
+    """Returns the limits that C takes."""
+    return _number(limit, "limit"), _number(depth, "depth")
+
+
+def _index_of(name: str, names: tuple[str, ...], argument: str, index: int | None = None) -> int:
+    """Returns the number of a name that C passes as a number. `index` is that of the name, if it is
+    an element of its argument."""
     if name not in names:
-        raise WrongArgument(f"wrong argument: {name!r}")
+        raise WrongArgument(argument, repr(name), index)
     return names.index(name)
 
 
@@ -461,7 +504,8 @@ def _raise(status: int, answer: _Answer) -> None:
     if status == _OUT_OF_MEMORY:
         raise OutOfMemory("out of memory")
     if status == _WRONG_ARGUMENT:
-        raise WrongArgument("wrong argument")
+        argument = ARGUMENTS[answer.reason - 1]
+        raise WrongArgument(argument, index=answer.value if argument in _ARRAYS else None)
     if status == _NOT_FOUND and answer.reason == _BAD_WORD:
         raise _BadWord(answer.value)
     if status == _NOT_FOUND and answer.reason in (_BAD_EDIT, _FINDS_NOTHING):
@@ -591,7 +635,7 @@ def version() -> str:
 
 def cause_name(number: int) -> str:
     """Returns the name of the cause with the given number, 1 to 26."""
-    return _fill("cause_name", 64, (), _number(number))[0].decode("ascii")
+    return _fill("cause_name", 64, (), _number(number, "number"))[0].decode("ascii")
 
 
 def explain(number: int) -> str:
@@ -601,7 +645,7 @@ def explain(number: int) -> str:
     >>> bootimg.explain(4)
     'The data checksum of a legacy image is wrong: fetch the image again.'
     """
-    return _fill("explain", 512, (), _number(number))[0].decode("ascii")
+    return _fill("explain", 512, (), _number(number, "number"))[0].decode("ascii")
 
 
 def kind(file: Buffer) -> str:
@@ -617,8 +661,8 @@ def _form(external: bool, align: int | None) -> int:
     if align is None:
         return int(external)
     if not external or align in (0, 1):
-        raise WrongArgument("wrong argument")
-    return _number(align)
+        raise WrongArgument("form")
+    return _number(align, "form")
 
 
 def normalise(
@@ -645,7 +689,7 @@ def normalise_and_count(
 ) -> tuple[bytes, int]:
     """Returns what `normalise` returns, and the number of signature nodes, which are kept and not
     checked."""
-    numbers = (_form(external, align), _number(limit), _number(depth))
+    numbers = (_form(external, align), *_bounds(limit, depth))
     return _fill("normalise", _size_of(file) + 4096, (file,), *numbers)
 
 
@@ -719,7 +763,7 @@ def _update_numbers(
     """Returns the numbers of an update for C."""
     changes = int(time is not None) + 2 * int(hashes)
     form = _form(external, align)
-    return (changes, _number(time or 0), form, _number(limit), _number(depth))
+    return (changes, _number(time or 0, "time"), form, *_bounds(limit, depth))
 
 
 def _region(name: str, files: tuple[Buffer, ...], *numbers: int) -> memoryview:
@@ -733,14 +777,14 @@ def extract_part(
 ) -> memoryview:
     """Returns the part with the given index, counted from 0, of a legacy image, as a view of the
     file."""
-    return _region("extract_part", (file,), _number(index), _number(limit), _number(depth))
+    return _region("extract_part", (file,), _number(index, "index"), *_bounds(limit, depth))
 
 
 def extract_image(
     file: Buffer, name: bytes | str, limit: int = LIMIT, depth: int = DEPTH
 ) -> memoryview:
     """Returns the payload of the image with the given name in a FIT, as a view of the file."""
-    return _region("extract_image", (file, _name_of(name)), _number(limit), _number(depth))
+    return _region("extract_image", (file, _name_of(name)), *_bounds(limit, depth))
 
 
 def extract_config(
@@ -754,7 +798,7 @@ def extract_config(
     """Returns a payload that the configuration with the given name lists under a key, one of KEYS,
     as a view of the file. `index` is its index in the list, counted from 0. Without a name, the
     default configuration is used."""
-    numbers = (_index_of(key, KEYS), _number(index), _number(limit), _number(depth))
+    numbers = (_index_of(key, KEYS, "key"), _number(index, "index"), *_bounds(limit, depth))
     if name is None:
         return _region("extract_default", (file,), *numbers)
     return _region("extract_config", (file, _name_of(name)), *numbers)
@@ -772,25 +816,29 @@ def _text(name: str, files: tuple[Buffer, ...], *numbers: int) -> tuple[str, int
 def listing(file: Buffer, limit: int = LIMIT, depth: int = DEPTH) -> str:
     """Returns the listing of a file: what the image holds, and the sizes and offsets of parts or
     payloads."""
-    return _text("list", (file,), _number(limit), _number(depth))[0]
+    return _text("list", (file,), *_bounds(limit, depth))[0]
 
 
 def listing_json(file: Buffer, limit: int = LIMIT, depth: int = DEPTH) -> str:
     """Returns what `listing` says as one JSON text in ASCII and a newline."""
-    return _text("list_json", (file,), _number(limit), _number(depth))[0]
+    return _text("list_json", (file,), *_bounds(limit, depth))[0]
 
 
-def describe(file: Buffer, limit: int = LIMIT, depth: int = DEPTH) -> str:
+def describe(file: Buffer, limit: int = LIMIT, depth: int = DEPTH, *, deep: bool = False) -> str:
     """Returns the description of what a file means. It does not depend on the layout of the file.
-    Raises Refused with TooLarge if the description, or the payloads together, are longer than
-    `limit`."""
-    return _text("describe", (file,), _number(limit), _number(depth))[0]
+    With `deep`, the lines of each payload that is a devicetree follow its own line, as with the
+    option `--deep` of the program. Raises Refused with TooLarge if the description, or the payloads
+    together, are longer than `limit`."""
+    return _text("describe_deep" if deep else "describe", (file,), *_bounds(limit, depth))[0]
 
 
-def describe_json(file: Buffer, limit: int = LIMIT, depth: int = DEPTH) -> str:
+def describe_json(
+    file: Buffer, limit: int = LIMIT, depth: int = DEPTH, *, deep: bool = False
+) -> str:
     """Returns what `describe` says as one JSON text in ASCII and a newline. Raises Refused with
     TooLarge if this text, or the payloads together, are longer than `limit`."""
-    return _text("describe_json", (file,), _number(limit), _number(depth))[0]
+    name = "describe_deep_json" if deep else "describe_json"
+    return _text(name, (file,), *_bounds(limit, depth))[0]
 
 
 def get(
@@ -806,8 +854,8 @@ def get(
     is one of VALUE_FORMS. Raises WrongArgument if the words do not name one value, and NotFound if
     it is not there, or not in the form."""
     files = (file, _name_of(place), _name_of(name))
-    number = _index_of(form, VALUE_FORMS)
-    return _fill("get", 256, files, number, _number(limit), _number(depth))[0]
+    number = _index_of(form, VALUE_FORMS, "form")
+    return _fill("get", 256, files, number, *_bounds(limit, depth))[0]
 
 
 def show(
@@ -817,13 +865,13 @@ def show(
     the verdicts on hash nodes, of its configurations, of its signature nodes with what they cover,
     and the lines of `check`. With `layout`, it shows the regions of the file by their offsets. Its
     form may change with the version. Raises Refused with TooLarge as `check` does."""
-    return _text("show", (file,), int(layout), _number(limit), _number(depth))[0]
+    return _text("show", (file,), int(layout), *_bounds(limit, depth))[0]
 
 
 def show_json(file: Buffer, limit: int = LIMIT, depth: int = DEPTH) -> str:
     """Returns what `show` says, without regions of the file, as one JSON text in ASCII and a
     newline. Its form stays. Raises Refused as `show` does."""
-    return _text("show_json", (file,), _number(limit), _number(depth))[0]
+    return _text("show_json", (file,), *_bounds(limit, depth))[0]
 
 
 def scan(file: Buffer, limit: int = LIMIT, depth: int = DEPTH) -> str:
@@ -837,24 +885,24 @@ def scan(file: Buffer, limit: int = LIMIT, depth: int = DEPTH) -> str:
     >>> print(bootimg.scan(bytes(100) + small), end="")
     100 legacy 65 Linux
     """
-    return _text("scan", (file,), _number(limit), _number(depth))[0]
+    return _text("scan", (file,), *_bounds(limit, depth))[0]
 
 
 def scan_json(file: Buffer, limit: int = LIMIT, depth: int = DEPTH) -> str:
     """Returns what `scan` says as one JSON text in ASCII and a newline, even if there is no
     image."""
-    return _text("scan_json", (file,), _number(limit), _number(depth))[0]
+    return _text("scan_json", (file,), *_bounds(limit, depth))[0]
 
 
 def verify(file: Buffer, limit: int = LIMIT, depth: int = DEPTH) -> Report:
     """Returns the report on the checksums and digests of a file."""
-    text, value = _text("verify", (file,), _number(limit), _number(depth))
+    text, value = _text("verify", (file,), *_bounds(limit, depth))
     return Report(text, value == 1)
 
 
 def verify_json(file: Buffer, limit: int = LIMIT, depth: int = DEPTH) -> Report:
     """Returns what `verify` says, with the report as one JSON text in ASCII and a newline."""
-    text, value = _text("verify_json", (file,), _number(limit), _number(depth))
+    text, value = _text("verify_json", (file,), *_bounds(limit, depth))
     return Report(text, value == 1)
 
 
@@ -872,7 +920,7 @@ def check(
     Refused with TooLarge if the payloads together, or the paths that signatures must cover, are
     longer than `limit`."""
     number = _policy_number(allow, signed)
-    return _text("check", (file,), number, _number(limit), _number(depth))[0]
+    return _text("check", (file,), number, *_bounds(limit, depth))[0]
 
 
 def check_json(
@@ -886,20 +934,20 @@ def check_json(
     """Returns what `check` says as one JSON text in ASCII and a newline, even if there is no
     concern."""
     number = _policy_number(allow, signed)
-    return _text("check_json", (file,), number, _number(limit), _number(depth))[0]
+    return _text("check_json", (file,), number, *_bounds(limit, depth))[0]
 
 
 def _policy_number(allow: Iterable[str], signed: bool) -> int:
     """Returns the number of a choice of kinds of concerns, and of whether signatures are asked
     for."""
-    return sum(1 << _index_of(kind, CONCERNS) for kind in set(allow)) + _SIGNED * signed
+    return sum(1 << _index_of(kind, CONCERNS, "kinds") for kind in set(allow)) + _SIGNED * signed
 
 
 def convert(file: Buffer, limit: int = LIMIT, depth: int = DEPTH) -> bytes:
     """Returns the FIT that a legacy image is converted to. Raises Refused with BadMagic for a file
     that is not a legacy image, with NoCodeName, EmptyPart or TooManyParts for an image that cannot
     be converted, and with TooLarge if the output is longer than `limit`."""
-    return _fill("convert", _size_of(file) + 4096, (file,), _number(limit), _number(depth))[0]
+    return _fill("convert", _size_of(file) + 4096, (file,), *_bounds(limit, depth))[0]
 
 
 @overload
@@ -972,7 +1020,7 @@ def build_legacy(
             raise TypeError("build_legacy() needs header, or os, arch and type")
         header = LegacyHeader("", 0, 0, 0, os, arch, type, "none")
     if isinstance(header, FitHeader):
-        raise WrongArgument("wrong argument: the header of a FIT")
+        raise WrongArgument("header", "the header of a FIT")
     pieces = [_name_of(header.name if name is None else name), *map(_bytes_of, parts)]
     regions, offset = [], 0
     for piece in pieces:
@@ -985,13 +1033,13 @@ def build_legacy(
         code_number("compression", header.compression if compression is None else compression),
     )
     numbers = (
-        _number(header.time if time is None else time),
-        _number(header.load if load is None else load),
-        _number(header.entry if entry is None else entry),
+        _number(header.time if time is None else time, "time"),
+        _number(header.load if load is None else load, "load"),
+        _number(header.entry if entry is None else entry, "entry"),
     )
     fields = _LegacyFields(regions[0], *numbers, *codes)
     array = (_Region * len(regions[1:]))(*regions[1:])
-    rest = (ctypes.byref(fields), array, len(array), _number(limit), _number(depth))
+    rest = (ctypes.byref(fields), array, len(array), *_bounds(limit, depth))
     return _fill("build_legacy", offset + 4096, (b"".join(pieces),), *rest)[0]
 
 
@@ -1069,7 +1117,7 @@ class _Input:
         regions = self.add_text(image.name), self.add(bytes(image.payload))
         codes = [0, 0, 0, 0] if image.texts else [*map(_code_of, CODES, [image] * 4)]
         addresses = int(image.load is not None) + 2 * int(image.entry is not None)
-        load, entry = _number(image.load or 0), _number(image.entry or 0)
+        load, entry = _number(image.load or 0, "load"), _number(image.entry or 0, "entry")
         return _BuildElement(*regions, load, entry, addresses, *codes)
 
     def add_texts(self, image: BuildImage) -> _BuildTexts:
@@ -1134,10 +1182,9 @@ def build_fit(
         ctypes.sizeof(_BuildOptions),
         made.add_text(description),
         made.add_text(default),
-        _number(time),
+        _number(time, "time"),
         _form(external, align),
-        _number(limit),
-        _number(depth),
+        *_bounds(limit, depth),
         int(default is not None),
     )
     arrays: list[ctypes.Array[Any]] = [
@@ -1145,7 +1192,9 @@ def build_fit(
         (_BuildTexts * len(images))(*map(made.add_texts, images)),
         (_BuildConfiguration * len(planned))(*map(made.add_configuration, planned)),
     ]
-    algorithms = [_index_of(name, ALGORITHMS) for name in hashes]
+    algorithms = [
+        _index_of(name, ALGORITHMS, "algorithms", index) for index, name in enumerate(hashes)
+    ]
     arrays += [
         (_Region * len(made.lists))(*made.lists),
         (ctypes.c_uint32 * len(algorithms))(*algorithms),
@@ -1157,7 +1206,7 @@ def build_fit(
 
 def same_meaning(one: Buffer, other: Buffer, limit: int = LIMIT, depth: int = DEPTH) -> bool:
     """Returns whether two files mean the same thing."""
-    answer = _call("same_meaning", (one, other), _number(limit), _number(depth))
+    answer = _call("same_meaning", (one, other), *_bounds(limit, depth))
     return bool(answer.value == 1)
 
 
@@ -1168,6 +1217,7 @@ def compare(
     depth: int = DEPTH,
     *,
     ignore: Iterable[bytes | str] = (),
+    deep: bool = False,
 ) -> Comparison:
     """Returns whether two files mean the same thing, and the differences between what they mean.
     There are none if they mean the same thing. If they do not, raises Refused with TooLarge for the
@@ -1175,8 +1225,11 @@ def compare(
 
     Without what `ignore` names, if it is given: words as the option `--ignore` of the program takes
     them, such as "time", "signatures", the path of a node, or a path, a space and the name of a
-    property. Nothing is left out of files of different kinds. Then a file that is too long to
-    describe is always refused. Raises WrongArgument for a word that names nothing.
+    property. Nothing is left out of files of different kinds. With `deep` it is the deep
+    descriptions that are compared, as with the option `--deep`, and a word such as
+    "/images/fdt-1//chosen" leaves out something inside a payload. With `ignore` or `deep` a file
+    that is too long to describe is always refused. Raises WrongArgument for a word that names
+    nothing.
 
     >>> import bootimg
     >>> linux = {"os": "linux", "arch": "arm", "type": "kernel"}
@@ -1184,7 +1237,7 @@ def compare(
     >>> bootimg.compare(one, other).same, bootimg.compare(one, other, ignore=["time"]).same
     (False, True)
     """
-    return _compared("", one, other, limit, depth, ignore)
+    return _compared("", one, other, limit, depth, ignore, deep)
 
 
 def compare_json(
@@ -1194,10 +1247,11 @@ def compare_json(
     depth: int = DEPTH,
     *,
     ignore: Iterable[bytes | str] = (),
+    deep: bool = False,
 ) -> Comparison:
     """Returns what `compare` says, with the differences as one JSON text in ASCII and a newline,
     even if there are none."""
-    return _compared("_json", one, other, limit, depth, ignore)
+    return _compared("_json", one, other, limit, depth, ignore, deep)
 
 
 def _compared(
@@ -1207,10 +1261,11 @@ def _compared(
     limit: int,
     depth: int,
     ignore: Iterable[bytes | str],
+    deep: bool,
 ) -> Comparison:
     words = tuple(ignore)
-    numbers = (_number(limit), _number(depth))
-    if not words:
+    numbers = _bounds(limit, depth)
+    if not words and not deep:
         text, value = _text("compare" + ending, (one, other), *numbers)
         return Comparison(value == 1, text)
     pieces, regions, offset = [*map(_name_of, words)], [], 0
@@ -1219,10 +1274,11 @@ def _compared(
         offset += len(piece)
     array = (_Region * len(regions))(*regions)
     files = (one, other, b"".join(pieces))
+    name = ("compare_deep" if deep else "compare_ignoring") + ending
     try:
-        filled = _fill("compare_ignoring" + ending, 16384, files, array, len(array), *numbers)
+        filled = _fill(name, 16384, files, array, len(array), *numbers)
     except _BadWord as bad:
-        raise WrongArgument(f"wrong argument: {words[bad.index]!r}") from None
+        raise WrongArgument("words", repr(words[bad.index]), bad.index) from None
     return Comparison(filled[1] == 1, filled[0].decode("ascii"))
 
 
@@ -1310,6 +1366,8 @@ def _parser() -> argparse.ArgumentParser:
         if name == "check":
             command.add_argument("--allow", type=_kinds, default=[], metavar="KINDS")
             command.add_argument("--signed", action="store_true")
+        if name in ("describe", "compare"):
+            command.add_argument("--deep", action="store_true")
         if name == "compare":
             command.add_argument("--quiet", action="store_true")
             command.add_argument("--ignore", action="append", default=[], metavar="WORD")
@@ -1382,10 +1440,15 @@ def _run(options: argparse.Namespace, files: list[bytes]) -> tuple[bytes, int]:
     if options.command == "extract":
         return bytes(_extracted(options, files[0])), 0
     if options.command == "compare":
-        if options.quiet and not options.ignore:
-            return b"", int(not same_meaning(files[0], files[1], limit))
+        deep = options.deep
+        if not options.ignore and (options.quiet or deep):
+            same = same_meaning(files[0], files[1], limit)
+            if options.quiet:
+                return b"", int(not same)
+            deep = not same  # Files that mean the same thing are not described.
+        words = map(os.fsencode, options.ignore)
         call = compare_json if options.json else compare
-        compared = call(files[0], files[1], limit, ignore=map(os.fsencode, options.ignore))
+        compared = call(files[0], files[1], limit, ignore=words, deep=deep)
         text = "" if options.quiet else compared.differences
         return text.encode("ascii"), int(not compared.same)
     if options.command == "convert":
@@ -1411,7 +1474,7 @@ def _printed(options: argparse.Namespace, file: bytes) -> tuple[str, int]:
         return show_json(file, limit) if options.json else show(file, options.layout, limit), 0
     if options.command == "list":
         return (listing_json if options.json else listing)(file, limit), 0
-    return (describe_json if options.json else describe)(file, limit), 0
+    return (describe_json if options.json else describe)(file, limit, deep=options.deep), 0
 
 
 def main(arguments: list[str] | None = None) -> int:

@@ -49,7 +49,7 @@ def code_number(field: str, code: Code) -> int:
     index = _index_of(field)
     number = _number_of(index, code) if isinstance(code, str) else code
     if not 0 <= number <= 255:
-        raise bootimg.WrongArgument(f"wrong argument: {field} {code!r}")
+        raise bootimg.WrongArgument("code", f"{field} {code!r}")
     return number
 
 
@@ -63,7 +63,7 @@ def code_name(field: str, number: int) -> str | None:
     """
     index = _index_of(field)
     try:
-        name, _ = bootimg._fill("code_name", 64, (), index, bootimg._number(number))
+        name, _ = bootimg._fill("code_name", 64, (), index, bootimg._number(number, "code"))
     except bootimg.NotFound:
         return None
     return name.decode("ascii")
@@ -80,5 +80,5 @@ def _number_of(index: int, name: str) -> int:
 def _index_of(field: str) -> int:
     """Returns the number of a field for C."""
     if field not in CODES:
-        raise bootimg.WrongArgument(f"wrong argument: {field}")
+        raise bootimg.WrongArgument("field", field)
     return tuple(CODES).index(field)

@@ -85,7 +85,7 @@ class _Edits:
         for field, value in (fields or {}).items():
             self._add_field(field, value)
         if time is not None:
-            self._add(_TIME, number=bootimg._number(time))
+            self._add(_TIME, number=bootimg._number(time, "time"))
         if hashes:
             self._add(_HASHES)
 
@@ -106,11 +106,11 @@ class _Edits:
         if kind == _NAME and not isinstance(value, int):
             self._add(_NAME, value)
         elif kind in (_LOAD, _ENTRY) and isinstance(value, int):
-            self._add(kind, number=bootimg._number(value))
+            self._add(kind, number=bootimg._number(value, field))
         elif kind in (_OS, _ARCH, _COMPRESSION) and not isinstance(value, bytes):
             self._add(kind, number=bootimg.code_number(field, value))
         else:
-            raise bootimg.WrongArgument(f"wrong argument: {field} {value!r}")
+            raise bootimg.WrongArgument(field, f"{field} {value!r}")
 
     def _region(self, piece: bytes) -> bootimg._Region:
         region = bootimg._Region(self._offset, len(piece))
@@ -125,13 +125,13 @@ class _Edits:
     def numbers(self, form: int, limit: int, depth: int) -> tuple[Any, ...]:
         """The arguments of a call after its files."""
         array = (_EditElement * len(self._elements))(*self._elements)
-        return array, len(array), form, bootimg._number(limit), bootimg._number(depth)
+        return array, len(array), form, *bootimg._bounds(limit, depth)
 
     def failure(self, file: bootimg.Buffer, failed: bootimg._BadEdit) -> bootimg.BootimgError:
         """The error for an edit that cannot be made."""
         word, index = self._words[failed.index]
         if failed.is_word:
-            return bootimg.WrongArgument(f"wrong argument: {word!r}")
+            return bootimg.WrongArgument("edits", repr(word), index)
         if self._elements[failed.index].kind == _REMOVE:
             return bootimg.NotFound("nothing to remove", index)
         kind = bootimg.kind(file)
@@ -144,7 +144,7 @@ def _form(external: bool, align: int | None, keep_form: bool) -> int:
     if not keep_form and align != _KEEP_FORM:
         return bootimg._form(external, align)
     if external or align is not None:
-        raise bootimg.WrongArgument("wrong argument")
+        raise bootimg.WrongArgument("form")
     return _KEEP_FORM
 
 

@@ -599,9 +599,9 @@ class Image:
         """Returns the listing of the file, as `bootimg.listing` does."""
         return bootimg.listing(self.file, *self._bounds)
 
-    def describe(self) -> str:
+    def describe(self, *, deep: bool = False) -> str:
         """Returns the description of what the file means, as `bootimg.describe` does."""
-        return bootimg.describe(self.file, *self._bounds)
+        return bootimg.describe(self.file, *self._bounds, deep=deep)
 
     def get(self, place: bytes | str, name: bytes | str = "", form: str = "shown") -> bytes:
         """Returns a single value, as `bootimg.get` does."""
@@ -616,12 +616,16 @@ class Image:
         return bootimg.show_json(self.file, *self._bounds)
 
     def compare(
-        self, other: Image | bootimg.Buffer, *, ignore: Iterable[bytes | str] = ()
+        self,
+        other: Image | bootimg.Buffer,
+        *,
+        ignore: Iterable[bytes | str] = (),
+        deep: bool = False,
     ) -> bootimg.Comparison:
         """Returns what differs between what two files mean, without what `ignore` names, as
         `bootimg.compare` does. The limits of this image apply."""
         file = other.file if isinstance(other, Image) else other
-        return bootimg.compare(self.file, file, *self._bounds, ignore=ignore)
+        return bootimg.compare(self.file, file, *self._bounds, ignore=ignore, deep=deep)
 
     def __repr__(self) -> str:
         return f"<{self.kind} image of {self._size} bytes>"

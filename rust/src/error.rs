@@ -116,6 +116,47 @@ impl fmt::Display for Refusal {
 
 impl std::error::Error for Refusal {}
 
+/// An argument that is out of its range. Of several that are, it is the first of these.
+#[derive(Clone, Copy, Debug, PartialEq, Eq)]
+#[non_exhaustive]
+pub enum Argument {
+    /// The greatest number of bytes.
+    Limit,
+    /// The greatest depth of a FIT.
+    Depth,
+    /// The form of a FIT.
+    Form,
+    /// The name of a value.
+    Value,
+    /// Another argument. No call of this crate passes a wrong one to the library.
+    Other,
+}
+
+impl Argument {
+    /// Returns the argument with a number of the library.
+    fn from_number(number: u32) -> Argument {
+        match number {
+            2 => Argument::Limit,
+            3 => Argument::Depth,
+            4 => Argument::Form,
+            12 => Argument::Value,
+            _ => Argument::Other,
+        }
+    }
+}
+
+impl fmt::Display for Argument {
+    fn fmt(&self, formatter: &mut fmt::Formatter<'_>) -> fmt::Result {
+        formatter.write_str(match self {
+            Argument::Limit => "limit",
+            Argument::Depth => "depth",
+            Argument::Form => "form",
+            Argument::Value => "value",
+            Argument::Other => "another argument",
+        })
+    }
+}
+
 /// Why a call fails.
 #[derive(Clone, Copy, Debug, PartialEq, Eq)]
 #[non_exhaustive]
@@ -124,8 +165,8 @@ pub enum Error {
     Refused(Refusal),
     /// An allocation failed.
     OutOfMemory,
-    /// A number is out of its range.
-    WrongArgument,
+    /// An argument is out of its range.
+    WrongArgument(Argument),
     /// No configuration has the name.
     NoConfiguration,
     /// The configuration does not have the key.
@@ -162,7 +203,7 @@ impl fmt::Display for Error {
         match self {
             Error::Refused(refusal) => refusal.fmt(formatter),
             Error::OutOfMemory => formatter.write_str("out of memory"),
-            Error::WrongArgument => formatter.write_str("wrong argument"),
+            Error::WrongArgument(argument) => write!(formatter, "wrong argument: {argument}"),
             Error::NoConfiguration => formatter.write_str("no such configuration"),
             Error::NoKey => formatter.write_str("no such key"),
             Error::BadList => formatter.write_str("bad list"),
@@ -197,7 +238,7 @@ pub(crate) fn failure(status: u32, answer: &sys::Answer) -> Error {
             file: answer.file,
         }),
         (sys::OUT_OF_MEMORY, _) => Error::OutOfMemory,
-        (sys::WRONG_ARGUMENT, _) => Error::WrongArgument,
+        (sys::WRONG_ARGUMENT, number) => Error::WrongArgument(Argument::from_number(number)),
         (_, 1) => Error::WrongKind,
         (_, 4) => Error::NoConfiguration,
         (_, 5) => Error::NoKey,

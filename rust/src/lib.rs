@@ -40,15 +40,16 @@ pub use building::{
 pub use codes::CodeField;
 pub use concerns::{concerns, Concern};
 pub use edits::{edit, edit_notes, Edit, EditNotes, FormChoice};
-pub use error::{Cause, Error, Refusal};
+pub use error::{Argument, Cause, Error, Refusal};
 pub use fit::{Configuration, Fit, FitImage, Place, Reservation};
 pub use hashes::{Hash, Verdict};
 pub use legacy::{Header, Legacy};
 pub use nodes::{Node, Property};
 pub use notes::{notes, Notes};
 pub use texts::{
-    check, check_json, compare, compare_ignoring, compare_ignoring_json, compare_json, convert,
-    describe, describe_json, listing, listing_json, normalise, same_meaning, scan, scan_json, show,
+    check, check_json, compare, compare_deep, compare_deep_json, compare_ignoring,
+    compare_ignoring_json, compare_json, convert, describe, describe_deep, describe_deep_json,
+    describe_json, listing, listing_json, normalise, same_meaning, scan, scan_json, show,
     show_json, update, verify, verify_json, Changes, Comparison, Concerns, Form, NormalForm,
     Policy, Report,
 };

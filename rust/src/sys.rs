@@ -291,6 +291,7 @@ declare! {
     bootimg_list(Bytes, usize, u32, u32, *mut u8, usize);
     bootimg_scan(Bytes, usize, u32, u32, *mut u8, usize);
     bootimg_describe(Bytes, usize, u32, u32, *mut u8, usize);
+    bootimg_describe_deep(Bytes, usize, u32, u32, *mut u8, usize);
     bootimg_show(Bytes, usize, u32, u32, u32, *mut u8, usize);
     bootimg_verify(Bytes, usize, u32, u32, *mut u8, usize);
     bootimg_check(Bytes, usize, u32, u32, u32, *mut u8, usize);
@@ -298,14 +299,21 @@ declare! {
     bootimg_compare_ignoring(
         Bytes, usize, Bytes, usize, Bytes, usize, *const Region, usize, u32, u32, *mut u8, usize
     );
+    bootimg_compare_deep(
+        Bytes, usize, Bytes, usize, Bytes, usize, *const Region, usize, u32, u32, *mut u8, usize
+    );
     bootimg_list_json(Bytes, usize, u32, u32, *mut u8, usize);
     bootimg_scan_json(Bytes, usize, u32, u32, *mut u8, usize);
     bootimg_show_json(Bytes, usize, u32, u32, *mut u8, usize);
     bootimg_describe_json(Bytes, usize, u32, u32, *mut u8, usize);
+    bootimg_describe_deep_json(Bytes, usize, u32, u32, *mut u8, usize);
     bootimg_verify_json(Bytes, usize, u32, u32, *mut u8, usize);
     bootimg_check_json(Bytes, usize, u32, u32, u32, *mut u8, usize);
     bootimg_compare_json(Bytes, usize, Bytes, usize, u32, u32, *mut u8, usize);
     bootimg_compare_ignoring_json(
+        Bytes, usize, Bytes, usize, Bytes, usize, *const Region, usize, u32, u32, *mut u8, usize
+    );
+    bootimg_compare_deep_json(
         Bytes, usize, Bytes, usize, Bytes, usize, *const Region, usize, u32, u32, *mut u8, usize
     );
     bootimg_convert(Bytes, usize, u32, u32, *mut u8, usize);

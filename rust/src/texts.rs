@@ -285,6 +285,25 @@ pub fn describe_json(file: &[u8], limits: Limits) -> Result<String, Error> {
     Ok(text_about(sys::bootimg_describe_json, file, limits)?.0)
 }
 
+/// Returns the description of what a file means, with the devicetrees inside its payloads, as
+/// `bootimg describe --deep` prints it.
+///
+/// # Errors
+///
+/// Those of `describe`. The limit is on the deep description.
+pub fn describe_deep(file: &[u8], limits: Limits) -> Result<String, Error> {
+    Ok(text_about(sys::bootimg_describe_deep, file, limits)?.0)
+}
+
+/// Returns what `describe_deep` says as one JSON text and a newline.
+///
+/// # Errors
+///
+/// Those of `describe_deep`. The limit is on this text.
+pub fn describe_deep_json(file: &[u8], limits: Limits) -> Result<String, Error> {
+    Ok(text_about(sys::bootimg_describe_deep_json, file, limits)?.0)
+}
+
 /// Returns the report on the checksums and digests of a file.
 ///
 /// # Errors
@@ -476,6 +495,44 @@ pub fn compare_ignoring_json(
         words,
         limits,
     )
+}
+
+/// Returns what `compare_ignoring` says, but of the deep descriptions of both files, as
+/// `bootimg compare --deep` does. A word for something inside a payload opens it, if it is a
+/// devicetree in both files: then it is compared without what the words leave out, and not by its
+/// bytes. There may be no words.
+///
+/// # Errors
+///
+/// Those of `compare_ignoring`, but it is the deep descriptions that may be too long.
+///
+/// ```
+/// # use bootimg::{compare_deep, Limits};
+/// # let image = std::fs::read(concat!(env!("CARGO_MANIFEST_DIR"), "/../examples/board.itb"))?;
+/// assert!(compare_deep(&image, &image, &["/images/fdt-1//chosen"], Limits::default())?.same);
+/// # Ok::<(), Box<dyn std::error::Error>>(())
+/// ```
+pub fn compare_deep(
+    one: &[u8],
+    other: &[u8],
+    words: &[&str],
+    limits: Limits,
+) -> Result<Comparison, Error> {
+    compared_ignoring(sys::bootimg_compare_deep, one, other, words, limits)
+}
+
+/// Returns what `compare_deep` says, with the differences as one JSON text and a newline.
+///
+/// # Errors
+///
+/// Those of `compare_deep`.
+pub fn compare_deep_json(
+    one: &[u8],
+    other: &[u8],
+    words: &[&str],
+    limits: Limits,
+) -> Result<Comparison, Error> {
+    compared_ignoring(sys::bootimg_compare_deep_json, one, other, words, limits)
 }
 
 /// Returns whether two files mean the same thing.

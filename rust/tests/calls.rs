@@ -1,13 +1,14 @@
 //! Calls on the images in `examples/`.
 
 use bootimg::{
-    build_fit, build_fit_as, build_legacy, check, check_json, compare, compare_ignoring,
-    compare_ignoring_json, compare_json, concerns, convert, describe, describe_json, edit,
-    edit_notes, get, kind, listing, listing_json, normalise, notes, same_meaning, scan, scan_json,
-    show, show_json, update, verify, verify_json, version, Algorithm, BuildConfiguration,
-    BuildImage, BuildTexts, Cause, Changes, CodeField, Concern, Concerns, Edit, EditNotes, Error,
-    Fit, Form, FormChoice, Header, Key, Kind, Legacy, Limits, Notes, Place, Plan, Policy, Refusal,
-    Value, ValueForm, Verdict,
+    build_fit, build_fit_as, build_legacy, check, check_json, compare, compare_deep,
+    compare_deep_json, compare_ignoring, compare_ignoring_json, compare_json, concerns, convert,
+    describe, describe_deep, describe_deep_json, describe_json, edit, edit_notes, get, kind,
+    listing, listing_json, normalise, notes, same_meaning, scan, scan_json, show, show_json,
+    update, verify, verify_json, version, Algorithm, Argument, BuildConfiguration, BuildImage,
+    BuildTexts, Cause, Changes, CodeField, Concern, Concerns, Edit, EditNotes, Error, Fit, Form,
+    FormChoice, Header, Key, Kind, Legacy, Limits, Notes, Place, Plan, Policy, Refusal, Value,
+    ValueForm, Verdict,
 };
 
 const ALL: Limits = Limits {
@@ -118,7 +119,7 @@ fn fits() {
             depth: 64,
         },
     );
-    assert_eq!(wrong.unwrap_err(), Error::WrongArgument);
+    assert_eq!(wrong.unwrap_err(), Error::WrongArgument(Argument::Limit));
 }
 
 #[test]
@@ -316,7 +317,10 @@ fn fits_that_cannot_be_built() {
         built(second, size as u32 - 1),
         Err(refusal(Cause::TooLarge, size as u32 - 1, 1))
     );
-    assert_eq!(built(second, 63), Err(Error::WrongArgument));
+    assert_eq!(
+        built(second, 63),
+        Err(Error::WrongArgument(Argument::Limit))
+    );
     assert_eq!(
         build_fit(&[], b"\0", 0, Form::Embedded, ALL),
         Err(refusal(Cause::BadField, 0, 1))
@@ -359,7 +363,7 @@ fn texts() {
     );
     assert_eq!(
         get(&board, Value::Field("size"), ValueForm::Shown, ALL),
-        Err(Error::WrongArgument)
+        Err(Error::WrongArgument(Argument::Value))
     );
     assert!(verify(&board, ALL).unwrap().all_good && verify_json(&board, ALL).unwrap().all_good);
     assert_eq!(
@@ -416,6 +420,71 @@ fn all_nodes() {
     assert_eq!(
         nodes[2].properties,
         fit.properties("/images/kernel-1").unwrap()
+    );
+}
+
+/// The devicetree of a board: a blob whose root has one property, the model.
+fn board_tree(model: &str) -> Vec<u8> {
+    let cells = |numbers: &[usize]| -> Vec<u8> {
+        let cells = numbers.iter().map(|number| *number as u32);
+        cells.flat_map(u32::to_be_bytes).collect()
+    };
+    let mut tree = cells(&[1, 0, 3, model.len() + 1, 0]);
+    tree.extend(model.as_bytes());
+    tree.resize(tree.len() / 4 * 4 + 4, 0);
+    tree.extend(cells(&[2, 9]));
+    let names = 56 + tree.len();
+    let mut blob = cells(&[
+        0xd00d_feed,
+        names + 6,
+        56,
+        names,
+        40,
+        17,
+        16,
+        0,
+        6,
+        tree.len(),
+    ]);
+    blob.extend([0; 16]);
+    blob.extend(tree);
+    blob.extend(b"model\0");
+    blob
+}
+
+#[test]
+fn devicetrees_inside() {
+    let fit_of = |tree: &[u8]| {
+        let image = BuildImage {
+            name: b"fdt",
+            payload: tree,
+            os: 5,
+            arch: 22,
+            image_type: 8,
+            ..BuildImage::default()
+        };
+        build_fit(&[image], b"boards", 7, Form::Embedded, ALL).unwrap()
+    };
+    let (one, other) = (fit_of(&board_tree("m")), fit_of(&board_tree("n")));
+    let deep = describe_deep(&one, ALL).unwrap();
+    assert!(deep.contains("\nproperty /images/fdt// model \"m\"\n"));
+    assert!(describe_deep_json(&one, ALL)
+        .unwrap()
+        .contains("\"devicetree\":{"));
+    assert!(!describe(&one, ALL).unwrap().contains("model"));
+    let compared = compare_deep(&one, &other, &[], ALL).unwrap();
+    assert!(!compared.same);
+    assert!(compared
+        .differences
+        .contains("\n+property /images/fdt// model \"n\"\n"));
+    let words = ["/images/fdt// model", "/images/fdt/hash-1"];
+    assert!(compare_deep(&one, &other, &words, ALL).unwrap().same);
+    assert!(!compare_ignoring(&one, &other, &words, ALL).unwrap().same);
+    let json = compare_deep_json(&one, &other, &words, ALL).unwrap();
+    assert_eq!(json.differences, "{\"same\":true,\"differences\":[]}\n");
+    assert_eq!(
+        compare_deep(&one, &other, &["/images/fdt//", "no"], ALL),
+        Err(Error::BadWord(1))
     );
 }
 
@@ -571,11 +640,9 @@ fn alignments() {
     );
     for bytes in [0, 1, 2, 3, 12, 1 << 21, u32::MAX] {
         let wrong = Form::Aligned(bytes);
-        assert_eq!(normalise(&board, wrong, ALL), Err(Error::WrongArgument));
-        assert_eq!(
-            notes(&board, nothing, wrong, ALL),
-            Err(Error::WrongArgument)
-        );
+        let error = Error::WrongArgument(Argument::Form);
+        assert_eq!(normalise(&board, wrong, ALL), Err(error));
+        assert_eq!(notes(&board, nothing, wrong, ALL), Err(error));
     }
 }
 
@@ -648,7 +715,8 @@ fn kept_forms() {
     assert_eq!(noted(FormChoice::Given(Form::External)), lost);
     for bytes in [0, 1, 2, 3, 12] {
         let wrong = Form::Aligned(bytes).into();
-        assert_eq!(edit(&board, &edits, wrong, ALL), Err(Error::WrongArgument));
+        let error = Error::WrongArgument(Argument::Form);
+        assert_eq!(edit(&board, &edits, wrong, ALL), Err(error));
     }
 }
 
