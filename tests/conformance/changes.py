@@ -18,6 +18,7 @@ COMMANDS = (
     "update --hashes", "update --hashes --external --limit 400", "update --hashes --time 0x10 --external",
     "scan --limit 200", "list --offset 1", "check --offset 64 --limit 500", "normalise --offset 0x40", "list --json --offset 73",
     "list --json", "verify --json", "describe --json", "describe --json --limit 400", "check --json", "check --json --allow unhashed",
+    "describe --deep", "describe --deep --limit 600", "describe --deep --json",
     "show --layout", "show --layout --limit 200",
     "get - time", "get - / description", "get --as number - /images/a load", "get --as text - /images/a type /configurations default",
     "normalise --external --align 8", "normalise --external --align 64 --limit 500", "update --hashes --external --align 16",
@@ -27,6 +28,7 @@ COMMANDS = (
 COMPARING = (
     "compare - NAME", "compare NAME -", "compare --quiet - NAME", "compare - NAME --limit 500", "compare --json - NAME",
     "compare --json NAME - --limit 500", "compare --ignore time,signatures - NAME", "compare --ignore /images/a --ignore part-0 NAME - --json",
+    "compare --deep NAME -", "compare --deep --ignore /images/a//b --ignore /images/c// --ignore part-0//a - NAME --limit 500",
 )
 # The longest file that is changed.
 LONGEST = 2500

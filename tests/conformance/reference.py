@@ -57,8 +57,9 @@ CONCERNS = (
     "foreign", "strings", "unit-address", "bad-default", "trailing")
 # The properties of a configuration that name no image.
 NO_REFERENCES = (b"description", b"compatible", b"default")
-# How many fields of a line of a description are its key; those of a line of another kind is its first.
-FIELDS_OF_KEY = {"property": 3, "node": 2, "payload": 2, "part": 2, "reservation": 3}
+# How many fields of a line of a description are its key; those of a line of another kind is its first. Of a line about the reservations
+# of a devicetree inside a payload all are.
+FIELDS_OF_KEY = {"property": 3, "node": 2, "payload": 2, "part": 2, "reservation": 3, "inside": 3}
 
 
 class Refused(Exception):
@@ -626,8 +627,8 @@ def legacy_listing_object(image):
     return object_of_fields(image) | {"parts": parts, "unused": image.unused}
 
 
-def reservation_objects(fit):
-    return [{"address": f"0x{address:016x}", "size": f"0x{size:016x}"} for address, size in fit.blob.reservations]
+def reservation_objects(blob):
+    return [{"address": f"0x{address:016x}", "size": f"0x{size:016x}"} for address, size in blob.reservations]
 
 
 def fit_listing_object(fit):
@@ -639,7 +640,7 @@ def fit_listing_object(fit):
         for node in fit.configurations.children
     ]
     return {
-        "kind": "fit", "boot_cpu": fit.blob.cpu, "total_size": fit.blob.total, "reservations": reservation_objects(fit),
+        "kind": "fit", "boot_cpu": fit.blob.cpu, "total_size": fit.blob.total, "reservations": reservation_objects(fit.blob),
         "images": images, "configurations": configurations, "default": name_or_null(fit.default()),
     }
 
@@ -964,47 +965,65 @@ def size_and_digest(payload):
     return f"size {len(payload)} sha256 {hashlib.sha256(payload).hexdigest()}"
 
 
-def description(image, limit):
+def description(image, limit, is_deep=False):
     """The lines of the description of an image."""
     image.check_payloads(limit)
-    lines = [line for line, _, _ in entries(image)]
+    lines = [line for line, _, _ in entries(image, is_deep)]
     if len(text_of(lines)) > limit:
         refuse("TooLarge", limit)
     return lines
 
 
 def describe(file, options):
-    limit = options["limit"]
+    limit, is_deep = options["limit"], options["deep"]
     image = read(file, limit)
     if not options["json"]:
-        return text_of(description(image, limit))
+        return text_of(description(image, limit, is_deep))
     image.check_payloads(limit)
-    text = json_of(legacy_description_object(image) if isinstance(image, Legacy) else fit_description_object(image))
+    text = json_of(legacy_description_object(image, is_deep) if isinstance(image, Legacy) else fit_description_object(image, is_deep))
     if len(text) > limit:
         refuse("TooLarge", limit)
     return text
 
 
-def digest_object(payload):
-    return {"size": len(payload), "sha256": hashlib.sha256(payload).hexdigest()}
+def digest_object(payload, is_deep):
+    found = {"size": len(payload), "sha256": hashlib.sha256(payload).hexdigest()}
+    tree = devicetree(payload) if is_deep else None
+    if tree:
+        found["devicetree"] = {"boot_cpu": tree.cpu, "reservations": reservation_objects(tree), "root": root_object(tree.root, {}, is_deep)}
+    return found
 
 
-def legacy_description_object(image):
-    return object_of_fields(image) | {"parts": [digest_object(part) for part in image.payloads()]}
+def legacy_description_object(image, is_deep):
+    return object_of_fields(image) | {"parts": [digest_object(part, is_deep) for part in image.payloads()]}
 
 
-def fit_description_object(fit):
-    payloads = {node: payload for node, payload, _, _ in fit.images}
+def fit_description_object(fit, is_deep):
+    root = root_object(fit.blob.root, {node: payload for node, payload, _, _ in fit.images}, is_deep)
+    return {"kind": "fit", "boot_cpu": fit.blob.cpu, "reservations": reservation_objects(fit.blob), "root": root}
 
+
+def root_object(root, payloads, is_deep):
+    """The object of a root, where these nodes have these payloads."""
     def object_of(node):
         found = {"name": shown(node.name)}
         if node in payloads:
-            found["payload"] = None if payloads[node] is None else digest_object(payloads[node])
-        found["properties"] = [{"name": shown(name)} | value_object(value) for name, value in fit.properties(node)]
+            found["payload"] = None if payloads[node] is None else digest_object(payloads[node], is_deep)
+        properties = [(name, value) for name, value in sorted(node.properties.items()) if node not in payloads or name not in PLACES]
+        found["properties"] = [{"name": shown(name)} | value_object(value) for name, value in properties]
         return found | {"children": [object_of(child) for child in node.children]}
-    root = object_of(fit.blob.root)
-    del root["name"]
-    return {"kind": "fit", "boot_cpu": fit.blob.cpu, "reservations": reservation_objects(fit), "root": root}
+    found = object_of(root)
+    del found["name"]
+    return found
+
+
+def devicetree(payload):
+    """The devicetree that a payload is, or None: a blob that is no flattened image tree."""
+    try:
+        blob = Blob(payload)
+    except Refused:
+        return None
+    return None if blob.root.child(b"images") else blob
 
 
 def value_object(value):
@@ -1013,18 +1032,21 @@ def value_object(value):
     return {"hex": value.hex()}
 
 
-def entries(image):
+def entries(image, is_deep):
     """Each line of the description of an image, what it is about, and the payload that it is of. It is about a word and an index, or the
-    names of the nodes on the path of a node and perhaps the name of a property."""
-    return entries_of_legacy(image) if isinstance(image, Legacy) else entries_of_fit(image)
+    names of the nodes on the path of a node and perhaps the name of a property. What is inside a payload has before the latter what the
+    line of the payload is about."""
+    return entries_of_legacy(image, is_deep) if isinstance(image, Legacy) else entries_of_fit(image, is_deep)
 
 
-def entries_of_legacy(image):
+def entries_of_legacy(image, is_deep):
     yield from [(line, (line.split(" ")[0], None), None) for line in fields_of(image)]
-    yield from [(f"part {i} {size_and_digest(part)}", ("part", i), part) for i, part in enumerate(image.payloads())]
+    for i, part in enumerate(image.payloads()):
+        yield f"part {i} {size_and_digest(part)}", ("part", i), part
+        yield from entries_inside(part, f"part-{i}", ("part", i), is_deep)
 
 
-def entries_of_fit(fit):
+def entries_of_fit(fit, is_deep):
     lines = ["kind fit", f"boot-cpu {fit.blob.cpu}", *map(reservation_line, fit.blob.reservations)]
     yield from [(line, (line.split(" ")[0], None), None) for line in lines]
 
@@ -1034,6 +1056,7 @@ def entries_of_fit(fit):
             if image is node:
                 size = "none" if payload is None else size_and_digest(payload)
                 yield f"payload {path} {size}", (names, None), payload
+                yield from entries_inside(payload, path, (names, None), is_deep)
         for name, value in fit.properties(node):
             yield " ".join([f"property {path} {shown(name)}", *value_text(value)]), (names, name), None
         for child in node.children:
@@ -1041,8 +1064,29 @@ def entries_of_fit(fit):
     yield from below(fit.blob.root, "/", ())
 
 
+def entries_inside(payload, path, place, is_deep):
+    """The same of the devicetree that a payload is, if it is one."""
+    tree = devicetree(payload) if is_deep and payload is not None else None
+    if not tree:
+        return
+    for line in [f"boot-cpu {tree.cpu}", *map(reservation_line, tree.reservations)]:
+        yield f"inside {path} {line}", place, None
+
+    def below(node, path, names):
+        yield f"node {path}", (place, names, None), None
+        for name, value in sorted(node.properties.items()):
+            yield " ".join([f"property {path} {shown(name)}", *value_text(value)]), (place, names, name), None
+        for child in node.children:
+            yield from below(child, f"{path}{'/' if names else ''}{shown(child.name)}", (*names, child.name))
+    yield from below(tree.root, f"{path}//", ())
+
+
 def is_left_out(about, words):
     """Whether a line about this is left out. Each word is what such a line is about, `time` or `signatures`."""
+    if len(about) == 3:
+        place, names, name = about
+        is_named = about in words or any((place, names[:n], None) in words for n in range(len(names) + 1))
+        return is_named or is_left_out(place, words)
     names, name = about
     if not isinstance(names, tuple):
         return about in words or names == "time" and "time" in words
@@ -1083,7 +1127,7 @@ def compare(files, options):
         return differences_text([], options)
     for name, image in zip(names, images):
         with about_image(name):
-            descriptions.append(description(image, limit))
+            descriptions.append(description(image, limit, options["deep"]))
     if one.kind != other.kind:
         return 1, differences_text([f"-kind {one.kind}", f"+kind {other.kind}"], options), b""
     return 1, differences_text(differences(*descriptions), options), b""
@@ -1091,17 +1135,29 @@ def compare(files, options):
 
 def compare_without(names, images, options):
     """The same for what stays of two images. Both are described, whatever is left out."""
-    stays = []
+    words, is_deep, stays = options["ignore"], options["deep"], []
     for name, image in zip(names, images):
         with about_image(name):
-            description(image, options["limit"])
-        stays.append([(line, payload) for line, about, payload in entries(image) if not is_left_out(about, options["ignore"])])
+            description(image, options["limit"], is_deep)
+    opened = opened_payloads(images, words) if is_deep else []
+    for image in images:
+        stays.append([
+            (line, payload) for line, about, payload in entries(image, is_deep)
+            if not is_left_out(about, words) and not (line.startswith(("payload ", "part ")) and about in opened)])
     one, other = images
     is_same = one.kind == other.kind and stays[0] == stays[1]
     lines = [f"-kind {one.kind}", f"+kind {other.kind}"]
     if one.kind == other.kind:
         lines = [] if is_same else differences(*([line for line, _ in entries] for entries in stays))
     return int(not is_same), b"" if options["quiet"] else differences_text(lines, options), b""
+
+
+def opened_payloads(images, words):
+    """What the lines of the payloads are about that are compared by the devicetrees inside: each is one in both images, and a word is for
+    something inside it."""
+    inside = {word[0] for word in words if isinstance(word, tuple) and len(word) == 3}
+    trees = [{about for _, about, payload in entries(image, False) if payload is not None and devicetree(payload)} for image in images]
+    return inside & trees[0] & trees[1]
 
 
 def differences_text(lines, options):
@@ -1114,7 +1170,7 @@ def differences_text(lines, options):
 
 def key_of(line):
     fields = line.split(" ")
-    return fields[:FIELDS_OF_KEY.get(fields[0], 1)]
+    return fields if fields[0] == "inside" and fields[2] == "reservation" else fields[:FIELDS_OF_KEY.get(fields[0], 1)]
 
 
 def differences(lines, others):
@@ -1622,7 +1678,7 @@ def name_of(text, is_escaped):
 
 
 def ignored_words(texts):
-    """What the values of --ignore leave out. What is inside a payload is None: nothing is left out by it."""
+    """What the values of --ignore leave out."""
     words = []
     for text in texts:
         plain = text.split(",")
@@ -1631,7 +1687,7 @@ def ignored_words(texts):
 
 
 def ignored_place(text):
-    """What a word with a path leaves out: a part, a node or a property."""
+    """What a word with a path leaves out: a part, a node or a property, perhaps of the devicetree inside a payload."""
     path, space, name = text.partition(" ")
     payload, slashes, inner = path.partition("//")
     index = part_of(payload)
@@ -1644,7 +1700,8 @@ def ignored_place(text):
     property_name = name_of(name, True) if space else None
     if property_name is not None and (not property_name or b"\0" in property_name) or index is not None and not slashes:
         raise Refused("usage: bad value")
-    return None if slashes else (tuple(names), property_name)
+    about = tuple(names), property_name
+    return (("part", index) if index is not None else (tuple(steps), None), *about) if slashes else about
 
 
 def part_of(path):
@@ -1788,8 +1845,8 @@ OFFSET = {"offset": (number, "0")}
 EXTERNAL = {"external": FLAG, "align": (align_of, ())}
 COMMANDS = {
     "list": (of_image(list_image), {"json": FLAG, **OFFSET}),
-    "describe": (of_image(describe), {"json": FLAG, **OFFSET}),
-    "compare": (compare, {"ignore": (ignored_words, []), "quiet": FLAG, "json": FLAG}),
+    "describe": (of_image(describe), {"deep": FLAG, "json": FLAG, **OFFSET}),
+    "compare": (compare, {"ignore": (ignored_words, []), "deep": FLAG, "quiet": FLAG, "json": FLAG}),
     "verify": (of_image(verify), {"json": FLAG, **OFFSET}),
     "check": (of_image(check), {"allow": (kinds, ()), "signed": FLAG, "json": FLAG, **OFFSET}),
     "show": (of_image(show), {"layout": FLAG, "json": FLAG, **OFFSET}),

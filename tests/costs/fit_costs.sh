@@ -5,9 +5,10 @@
 # that have one region as their payload takes more than ten times what sha256sum takes, if a command refuses payloads that are together
 # over the limit no sooner than in twenty times that time, as it would after it had hashed them, if describe or check of a large payload
 # takes more than twice as long as verify, which computes the same digest, if a command with --json takes more than five times as
-# long as without it, or if a hundred edits of 10,000 images take more than twice as long as one. Each bound of time is about twice what was measured, or more, since other work on the machine disturbs it. Each time
-# is the least of five rounds. How many times as long a file or a command takes as another is the median of the rounds. The script needs
-# python3 and coreutils.
+# long as without it, if a hundred edits of 10,000 images take more than twice as long as one, or if compare --deep of two images with 576
+# devicetrees each takes more than twelve times as long as compare, or more memory than 16 times both files. Each bound of time is about
+# twice what was measured, or more, since other work on the machine disturbs it. Each time is the least of five rounds.
+# How many times as long a file or a command takes as another is the median of the rounds. The script needs python3 and coreutils.
 # With ten times as many images, n log n comparisons are 12.5 times as many, and the larger maps are more often outside the caches of
 # the processor. A cost that grows with the square would be a hundred times as much.
 set -u
@@ -77,6 +78,18 @@ def make_overlapping(path, size, count):
     begin = len(blob(0))
     with open(path, "wb") as file:
         file.write(blob(begin) + os.urandom(size - begin))
+
+
+def devicetrees(count, other):
+    """Returns this many devicetrees of 25 KB, as boards of one processor have them. Each has a model of its own, which ends with this."""
+    value = os.urandom
+    texts = (b"compatible", b"status", b"clock-names", b"pinctrl-names")
+    devices = [
+        node(b"device@%x" % (index << 16), [(name, b"acme,device-%d\0" % index) for name in texts] + [
+            (name, value(4 * (1 + (index + at) % 6))) for at, name in enumerate((b"reg", b"interrupts", b"clocks", b"phandle"))])
+        for index in range(100)]
+    tree = blob_of(node(b"", [(b"model", b"board ...")], [node(b"chosen", [(b"bootargs", b"quiet\0")]), node(b"soc", (), devices)]))
+    return [[tree.replace(b"board ...", b"board%03d%d" % (index, number)) for index in range(count)] for number in other]
 
 
 def run(path, command, wanted=0):
@@ -156,6 +169,9 @@ REFUSING = {
 JSON = 5
 # How many times as long as one edit a hundred edits may take.
 EDITS = 2
+# How many times as long as without --deep compare may take with it, and how many bytes of memory for each byte of both files.
+DEEP = 12
+DEEP_MEMORY = 16
 
 failures = 0
 
@@ -175,6 +191,8 @@ if sys.argv[1] == "make":
     make("configured", [b"%d" % index for index in range(10_000)], 10_000)
     with open("new", "wb") as file:
         file.write(b"new")
+    for path, trees in zip(("trees", "trees.other"), devicetrees(576, (1, 2))):
+        make(path, trees)
     make_shared("shared", MIB, 1_100)
     make_overlapping("overlapping", 2 * MIB, 1_100)
     sys.exit()
@@ -221,6 +239,11 @@ one, hundred = [[PROGRAM, "update", *edits(images)] for images in ([5_000], rang
 runs, single = zip(*([run("many", hundred), run("many", one)] for _ in range(ROUNDS)))
 times = ratio(runs, single)
 judge("many, a hundred edits", times <= EDITS, f"{least(runs)[0]:.3f} s, {times:.2f} times as long as one")
+runs, plain = zip(*([run("trees", [PROGRAM, "compare", *deep, "-", "FILE.other"], 1) for deep in (["--deep"], [])] for _ in range(ROUNDS)))
+times, (seconds, memory) = ratio(runs, plain), least(runs)
+judge("trees, compare --deep", times <= DEEP, f"{seconds:.3f} s, {times:.1f} times as long as without --deep")
+size = sum(map(os.path.getsize, ("trees", "trees.other")))
+judge("trees, memory of compare --deep", memory <= DEEP_MEMORY * size, f"{memory / MIB:.0f} MiB, {memory / size:.1f} times both files")
 sys.exit(failures != 0)
 END
 # The trees are made by another process: what a process has used counts for the memory of those that it starts.
@@ -228,5 +251,5 @@ program=$root/crates/bootimg/out/bootimg
 python_with_blobs costs.py make
 python_with_blobs costs.py "$program" | tee costs
 add_counts "$(grep -c '^ok: ' costs)" "$(grep -c '^FAILED: ' costs)"
-[ "$(grep -c '^ok: \|^FAILED: ' costs)" = 49 ] || add_counts 0 1
+[ "$(grep -c '^ok: \|^FAILED: ' costs)" = 51 ] || add_counts 0 1
 finish

@@ -76,7 +76,7 @@ def changed(value):
             one = list(objects_in(other))[index]
             if name is None:
                 one["more"] = 0
-            elif name != "payload":  # a node that is no image has no payload
+            elif name not in ("payload", "devicetree"):  # not every node has a payload, and not every payload is a devicetree
                 del one[name]
             if other != value:
                 yield other

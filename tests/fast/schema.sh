@@ -27,5 +27,6 @@ is_found() {
 
 check "an output of another form is found" is_found tests/conformance/vectors/json.txt 's/{"concerns":\[\]}/{"concerns":{}}/' 'not of the schema'
 check "a member that may be missing is found" is_found docs/bootimg.schema.json 's/, "load", "entry"/, "load"/' 'of the schema after a change'
+check "a node inside with a payload is found" is_found tests/conformance/vectors/deep.txt '0,/"name":"%2D"/s//&,"payload":null/' 'not of the schema'
 check "a branch of no output is found" is_found docs/bootimg.schema.json 's/"const": "trailing"/"const": "trail"/' 'no output is of the branch'
 finish

@@ -169,6 +169,7 @@ for compiler in gcc clang; do
         for command in normalise "normalise --external" "normalise --external --align 64" list describe verify check convert "list --limit 100" \
             show "show --layout" "show --layout --limit 1000" "show --json" scan "scan --json" "scan --limit 100" "list --json" \
             "describe --json" "verify --json" "check --json" "describe --json --limit 1000" \
+            "describe --deep" "describe --deep --json" "describe --deep --limit 1000" \
             "update --time 5" "update --time 0x65000000 --hashes" "update --hashes --external" "update --external --align 0x1000 --time 7" "extract --part 0" "extract --part 1" \
             "extract --image kernel-1" "extract --image none" "extract --config conf-1" "extract --config conf-1 --key fdt" \
             "extract --config none" "extract --default" "extract --default --key ramdisk" "extract --default --index 1"; do
@@ -180,11 +181,12 @@ for compiler in gcc clang; do
             check "$compiler: compare $(basename "$image") $(basename "$other")" same compare "$image" "$other"
             check "$compiler: the same in JSON" same compare --json "$image" "$other"
             for words in "--ignore time" "--ignore time,signatures --json" "--ignore /images --ignore part-0" \
-                "--ignore /configurations/conf-1"; do
+                "--ignore /configurations/conf-1" --deep "--deep --json" "--deep --limit 1000" "--deep --ignore /images/fdt-1//"; do
                 check "$compiler: compare $words $(basename "$image") $(basename "$other")" same compare $words "$image" "$other"
             done
         done
         check "$compiler: a word that names nothing, $(basename "$image")" same compare --ignore time --ignore nothing "$image" "$image"
+        check "$compiler: the same, $(basename "$image")" same compare --deep --ignore time --ignore nothing "$image" "$image"
         check "$compiler: numbers out of their ranges, $(basename "$image")" ./calls arguments "$image"
         check "$compiler: four threads, $(basename "$image")" ./calls threads "$image"
     done

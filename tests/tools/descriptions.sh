@@ -1,16 +1,16 @@
 #!/bin/sh
 # Compares descriptions of images that mkimage and dtc make with what other tools print: each property has the value that fdtget
-# prints, and each payload, inside the blob or after it, the size and the SHA-256 of the file that it was made of. Then tries
-# compare on the images, and two examples of the manual page: git diff over descriptions, and a loop over a
-# directory. It needs Debian's u-boot-tools, device-tree-compiler, python3 and git, and installs them if one is missing and it runs
-# as root.
+# prints, and each payload, inside the blob or after it, the size and the SHA-256 of the file that it was made of. With --deep there is
+# also what fdtdump and fdtget print of the payloads that are devicetrees. Then tries compare on the images, and two examples of the manual
+# page: git diff over descriptions, and a loop over a directory. It needs Debian's u-boot-tools, device-tree-compiler, python3 and git, and
+# installs them if one is missing and it runs as root.
 set -u
 
 root=$(cd "$(dirname "$0")/../.." && pwd)
 . "$root/tests/setup"
 . "$root/tests/tools/sources"
 need u-boot-tools mkimage
-need device-tree-compiler dtc fdtget fdtput
+need device-tree-compiler dtc fdtget fdtput fdtdump
 need python3 python3
 need git git
 need_program
@@ -48,18 +48,19 @@ END
 sed 's/^ *empty-1 .*/&none-1 { os = "linux"; };/' tree.its > none.its
 
 cat > wanted.py << 'END'
-"""Prints the description of a flattened image tree, the first argument. The second one is its boot processor."""
+"""Prints the description of a flattened image tree, the first argument. The second one is its boot processor. With --deep after it the
+description is the deep one, and with --part N it is only what is inside the file, as part N of a legacy image."""
 import hashlib
 import os
 import re
 import subprocess
 import sys
 
-IMAGE, BOOT_CPU = sys.argv[1:]
+IMAGE, BOOT_CPU, *OPTIONS = sys.argv[1:]
 
 
-def fdtget(*arguments):
-    return subprocess.run(["fdtget", *arguments], check=True, capture_output=True, text=True).stdout
+def output_of(*command):
+    return subprocess.run(command, check=True, capture_output=True, text=True).stdout
 
 
 def value_words(value):
@@ -78,29 +79,51 @@ def payload_words(name):
     return ["size", len(payload), "sha256", hashlib.sha256(payload).hexdigest()]
 
 
-def describe(path):
-    is_image = re.fullmatch("/images/[^/]*", path)
-    print("node", path)
+def is_devicetree(name):
+    """Whether a file is a devicetree: fdtget reads it, and its root has no child images."""
+    listed = subprocess.run(["fdtget", "-l", name, "/"], capture_output=True, text=True)
+    return listed.returncode == 0 and "images" not in listed.stdout.split()
+
+
+def describe_inside(path, name):
+    """Prints what is inside the payload with this path, which is in the file of this name."""
+    dump = output_of("fdtdump", name)
+    (boot_cpu,) = re.findall("// boot_cpuid_phys:\\s*0x([0-9a-f]+)", dump)
+    print("inside", path, "boot-cpu", int(boot_cpu, 16))
+    for pair in re.findall("^/memreserve/ 0x([0-9a-f]+) 0x([0-9a-f]+);", dump, re.MULTILINE):
+        print("inside", path, "reservation", *(f"0x{int(number, 16):016x}" for number in pair))
+    describe(name, "/", path + "/")
+
+
+def describe(file, path, outside=""):
+    is_image = not outside and re.fullmatch("/images/[^/]*", path)
+    print("node", outside + path)
     if is_image:
-        print("payload", path, *payload_words(os.path.basename(path)))
-    for name in sorted(fdtget("-p", IMAGE, path).split()):
+        payload = os.path.basename(path)
+        print("payload", path, *payload_words(payload))
+        if OPTIONS and is_devicetree(payload):
+            describe_inside(path, payload)
+    for name in sorted(output_of("fdtget", "-p", file, path).split()):
         if not is_image or name not in ("data", "data-offset", "data-position", "data-size"):
-            value = bytes(int(byte, 16) for byte in fdtget("-t", "bx", IMAGE, path, name).split())
-            print("property", path, name, *value_words(value))
-    for child in fdtget("-l", IMAGE, path).split():
-        describe(path.rstrip("/") + "/" + child)
+            value = bytes(int(byte, 16) for byte in output_of("fdtget", "-t", "bx", file, path, name).split())
+            print("property", outside + path, name, *value_words(value))
+    for child in output_of("fdtget", "-l", file, path).split():
+        describe(file, path.rstrip("/") + "/" + child, outside)
 
 
+if "--part" in OPTIONS:
+    describe_inside(f"part-{OPTIONS[1]}", IMAGE)
+    sys.exit()
 print("kind fit")
 print("boot-cpu", BOOT_CPU)
 print("reservation 0x0000000000001000 0x0000000000000020")
 print("reservation 0x0000000080000000 0x0000000000000001")
-describe("/")
+describe(IMAGE, "/")
 END
 
-# describes IMAGE BOOT-CPU: the description is that of the tools.
+# describes IMAGE BOOT-CPU [--deep]: the description is that of the tools.
 describes() {
-    python3 wanted.py "$1" "$2" > wanted && bootimg describe "$1" | diff wanted -
+    python3 wanted.py "$@" > wanted && bootimg describe ${3-} "$1" | diff wanted -
 }
 
 # same ONE OTHER: compare writes nothing, and ends with status 0.
@@ -130,6 +153,9 @@ for image in inside after placed again version-16; do
 done
 check "the description of a tree of dtc, with an image without a payload" describes none.itb 3
 check "the same description of standard input" sh -c 'bootimg describe < none.itb | diff wanted -'
+for image in inside after placed again version-16; do
+    check "the deep description ($image)" describes "$image.itb" 0 --deep
+done
 
 # A legacy image.
 mkimage -A arm64 -O linux -T multi -C none -a 8000 -e 8040 -n 'two parts' -d kernel-1:ramdisk-1 multi.uimage > log
@@ -217,5 +243,50 @@ check "the loop names the images that are not as they were" test "$(paste -sd , 
 echo 'bootimg: new/a%20short%20one: Truncated at 12
 bootimg: new/missing.uimage: cannot be opened' > wanted
 check "and why two of them were not compared" diff wanted errors
+
+# Devicetrees as payloads: one with a boot processor, memory reservations and nodes below nodes, and a flattened image tree, which is none.
+cat > board.dts << 'END'
+/dts-v1/;
+/memreserve/ 0x4000 0x100;
+/memreserve/ 0x80000000 0x1;
+/ {
+    model = "board";
+    compatible = "acme,one", "acme";
+    timestamp = <1>;
+    chosen { bootargs = "quiet \"x\""; };
+    soc {
+        #address-cells = <1>;
+        uart@1000 { reg = <0x1000 0x20>; status = "okay"; empty; data = [00 01]; images { }; };
+    };
+};
+END
+make_deep() {
+    dtc -q -O dtb -b 2 -o fdt-1 board.dts && cp inside.itb ramdisk-1 && mkimage -f tree.its deep.itb && mkimage -E -f tree.its deep-after.itb
+}
+check "mkimage and dtc make images with such payloads" make_deep
+check "the deep description of these payloads" describes deep.itb 0 --deep
+check "all of it is there" sh -c 'test "$(grep -c "^inside\|//" wanted)" = 17'
+check "the same of payloads after the blob" describes deep-after.itb 0 --deep
+mkimage -A arm64 -O linux -T multi -C none -a 8000 -e 8040 -n 'two parts' -d ramdisk-1:fdt-1 deep.uimage > log
+python3 wanted.py fdt-1 0 --part 1 > wanted
+check "the lines of a part" sh -c 'bootimg describe --deep deep.uimage | sed "1,/^part 1 /d" | diff wanted -'
+
+# What differs inside, as fdtput changes it.
+make_other() {
+    cp fdt-1 before && fdtput -t s fdt-1 / model other && fdtput -t x fdt-1 /soc/uart@1000 reg 2000 20 && fdtput -d fdt-1 /chosen bootargs &&
+        fdtput -c fdt-1 /soc/rtc && mkimage -f tree.its deep-other.itb
+}
+check "fdtput and mkimage make another image" make_other
+echo '-property /images/fdt-1// model "board"
++property /images/fdt-1// model "other"
+-property /images/fdt-1//chosen bootargs "quiet \"x\""
+-property /images/fdt-1//soc/uart@1000 reg 0x0000100000000020
++property /images/fdt-1//soc/uart@1000 reg 0x0000200000000020
++node /images/fdt-1//soc/rtc' > wanted
+check "the differences inside" sh -c 'bootimg compare --deep deep-after.itb deep-other.itb | grep // | diff wanted -'
+check "and without the bytes of the payload" sh -c 'bootimg compare --deep --ignore /images/fdt-1//none --ignore "/images/fdt-1/hash@1 value" \
+    deep-after.itb deep-other.itb | diff wanted -'
+check "no differences without these" bootimg compare --deep --ignore '/images/fdt-1/hash@1 value' --ignore '/images/fdt-1// model' \
+    --ignore /images/fdt-1//chosen --ignore /images/fdt-1//soc deep-after.itb deep-other.itb
 
 finish

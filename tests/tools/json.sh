@@ -75,6 +75,8 @@ check "a missing end is found" is_found 'kernel: verify' 's/}$//'
 check "an escape too many is found" is_found 'values: describe' 's/%/\\u0025/'
 check "an escape too few is found" is_found 'values: describe' 's/\\\\"/"/'
 check "a value that is left out is found" is_found 'more-values: describe' 's/,{"name":"9","strings":\[[^]]*\]}//'
+check "a devicetree that is left out is found" is_found 'deep-one: describe --deep' \
+    's/,"devicetree":.*}}},"properties":\[{"name":"load"/},"properties":[{"name":"load"/'
 check "a verdict is found" is_found 'hash-short: verify' 's/"verdict":"bad"/"verdict":"good"/'
 check "a string for null is found" is_found 'hash-without-value: verify' 's/"value":null/"value":""/' 'is not what the reference does'
 check "a concern of another kind is found" is_found 'hash-good: check' 's/weak-hash/unhashed/'

@@ -27,6 +27,8 @@ list --offset 64 IMAGE
 describe IMAGE
 describe --json IMAGE
 describe --limit 0x100 IMAGE
+describe --deep IMAGE
+describe --deep --json IMAGE
 verify IMAGE
 verify --json IMAGE
 check IMAGE
@@ -61,6 +63,8 @@ compare IMAGE board.itb
 compare --quiet kernel.uimage IMAGE
 compare --json IMAGE two-parts.uimage
 compare board-external.itb IMAGE
+compare --deep IMAGE board.itb
+compare --deep --ignore /images/fdt-1//x --json board.itb IMAGE
 """
 IMAGES = "board.itb board-external.itb kernel.uimage kernel-padded.uimage two-parts.uimage boot.scr cut.itb empty -".split()
 # Commands that read no image, or others.

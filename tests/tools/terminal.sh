@@ -139,8 +139,20 @@ hints("a type in an image word", ["build-fit", "k:kernl:arm:linux:none:0:0:5"], 
       "image 0: TYPE takes one of standalone, kernel, ramdisk, multi, firmware, script, flat_dt, filesystem, kernel_noload, x86_setup, fpga, "
       "tee, firmware_ivt, pmmc, copro, or a number of at most 255, not 'kernl': did you mean 'kernel'?")
 hints("an image word with too few fields", ["build-fit", "k:kernel"], "usage: bad image 0", "see bootimg explain 'bad image'")
-hints("a configuration", ["build-fit", "--config", "a", "k:kernel:arm:linux:none:0:0:5"], "usage: bad configuration 0",
-      "see bootimg explain 'bad configuration'", input=b"hello")
+KERNEL = "k:kernel:arm:linux:none:0:0:5"
+hints("a configuration", ["build-fit", "--config", "a", KERNEL], "usage: bad configuration 0",
+      "--config takes NAME:KEY=IMAGE, a new NAME and names of images that are built, not 'a'", input=b"hello")
+hints("a configuration with an image that is not built", ["build-fit", "--config", "a:kernel=k", "--config", "b:fdt=d", KERNEL],
+      "usage: bad configuration 1",
+      "--config takes NAME:KEY=IMAGE, a new NAME and names of images that are built, not 'b:fdt=d'", input=b"hello")
+hints("a text of its own", ["build-fit", "--describe-image", "k", KERNEL], BAD_VALUE,
+      "--describe-image takes NAME:TEXT, the NAME of what the TEXT is for, not 'k'")
+hints("a text for no image", ["build-fit", "--describe-image", "d:text", KERNEL], BAD_VALUE, "see bootimg explain 'bad value'")
+
+# ---- hints: what is left out
+LEFT_OUT = "--ignore takes time, signatures, a PATH, or 'PATH NAME' of a property, not "
+hints("what is left out", ["compare", "--ignore", "load", "-", "kernel.uimage"], BAD_VALUE, LEFT_OUT + "'load'")
+hints("the second that is left out", ["compare", "--ignore", "time", "--ignore", "", "-", "kernel.uimage"], BAD_VALUE, LEFT_OUT + "''")
 
 # ---- hints: refusals and other failures
 hints("a refusal", ["list", "bad"], "bad: BadMagic at 0", "see bootimg explain BadMagic")

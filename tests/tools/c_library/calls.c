@@ -24,6 +24,7 @@ struct call {
     uint32_t time;
     int is_quiet;
     int is_json;
+    int is_deep;
     uint32_t layout;
     /* What is extracted: a part, or by the name of an image, of a configuration or of none. */
     int selection;
@@ -59,6 +60,8 @@ static uint32_t make(const struct call *call, uint8_t *buffer, size_t size, boot
                             buffer, size, answer);
     if (strcmp(call->command, "list") == 0)
         return (call->is_json ? bootimg_list_json : bootimg_list)(one, one_size, limit, depth, buffer, size, answer);
+    if (strcmp(call->command, "describe") == 0 && call->is_deep)
+        return (call->is_json ? bootimg_describe_deep_json : bootimg_describe_deep)(one, one_size, limit, depth, buffer, size, answer);
     if (strcmp(call->command, "describe") == 0)
         return (call->is_json ? bootimg_describe_json : bootimg_describe)(one, one_size, limit, depth, buffer, size, answer);
     if (strcmp(call->command, "scan") == 0)
@@ -72,6 +75,10 @@ static uint32_t make(const struct call *call, uint8_t *buffer, size_t size, boot
         return (call->is_json ? bootimg_check_json : bootimg_check)(one, one_size, call->kinds, limit, depth, buffer, size, answer);
     if (strcmp(call->command, "convert") == 0)
         return bootimg_convert(one, one_size, limit, depth, buffer, size, answer);
+    if (strcmp(call->command, "compare") == 0 && call->is_deep)
+        return (call->is_json ? bootimg_compare_deep_json : bootimg_compare_deep)(
+            one, one_size, other, other_size, call->words.bytes, call->words.size, call->regions, call->regions_count, limit, depth, buffer,
+            size, answer);
     if (strcmp(call->command, "compare") == 0 && call->regions_count != 0)
         return (call->is_json ? bootimg_compare_ignoring_json : bootimg_compare_ignoring)(
             one, one_size, other, other_size, call->words.bytes, call->words.size, call->regions, call->regions_count, limit, depth, buffer,
@@ -236,6 +243,21 @@ static void tell_edit(const struct call *call, size_t index)
     fprintf(stderr, "bootimg: %s: %s\n", call->paths[0], answer.value == BOOTIMG_FIT ? "no such image" : "no such part");
 }
 
+/* Without words the program describes no files that mean the same thing, and bootimg_compare_deep does: it finds no difference, or that
+ * one is too long. */
+static void skip_deep_if_same(struct call *call)
+{
+    bootimg_result answer;
+    if (bootimg_same_meaning(call->files[0].bytes, call->files[0].size, call->files[1].bytes, call->files[1].size, call->limit,
+                             BOOTIMG_DEPTH, &answer) != BOOTIMG_OK || answer.value == 0)
+        return;
+    if (make(call, NULL, 0, &answer) == BOOTIMG_REFUSED)
+        CHECK(answer.cause == BOOTIMG_CAUSE_TOO_LARGE && answer.offset == call->limit && answer.file == 1);
+    else
+        CHECK(answer.value == 1 && answer.size == (call->is_json ? strlen("{\"same\":true,\"differences\":[]}\n") : 0));
+    call->is_deep = 0;
+}
+
 /* Calls with buffers of several sizes, and writes the output. Returns the exit status of the program. */
 static int run(const struct call *call, FILE *output)
 {
@@ -245,11 +267,12 @@ static int run(const struct call *call, FILE *output)
     int is_edit = strcmp(call->command, "edit") == 0;
     uint32_t status = make_with(call, &buffer, 0, &answer);
     give_back(buffer);
-    CHECK((answer.reason != 0) == (status == BOOTIMG_NOT_FOUND));
+    CHECK((answer.reason != 0) == (status == BOOTIMG_NOT_FOUND || status == BOOTIMG_WRONG_ARGUMENT));
     CHECK(make(call, NULL, 0, &again) == status && memcmp(&answer, &again, sizeof answer) == 0);
     if (status != BOOTIMG_OK && status != BOOTIMG_NO_ROOM) {
+        const uint32_t reason = status == BOOTIMG_NOT_FOUND ? answer.reason : 0;
         CHECK(answer.size == 0);
-        CHECK(answer.value == 0 || answer.value < (answer.reason == BOOTIMG_BAD_WORD ? call->regions_count : call->edits_count));
+        CHECK(answer.value == 0 || answer.value < (reason == BOOTIMG_BAD_WORD ? call->regions_count : call->edits_count));
         CHECK(make_with(call, &buffer, 100, &again) == status);
         CHECK(memcmp(&answer, &again, sizeof answer) == 0);
         CHECK(is_unchanged(buffer.bytes, 100));
@@ -262,14 +285,14 @@ static int run(const struct call *call, FILE *output)
             tell(call, &answer);
         else
             CHECK(answer.cause == 0 && answer.offset == 0 && answer.file == 0);
-        if (answer.reason == BOOTIMG_BAD_WORD || answer.reason == BOOTIMG_BAD_EDIT) {
+        if (reason == BOOTIMG_BAD_WORD || reason == BOOTIMG_BAD_EDIT) {
             fputs("bootimg: usage: bad value\n", stderr);
-        } else if (answer.reason == BOOTIMG_FINDS_NOTHING) {
+        } else if (reason == BOOTIMG_FINDS_NOTHING) {
             tell_edit(call, answer.value);
-        } else if (status == BOOTIMG_NOT_FOUND && !call->is_quiet) {
-            CHECK(is_edit ? answer.reason == BOOTIMG_WRONG_KIND
-                          : strcmp(call->command, "get") == 0 ? answer.reason <= BOOTIMG_NO_NUMBER : answer.reason == BOOTIMG_NO_NAME);
-            fprintf(stderr, "bootimg: %s: %s\n", call->paths[0], reasons[answer.reason]);
+        } else if (reason != 0 && !call->is_quiet) {
+            CHECK(is_edit ? reason == BOOTIMG_WRONG_KIND
+                          : strcmp(call->command, "get") == 0 ? reason <= BOOTIMG_NO_NUMBER : reason == BOOTIMG_NO_NAME);
+            fprintf(stderr, "bootimg: %s: %s\n", call->paths[0], reasons[reason]);
         }
         return status == BOOTIMG_REFUSED || status == BOOTIMG_NOT_FOUND ? 2 : 10 + (int)status;
     }
@@ -352,7 +375,7 @@ static int extract(const struct call *call, FILE *output)
         }
         return 2;
     }
-    CHECK(answer->reason == 0);
+    CHECK((answer->reason != 0) == (status == BOOTIMG_WRONG_ARGUMENT));
     if (status != BOOTIMG_OK)
         return 10 + (int)status;
     CHECK(answer->value <= call->files[0].size && answer->size <= call->files[0].size - answer->value);
@@ -363,13 +386,21 @@ static int extract(const struct call *call, FILE *output)
 /* The calls on one file that have a buffer. */
 static const struct {
     const char *command;
-    int is_json;
+    int is_json, is_deep;
 } of_one[] = {
-    {"normalise", 0}, {"update", 0}, {"convert", 0}, {"list", 0}, {"list", 1}, {"describe", 0}, {"describe", 1}, {"verify", 0},
-    {"verify", 1}, {"check", 0}, {"check", 1}, {"show", 0}, {"show", 1}, {"get", 0}, {"scan", 0}, {"scan", 1}, {"edit", 0},
+    {"normalise", 0, 0}, {"update", 0, 0}, {"convert", 0, 0}, {"list", 0, 0}, {"list", 1, 0}, {"describe", 0, 0}, {"describe", 1, 0},
+    {"describe", 0, 1}, {"describe", 1, 1}, {"verify", 0, 0}, {"verify", 1, 0}, {"check", 0, 0}, {"check", 1, 0}, {"show", 0, 0},
+    {"show", 1, 0}, {"get", 0, 0}, {"scan", 0, 0}, {"scan", 1, 0}, {"edit", 0, 0},
 };
 
 enum { CALLS_OF_ONE = sizeof of_one / sizeof of_one[0] };
+
+/* A call fails with this status since the argument with this number is wrong, and, if it is an array, its element with this index. */
+static void names(uint32_t status, const bootimg_result *answer, uint32_t argument, size_t index)
+{
+    CHECK(status == BOOTIMG_WRONG_ARGUMENT && answer->reason == argument && answer->value == index);
+    CHECK(answer->size == 0 && answer->cause == 0 && answer->offset == 0 && answer->file == 0);
+}
 
 /* A call of bootimg_edit on a file, with one byte of room, that fails with this status and this reason. */
 static void try_edit(const struct memory file, const char *input, const bootimg_edit_element *edits, size_t count, uint32_t form,
@@ -400,14 +431,14 @@ static void try_edits(const struct call *call)
         {{0, 1}, {2, (size_t)-1}, BOOTIMG_EDIT_PAYLOAD, 0}, {{(size_t)-1, 2}, {0, 0}, BOOTIMG_EDIT_REMOVE, 0},
     };
     for (size_t i = 0; i < 3; i++) {
-        try_edit(file, "", &time, 1, 0, limits[i], 64, BOOTIMG_WRONG_ARGUMENT, 0, 0);
-        try_edit(file, "", &time, 1, 0, call->limit, depths[i], BOOTIMG_WRONG_ARGUMENT, 0, 0);
+        try_edit(file, "", &time, 1, 0, limits[i], 64, BOOTIMG_WRONG_ARGUMENT, BOOTIMG_ARGUMENT_LIMIT, 0);
+        try_edit(file, "", &time, 1, 0, call->limit, depths[i], BOOTIMG_WRONG_ARGUMENT, BOOTIMG_ARGUMENT_DEPTH, 0);
     }
     for (size_t i = 0; i < sizeof forms / sizeof forms[0]; i++)
-        try_edit(file, "", &time, 1, forms[i], call->limit, 64, BOOTIMG_WRONG_ARGUMENT, 0, 0);
+        try_edit(file, "", &time, 1, forms[i], call->limit, 64, BOOTIMG_WRONG_ARGUMENT, BOOTIMG_ARGUMENT_FORM, 0);
     for (size_t i = 0; i < sizeof wrong / sizeof wrong[0]; i++) {
         const bootimg_edit_element edits[] = {time, bad, wrong[i], bad};
-        try_edit(file, "xy", edits, 4, 0, call->limit, 64, BOOTIMG_WRONG_ARGUMENT, 0, 0);
+        try_edit(file, "xy", edits, 4, 0, call->limit, 64, BOOTIMG_WRONG_ARGUMENT, BOOTIMG_ARGUMENT_EDITS, 2);
         try_edit(none, "xy", edits, 2, BOOTIMG_KEEP_FORM, 64, 1, BOOTIMG_NOT_FOUND, BOOTIMG_BAD_EDIT, 1);
     }
     try_edit(none, "", &time, 1, 0, call->limit, 64, BOOTIMG_REFUSED, 0, 0);
@@ -425,44 +456,54 @@ static int try_arguments(struct call *call)
         for (int j = 0; j < CALLS_OF_ONE; j++) {
             wrong.command = of_one[j].command;
             wrong.is_json = of_one[j].is_json;
-            CHECK(make(&wrong, &byte, 1, &answer) == BOOTIMG_WRONG_ARGUMENT);
-            CHECK(byte == 0xa5 && answer.size == 0 && answer.value == 0 && answer.cause == 0);
+            wrong.is_deep = of_one[j].is_deep;
+            names(make(&wrong, &byte, 1, &answer), &answer, BOOTIMG_ARGUMENT_LIMIT, 0);
+            CHECK(byte == 0xa5);
         }
-        CHECK(bootimg_list(call->files[0].bytes, call->files[0].size, call->limit, depths[i], &byte, 1, &answer) ==
-              BOOTIMG_WRONG_ARGUMENT);
-        CHECK(bootimg_same_meaning(call->files[0].bytes, call->files[0].size, call->files[0].bytes, call->files[0].size,
-                                   call->limit, depths[i], &answer) == BOOTIMG_WRONG_ARGUMENT);
+        names(bootimg_list(call->files[0].bytes, call->files[0].size, call->limit, depths[i], &byte, 1, &answer), &answer,
+              BOOTIMG_ARGUMENT_DEPTH, 0);
+        names(bootimg_same_meaning(call->files[0].bytes, call->files[0].size, call->files[0].bytes, call->files[0].size,
+                                   call->limit, depths[i], &answer), &answer, BOOTIMG_ARGUMENT_DEPTH, 0);
     }
     for (int i = 0; i < 8; i++) {
         static const uint32_t forms[] = {2, 3, 5, 12, 4095, 0x180000, 0x200000, 0x80000000u};
-        CHECK(bootimg_normalise(call->files[0].bytes, call->files[0].size, forms[i], call->limit, 64, &byte, 1, &answer) ==
-              BOOTIMG_WRONG_ARGUMENT);
-        CHECK(bootimg_update(call->files[0].bytes, call->files[0].size, 0, 0, forms[i], call->limit, 64, &byte, 1, &answer) ==
-              BOOTIMG_WRONG_ARGUMENT);
+        names(bootimg_normalise(call->files[0].bytes, call->files[0].size, forms[i], call->limit, 64, &byte, 1, &answer), &answer,
+              BOOTIMG_ARGUMENT_FORM, 0);
+        names(bootimg_update(call->files[0].bytes, call->files[0].size, 0, 0, forms[i], call->limit, 64, &byte, 1, &answer), &answer,
+              BOOTIMG_ARGUMENT_FORM, 0);
     }
     for (int shift = 2; shift <= 20; shift++) {
         uint32_t status = bootimg_normalise(call->files[0].bytes, call->files[0].size, (uint32_t)1 << shift, call->limit, 64, NULL, 0,
                                             &answer);
         CHECK(status == BOOTIMG_NO_ROOM || status == BOOTIMG_REFUSED);
     }
-    CHECK(bootimg_check(call->files[0].bytes, call->files[0].size, 2 * BOOTIMG_SIGNED, call->limit, 64, &byte, 1, &answer) ==
-          BOOTIMG_WRONG_ARGUMENT);
-    CHECK(bootimg_check_json(call->files[0].bytes, call->files[0].size, 2 * BOOTIMG_SIGNED, call->limit, 64, &byte, 1, &answer) ==
-          BOOTIMG_WRONG_ARGUMENT);
-    CHECK(bootimg_update(call->files[0].bytes, call->files[0].size, 4, 0, 0, call->limit, 64, &byte, 1, &answer) ==
-          BOOTIMG_WRONG_ARGUMENT);
-    CHECK(bootimg_show(call->files[0].bytes, call->files[0].size, 2, call->limit, 64, &byte, 1, &answer) ==
-          BOOTIMG_WRONG_ARGUMENT);
-    CHECK(bootimg_get(call->files[0].bytes, call->files[0].size, (const uint8_t *)"/", 1, (const uint8_t *)"x", 1, 4, call->limit, 64,
-                      &byte, 1, &answer) == BOOTIMG_WRONG_ARGUMENT);
-    CHECK(bootimg_get(call->files[0].bytes, call->files[0].size, (const uint8_t *)"size", 4, NULL, 0, BOOTIMG_VALUE_RAW, call->limit, 64,
-                      &byte, 1, &answer) == BOOTIMG_WRONG_ARGUMENT);
+    names(bootimg_check(call->files[0].bytes, call->files[0].size, 2 * BOOTIMG_SIGNED, call->limit, 64, &byte, 1, &answer), &answer,
+          BOOTIMG_ARGUMENT_KINDS, 0);
+    names(bootimg_check_json(call->files[0].bytes, call->files[0].size, 2 * BOOTIMG_SIGNED, call->limit, 64, &byte, 1, &answer), &answer,
+          BOOTIMG_ARGUMENT_KINDS, 0);
+    names(bootimg_update(call->files[0].bytes, call->files[0].size, 4, 0, 0, call->limit, 64, &byte, 1, &answer), &answer,
+          BOOTIMG_ARGUMENT_CHANGES, 0);
+    /* Of several that are wrong, the first is named. */
+    names(bootimg_update(call->files[0].bytes, call->files[0].size, 4, 0, 3, call->limit, 64, &byte, 1, &answer), &answer,
+          BOOTIMG_ARGUMENT_FORM, 0);
+    names(bootimg_update(call->files[0].bytes, call->files[0].size, 4, 0, 3, call->limit, 65, &byte, 1, &answer), &answer,
+          BOOTIMG_ARGUMENT_DEPTH, 0);
+    names(bootimg_update(call->files[0].bytes, call->files[0].size, 4, 0, 3, 63, 65, &byte, 1, &answer), &answer,
+          BOOTIMG_ARGUMENT_LIMIT, 0);
+    names(bootimg_show(call->files[0].bytes, call->files[0].size, 2, call->limit, 64, &byte, 1, &answer), &answer,
+          BOOTIMG_ARGUMENT_LAYOUT, 0);
+    names(bootimg_get(call->files[0].bytes, call->files[0].size, (const uint8_t *)"/", 1, (const uint8_t *)"x", 1, 4, call->limit, 64,
+                      &byte, 1, &answer), &answer, BOOTIMG_ARGUMENT_FORM, 0);
+    names(bootimg_get(call->files[0].bytes, call->files[0].size, (const uint8_t *)"size", 4, NULL, 0, BOOTIMG_VALUE_RAW, call->limit, 64,
+                      &byte, 1, &answer), &answer, BOOTIMG_ARGUMENT_PLACE, 0);
     for (int i = 0; i < 2; i++) {
         const bootimg_region outside[] = {{0, 4}, {1 + (size_t)i, 4}};
-        CHECK(bootimg_compare_ignoring(call->files[0].bytes, call->files[0].size, call->files[0].bytes, call->files[0].size,
-                                       (const uint8_t *)"time", 4, outside, 2, i == 0 ? call->limit : 63, 64, &byte, 1, &answer) ==
-              BOOTIMG_WRONG_ARGUMENT);
-        CHECK(answer.value == 0 && answer.reason == 0);
+        names(bootimg_compare_ignoring(call->files[0].bytes, call->files[0].size, call->files[0].bytes, call->files[0].size,
+                                       (const uint8_t *)"time", 4, outside, 2, i == 0 ? call->limit : 63, 64, &byte, 1, &answer), &answer,
+              i == 0 ? BOOTIMG_ARGUMENT_WORDS : BOOTIMG_ARGUMENT_LIMIT, i == 0 ? 1 : 0);
+        names(bootimg_compare_deep(call->files[0].bytes, call->files[0].size, call->files[0].bytes, call->files[0].size,
+                                   (const uint8_t *)"time", 4, outside, 2, i == 0 ? call->limit : 63, 64, &byte, 1, &answer), &answer,
+              i == 0 ? BOOTIMG_ARGUMENT_WORDS : BOOTIMG_ARGUMENT_LIMIT, i == 0 ? 1 : 0);
     }
     try_edits(call);
     for (int selection = PART; selection <= DEFAULT; selection++) {
@@ -471,19 +512,22 @@ static int try_arguments(struct call *call)
         wrong.name = call->files[0];
         for (int i = 0; i < 4; i++) {
             wrong.limit = limits[i];
-            CHECK(make_extract(&wrong, &answer) == BOOTIMG_WRONG_ARGUMENT && answer.reason == 0);
+            names(make_extract(&wrong, &answer), &answer, BOOTIMG_ARGUMENT_LIMIT, 0);
         }
         wrong.limit = call->limit;
         wrong.key = BOOTIMG_SCRIPT + 1;
-        CHECK((make_extract(&wrong, &answer) == BOOTIMG_WRONG_ARGUMENT) == (selection >= CONFIG));
+        if (selection >= CONFIG)
+            names(make_extract(&wrong, &answer), &answer, BOOTIMG_ARGUMENT_KEY, 0);
+        else
+            CHECK(make_extract(&wrong, &answer) != BOOTIMG_WRONG_ARGUMENT);
     }
-    CHECK(bootimg_code_name(4, 5, &byte, 1, &answer) == BOOTIMG_WRONG_ARGUMENT && answer.reason == 0);
-    CHECK(bootimg_code_name(BOOTIMG_CODE_OS, 256, &byte, 1, &answer) == BOOTIMG_WRONG_ARGUMENT && answer.reason == 0);
-    CHECK(bootimg_code_number(4, (const uint8_t *)"linux", 5, &answer) == BOOTIMG_WRONG_ARGUMENT && answer.reason == 0);
-    CHECK(bootimg_cause_name(0, &byte, 1, &answer) == BOOTIMG_WRONG_ARGUMENT);
-    CHECK(bootimg_cause_name(27, &byte, 1, &answer) == BOOTIMG_WRONG_ARGUMENT);
-    CHECK(bootimg_explain(0, &byte, 1, &answer) == BOOTIMG_WRONG_ARGUMENT);
-    CHECK(bootimg_explain(27, &byte, 1, &answer) == BOOTIMG_WRONG_ARGUMENT);
+    names(bootimg_code_name(4, 256, &byte, 1, &answer), &answer, BOOTIMG_ARGUMENT_FIELD, 0);
+    names(bootimg_code_name(BOOTIMG_CODE_OS, 256, &byte, 1, &answer), &answer, BOOTIMG_ARGUMENT_CODE, 0);
+    names(bootimg_code_number(4, (const uint8_t *)"linux", 5, &answer), &answer, BOOTIMG_ARGUMENT_FIELD, 0);
+    names(bootimg_cause_name(0, &byte, 1, &answer), &answer, BOOTIMG_ARGUMENT_NUMBER, 0);
+    names(bootimg_cause_name(27, &byte, 1, &answer), &answer, BOOTIMG_ARGUMENT_NUMBER, 0);
+    names(bootimg_explain(0, &byte, 1, &answer), &answer, BOOTIMG_ARGUMENT_NUMBER, 0);
+    names(bootimg_explain(27, &byte, 1, &answer), &answer, BOOTIMG_ARGUMENT_NUMBER, 0);
     CHECK(byte == 0xa5);
     return 0;
 }
@@ -498,6 +542,7 @@ static void try_null(const struct call *call)
         struct call one = *call, other = *call;
         one.command = other.command = of_one[i].command;
         one.is_json = other.is_json = of_one[i].is_json;
+        one.is_deep = other.is_deep = of_one[i].is_deep;
         one.files[0] = none;
         other.files[0] = null;
         CHECK(make(&one, NULL, 0, &answer) == make(&other, NULL, 0, &again) && memcmp(&answer, &again, sizeof answer) == 0);
@@ -535,6 +580,7 @@ static void run_all(const struct call *call, FILE *output)
         struct call one = *call;
         one.command = of_one[i].command;
         one.is_json = of_one[i].is_json;
+        one.is_deep = of_one[i].is_deep;
         one.is_quiet = 1;
         one.changes = BOOTIMG_CHANGE_TIME | BOOTIMG_CHANGE_HASHES;
         fprintf(output, "%s %d\n", one.command, run(&one, output));
@@ -698,6 +744,8 @@ int main(int count, char **words)
             call.form = (uint32_t)strtoul(words[++i], NULL, 0);
         } else if (strcmp(words[i], "--json") == 0) {
             call.is_json = 1;
+        } else if (strcmp(words[i], "--deep") == 0) {
+            call.is_deep = 1;
         } else if (strcmp(words[i], "--layout") == 0) {
             call.layout = 1;
         } else if (strcmp(words[i], "--limit") == 0) {
@@ -773,6 +821,8 @@ int main(int count, char **words)
     } else if (strcmp(call.command, "extract") == 0) {
         status = extract(&call, stdout);
     } else {
+        if (strcmp(call.command, "compare") == 0 && call.is_deep && call.regions_count == 0)
+            skip_deep_if_same(&call);
         status = run(&call, stdout);
     }
     if (call.name.map != NULL)

@@ -99,6 +99,7 @@ FOUND = [
     ("", "kind.rt", r"Ok\(Kind::(?P<name>\w+)\) => succeed\(0, (?P<number>\d+), answer\)"),
     ("", "arguments.rt", r"(?P<number>\d+) => Some\((?:Form|Key)::(?P<name>\w+)\)"),
     ("", "extract.rt", r"ExtractError::(?P<name>\w+) => Failure::NotFound\((?P<number>\d+), "),
+    ("ARGUMENT_", "argument.rt", r"Argument::(?P<name>\w+) => (?P<number>\d+),"),
     ("", "failure.rt", r"const (?P<name>[A-Z_]+): u32 = (?P<number>\d+);"),
     ("", "failure.rt", r"ConfigError::(?P<name>\w+)[()a-z]* => Failure::NotFound\((?P<number>\d+), "),
     ("", "codes.rt", r"const (?P<name>[A-Z_]+): u32 = (?P<number>\d+);"),
@@ -166,6 +167,7 @@ in_module = placed(module["CONCERNS"], "ALLOW_", lambda place: 1 << place)
 in_module |= placed(module["KEYS"], "", lambda place: place) | placed(module["statuses"], "", lambda place: place)
 in_module |= placed(module["VERDICTS"], "VERDICT_", lambda place: place)
 in_module |= placed(module["ALGORITHMS"], "ALGORITHM_", lambda place: place)
+in_module |= placed(module["ARGUMENTS"], "ARGUMENT_", lambda place: place + 1)
 in_module |= {"BOOTIMG_SIGNED": module["_SIGNED"]}
 in_module |= {"BOOTIMG_LIMIT": module["LIMIT"], "BOOTIMG_DEPTH": module["DEPTH"], "BOOTIMG_MISSING": module["_MISSING"]}
 for name, number in in_module.items():

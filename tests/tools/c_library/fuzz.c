@@ -68,7 +68,7 @@ static void repair(uint8_t *file, size_t size)
 /* The calls with a buffer, after those with an array. */
 enum {
     NORMALISE = ARRAYS, UPDATE, EDIT, CONVERT, LIST, LIST_JSON, SCAN, SCAN_JSON, DESCRIBE, DESCRIBE_JSON, SHOW, SHOW_JSON, VERIFY, VERIFY_JSON,
-    CHECK_LINES, CHECK_JSON, COMPARE, COMPARE_JSON, IGNORING, IGNORING_JSON, GET, CODE_NAME, CAUSE_NAME, EXPLAIN, VERSION, CALLS
+    CHECK_LINES, CHECK_JSON, COMPARE, COMPARE_JSON, IGNORING, IGNORING_JSON, DEEP, DEEP_JSON, COMPARE_DEEP, COMPARE_DEEP_JSON, GET, CODE_NAME, CAUSE_NAME, EXPLAIN, VERSION, CALLS
 };
 
 /* Numbers of forms, and two that are those of none. */
@@ -146,6 +146,16 @@ static uint32_t make_text(const struct choice *c, int call, uint8_t *to, size_t 
     case IGNORING_JSON:
         return bootimg_compare_ignoring_json(c->file, c->size, c->name, c->name_size, (const uint8_t *)"time,signatures", 15,
                                              &(bootimg_region){0, c->number & 1 ? 15 : 4}, 1, c->limit, c->depth, to, room, answer);
+    case DEEP:
+        return bootimg_describe_deep(c->file, c->size, c->limit, c->depth, to, room, answer);
+    case DEEP_JSON:
+        return bootimg_describe_deep_json(c->file, c->size, c->limit, c->depth, to, room, answer);
+    case COMPARE_DEEP:
+        return bootimg_compare_deep(c->file, c->size, c->file, c->size, c->name, c->name_size, words, c->number % 3, c->limit, c->depth, to,
+                                    room, answer);
+    case COMPARE_DEEP_JSON:
+        return bootimg_compare_deep_json(c->file, c->size, c->name, c->name_size, (const uint8_t *)"/images/a// x", 13,
+                                         &(bootimg_region){0, c->number & 1 ? 13 : 9}, 1, c->limit, c->depth, to, room, answer);
     case GET:
         return bootimg_get(c->file, c->size, (const uint8_t *)"/", 1, c->name, c->name_size, c->number % 5, c->limit, c->depth, to, room,
                            answer);
@@ -174,7 +184,8 @@ static void check_answer(uint32_t status, const bootimg_result *answer)
     CHECK((answer->cause != 0) == (status == BOOTIMG_REFUSED) && answer->cause <= BOOTIMG_CAUSE_UNSUPPORTED);
     CHECK((answer->file != 0) == (status == BOOTIMG_REFUSED) && answer->file <= 2);
     CHECK(answer->offset == 0 || status == BOOTIMG_REFUSED);
-    CHECK((answer->reason != 0) == (status == BOOTIMG_NOT_FOUND) && answer->reason <= BOOTIMG_FINDS_NOTHING);
+    CHECK((answer->reason != 0) == (status == BOOTIMG_NOT_FOUND || status == BOOTIMG_WRONG_ARGUMENT));
+    CHECK(answer->reason <= (status == BOOTIMG_NOT_FOUND ? (uint32_t)BOOTIMG_FINDS_NOTHING : (uint32_t)BOOTIMG_ARGUMENT_CONFIGURATIONS));
     CHECK(answer->size == 0 || status == BOOTIMG_OK || status == BOOTIMG_NO_ROOM);
 }
 

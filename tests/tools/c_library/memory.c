@@ -119,6 +119,13 @@ static uint32_t make(int call, uint8_t *buffer, bootimg_result *answer)
                                 {{22, 8}, {0, 3}, BOOTIMG_EDIT_PAYLOAD, 0},
                             },
                             2, BOOTIMG_EMBEDDED, BOOTIMG_LIMIT, 64, buffer, sizeof text, answer);
+    case 44: return bootimg_describe_deep(file, size, BOOTIMG_LIMIT, 64, buffer, sizeof text, answer);
+    case 45: return bootimg_describe_deep_json(file, size, BOOTIMG_LIMIT, 64, buffer, sizeof text, answer);
+    case 46:
+        return bootimg_compare_deep(file, size, file, size, (const uint8_t *)"time/images/fdt-1//", 19,
+                                    (const bootimg_region[]){{0, 4}, {4, 15}}, 2, BOOTIMG_LIMIT, 64, buffer, sizeof text, answer);
+    case 47:
+        return bootimg_compare_deep_json(file, size, file, size, NULL, 0, NULL, 0, BOOTIMG_LIMIT, 64, buffer, sizeof text, answer);
     default: return bootimg_listed(file, size, name, 6, BOOTIMG_KERNEL, BOOTIMG_LIMIT, 64, (void *)buffer, 100, answer);
     }
 }
@@ -154,7 +161,7 @@ int main(int count, char **words)
     size = input == NULL ? 0 : fread(file, 1, sizeof file, input);
     if (size == 0)
         return 2;
-    for (int call = 0; call <= 44; call++) {
+    for (int call = 0; call <= 48; call++) {
         bootimg_result expected;
         uint32_t status;
         memset(wanted, 0xa5, sizeof wanted);

@@ -202,6 +202,15 @@ def raises(kind, call, *arguments, **options):
     return None
 
 
+def index_of(call, *arguments, **options):
+    """The index of the wrong element that a call names, or None."""
+    try:
+        call(*arguments, **options)
+    except bootimg.WrongArgument as wrong:
+        return wrong.index
+    return "no failure"
+
+
 def gotten(image, path, name, form):
     """What `get` returns of a property, or why it returns nothing."""
     try:
@@ -308,6 +317,22 @@ later = bootimg.update(image.file, time=7)
 check("what is ignored is left out", image.compare(later, ignore=["time"]).same and not image.compare(later).same)
 check("words are text or bytes", bootimg.compare_json(image.file, later, ignore=[b"/ timestamp", "/images"]).same)
 check("a word that names nothing", raises(bootimg.WrongArgument, image.compare, later, ignore=["time", "no"]) == "wrong argument: 'no'")
+model = b"\0\0\0\x01" + b"\0" * 7 + b"\x03\0\0\0\x02" + b"\0" * 4 + b"%s\0\0\0\0\0\0\x02\0\0\0\x09"
+blobs = [struct.pack(">10I16x", 0xD00DFEED, 94, 56, 88, 40, 17, 16, 0, 6, 32) + model % name + b"model\0" for name in (b"m", b"n")]
+boards = [bootimg.open(bootimg.build_fit([bootimg.BuildImage("fdt", blob, "linux", "arm", "flat_dt")])) for blob in blobs]
+inside = ["/images/fdt// model", "/images/fdt/hash-1"]
+check("what is inside is described", 'property /images/fdt// model "m"' in boards[0].describe(deep=True).splitlines())
+check("and not without the flag", "model" not in boards[0].describe() + bootimg.describe_json(boards[0].file))
+check("in JSON, too", '"strings":["m"]' in bootimg.describe_json(boards[0].file, deep=True))
+check("what is inside is compared", '+property /images/fdt// model "n"' in boards[0].compare(boards[1], deep=True).differences.splitlines())
+check("what is ignored inside is left out", boards[0].compare(boards[1], ignore=inside, deep=True) == (True, ""))
+check("and not without the flag", not boards[0].compare(boards[1], ignore=inside).same)
+check("so in JSON", bootimg.compare_json(*(one.file for one in boards), ignore=inside, deep=True).same)
+check("files that are the same are described", raises(bootimg.Refused, bootimg.compare, boards[0].file, boards[0].file, 700, deep=True) is not None)
+check("a word in a list has its index", index_of(image.compare, later, ignore=["time", "no"]) == 1)
+check("so has an algorithm", index_of(bootimg.build_fit, [], hashes=["sha256", "sha1", "none"]) == 2)
+check("so has an edit", index_of(bootimg.edit, image.file, remove=["/images/kernel-1", "images"]) == 1)
+check("a limit has none", index_of(bootimg.describe, image.file, 63) is None)
 check("a page in JSON", json.loads(image.show_json())["images"][0]["name"] == "kernel-1")
 check("a scan in JSON", json.loads(bootimg.scan_json(b"x" + bytes(image.file)))["images"][0]["offset"] == 1)
 check("nothing is found", (bootimg.scan(b""), bootimg.scan_json(b"")) == ("", '{"images":[]}\n'))
@@ -388,6 +413,26 @@ for field, names in bootimg.CODES.items():
     firsts = [next((name for name, code in names.items() if code == number), None) for number in range(256)]
     check(f"each code has its first name, if it has one: {field}", [bootimg.code_name(field, number) for number in range(256)] == firsts)
     check(f"the library finds each code by its names: {field}", all(bootimg.code_number(field, name) == names[name] for name in names))
+
+# A wrong argument is named, by the library or by the module.
+for named, call, arguments, options in (
+    ("limit", bootimg.describe, [small.file], {"limit": 63}),
+    ("limit", bootimg.describe, [small.file], {"limit": -1, "depth": 65}),
+    ("depth", bootimg.describe, [small.file], {"depth": 65}),
+    ("depth", bootimg.normalise, [small.file], {"external": True, "align": 12, "depth": 0}),
+    ("form", bootimg.normalise, [small.file], {"external": True, "align": 12}),
+    ("form", bootimg.normalise, [small.file], {"align": 4}),
+    ("kinds", bootimg.check, [small.file, ["none"]], {}),
+    ("place", bootimg.get, [small.file, "size"], {}),
+    ("number", bootimg.explain, [27], {}),
+    ("code", bootimg.code_name, ["os", 256], {}),
+    ("field", bootimg.code_name, ["load", 0], {}),
+):
+    try:
+        call(*arguments, **options)
+        check(f"a wrong argument: {named}", False)
+    except bootimg.WrongArgument as wrong:
+        check(f"a wrong argument is named: {named}", wrong.argument == named and named in bootimg.ARGUMENTS)
 
 # What is no header and no code.
 linux = {"os": "linux", "arch": "arm64", "type": "kernel"}

@@ -119,7 +119,7 @@ for wanted, options in [
     ("BadField at 1", {"configurations": [one, other._replace(compatible="x\0")]}),
     ("BadField at 0", {"configurations": [one._replace(description="\0"), other]}),
     ("wrong argument: 'sha224'", {"hashes": ["sha256", "sha224"]}),
-    ("wrong argument", {"hashes": [], "limit": 63}),
+    ("wrong argument: limit", {"hashes": [], "limit": 63}),
 ]:
     check(f"it is refused with {wanted}: {options}", refusal(**options) == wanted)
 twice = bootimg.open(bootimg.build_fit([bootimg.BuildImage("a", b"x", "linux", "arm64", "kernel")], hashes=["md5", "md5"]))

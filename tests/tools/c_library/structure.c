@@ -136,15 +136,15 @@ static void build_again(struct memory file)
     CHECK(memcmp(&built, &answer, sizeof built) == 0 && memcmp(text.bytes, normal.bytes, text.size) == 0);
     fields.name.offset = file.size - fields.name.size + 1;
     CHECK(bootimg_build_legacy(file.bytes, file.size, &fields, parts, count, BOOTIMG_LIMIT, BOOTIMG_DEPTH, text.bytes, text.size,
-                               &built) == BOOTIMG_WRONG_ARGUMENT);
+                               &built) == BOOTIMG_WRONG_ARGUMENT && built.reason == BOOTIMG_ARGUMENT_FIELDS);
     fields.name.offset = fields.name.size = 0;
     CHECK(bootimg_build_legacy(file.bytes, file.size, &fields, NULL, 0, BOOTIMG_LIMIT, BOOTIMG_DEPTH, NULL, 0, &built) ==
           (fields.image_type == 4 || fields.image_type == 6 ? BOOTIMG_NO_ROOM : BOOTIMG_REFUSED));
     if (count != 0) {
         parts[count - 1].size = SIZE_MAX;
         CHECK(bootimg_build_legacy(file.bytes, file.size, &fields, parts, count, BOOTIMG_LIMIT, BOOTIMG_DEPTH, text.bytes, text.size,
-                                   &built) == BOOTIMG_WRONG_ARGUMENT);
-        CHECK(built.size == 0 && memcmp(text.bytes, normal.bytes, text.size) == 0);
+                                   &built) == BOOTIMG_WRONG_ARGUMENT && built.reason == BOOTIMG_ARGUMENT_PARTS);
+        CHECK(built.size == 0 && built.value == count - 1 && memcmp(text.bytes, normal.bytes, text.size) == 0);
     }
     give_back(array);
     give_back(text);
@@ -193,12 +193,13 @@ static void build_tree(struct memory file, uint32_t form)
                             &again) == BOOTIMG_REFUSED && again.cause == BOOTIMG_CAUSE_DUPLICATE_NODE && again.offset == 1);
     images[1].addresses = 4;
     CHECK(bootimg_build_fit(input.bytes, input.size, NULL, 0, 7, images, 2, form, BOOTIMG_LIMIT, BOOTIMG_DEPTH, NULL, 0,
-                            &again) == BOOTIMG_WRONG_ARGUMENT);
+                            &again) == BOOTIMG_WRONG_ARGUMENT && again.reason == BOOTIMG_ARGUMENT_IMAGES && again.value == 1);
     images[0].payload.size++;
     images[0].payload.offset = 9;
     CHECK(bootimg_build_fit(input.bytes, input.size, NULL, 0, 7, images, 1, form, BOOTIMG_LIMIT, BOOTIMG_DEPTH, NULL, 0,
-                            &again) == BOOTIMG_WRONG_ARGUMENT);
-    CHECK(bootimg_build_fit(NULL, 0, NULL, 0, 7, NULL, 0, 2, BOOTIMG_LIMIT, BOOTIMG_DEPTH, NULL, 0, &again) == BOOTIMG_WRONG_ARGUMENT);
+                            &again) == BOOTIMG_WRONG_ARGUMENT && again.reason == BOOTIMG_ARGUMENT_IMAGES && again.value == 0);
+    CHECK(bootimg_build_fit(NULL, 0, NULL, 0, 7, NULL, 0, 2, BOOTIMG_LIMIT, BOOTIMG_DEPTH, NULL, 0, &again) == BOOTIMG_WRONG_ARGUMENT &&
+          again.reason == BOOTIMG_ARGUMENT_FORM);
     CHECK(bootimg_build_fit(NULL, 0, NULL, 0, 7, NULL, 0, form, BOOTIMG_LIMIT, BOOTIMG_DEPTH, NULL, 0, &again) == BOOTIMG_NO_ROOM);
     give_back(input);
     give_back(text);
@@ -274,15 +275,15 @@ static int has_value(struct memory text, const char *path, const char *name, con
            found.size == size && memcmp(text.bytes + found.value, value, size) == 0;
 }
 
-/* A plan with a wrong argument builds nothing, and leaves nothing. */
-static void is_wrong(const struct plan *plan, struct memory input)
+/* A plan with this wrong argument, and, if it is an array, with this wrong element, builds nothing, and leaves only their numbers. */
+static void is_wrong(const struct plan *plan, struct memory input, uint32_t argument, size_t index)
 {
-    static const bootimg_result none;
+    const bootimg_result named = {.value = index, .reason = argument};
     uint8_t buffer[8];
     bootimg_result answer;
     memset(buffer, 0xa5, sizeof buffer);
     CHECK(build_plan(plan, input, buffer, sizeof buffer, &answer) == BOOTIMG_WRONG_ARGUMENT);
-    CHECK(memcmp(&answer, &none, sizeof answer) == 0 && is_unchanged(buffer, sizeof buffer));
+    CHECK(memcmp(&answer, &named, sizeof answer) == 0 && is_unchanged(buffer, sizeof buffer));
 }
 
 /* Plans with wrong arguments: each is the plan but for one number. */
@@ -291,37 +292,38 @@ static void are_wrong(const struct plan *plan, struct memory input)
     const bootimg_region outside[] = {{input.size, 1}, {input.size + 1, 0}, {1, SIZE_MAX}, {SIZE_MAX, 2}};
     const bootimg_range past[] = {{0, 7}, {6, 1}, {7, 0}, {SIZE_MAX, 2}, {2, SIZE_MAX}};
     struct plan other;
-#define IS_WRONG(member, value) (other = *plan, other.member = (value), is_wrong(&other, input))
-    IS_WRONG(options.size, sizeof(bootimg_build_options) - 4);
-    IS_WRONG(options.size, 0);
-    IS_WRONG(options.form, 2);
-    IS_WRONG(options.limit, 63);
-    IS_WRONG(options.depth, 0);
-    IS_WRONG(options.given, 2);
-    IS_WRONG(texts[1].given, 4);
-    IS_WRONG(configurations[0].given, 2);
-    IS_WRONG(algorithms[1], 6);
+#define IS_WRONG(member, value, argument, index) \
+    (other = *plan, other.member = (value), is_wrong(&other, input, BOOTIMG_ARGUMENT_##argument, index))
+    IS_WRONG(options.size, sizeof(bootimg_build_options) - 4, OPTIONS, 0);
+    IS_WRONG(options.size, 0, OPTIONS, 0);
+    IS_WRONG(options.form, 2, FORM, 0);
+    IS_WRONG(options.limit, 63, LIMIT, 0);
+    IS_WRONG(options.depth, 0, DEPTH, 0);
+    IS_WRONG(options.given, 2, OPTIONS, 0);
+    IS_WRONG(texts[1].given, 4, TEXTS, 1);
+    IS_WRONG(configurations[0].given, 2, CONFIGURATIONS, 0);
+    IS_WRONG(algorithms[1], 6, ALGORITHMS, 1);
     for (size_t i = 0; i < 4; i++) {
-        IS_WRONG(options.description, outside[i]);
-        IS_WRONG(options.default_name, outside[i]);
-        IS_WRONG(images[0].payload, outside[i]);
-        IS_WRONG(texts[0].description, outside[i]);
-        IS_WRONG(texts[1].image_type, outside[i]);
-        IS_WRONG(texts[1].arch, outside[i]);
-        IS_WRONG(texts[1].os, outside[i]);
-        IS_WRONG(texts[1].compression, outside[i]);
-        IS_WRONG(configurations[0].name, outside[i]);
-        IS_WRONG(configurations[0].description, outside[i]);
-        IS_WRONG(lists[5], outside[i]);
+        IS_WRONG(options.description, outside[i], OPTIONS, 0);
+        IS_WRONG(options.default_name, outside[i], OPTIONS, 0);
+        IS_WRONG(images[0].payload, outside[i], IMAGES, 0);
+        IS_WRONG(texts[0].description, outside[i], TEXTS, 0);
+        IS_WRONG(texts[1].image_type, outside[i], TEXTS, 1);
+        IS_WRONG(texts[1].arch, outside[i], TEXTS, 1);
+        IS_WRONG(texts[1].os, outside[i], TEXTS, 1);
+        IS_WRONG(texts[1].compression, outside[i], TEXTS, 1);
+        IS_WRONG(configurations[0].name, outside[i], CONFIGURATIONS, 0);
+        IS_WRONG(configurations[0].description, outside[i], CONFIGURATIONS, 0);
+        IS_WRONG(lists[5], outside[i], LISTS, 5);
     }
     for (size_t i = 0; i < 5; i++) {
-        IS_WRONG(configurations[1].compatible, past[i]);
-        IS_WRONG(configurations[1].kernel, past[i]);
-        IS_WRONG(configurations[1].fdt, past[i]);
-        IS_WRONG(configurations[1].ramdisk, past[i]);
-        IS_WRONG(configurations[1].firmware, past[i]);
-        IS_WRONG(configurations[1].loadables, past[i]);
-        IS_WRONG(configurations[1].script, past[i]);
+        IS_WRONG(configurations[1].compatible, past[i], CONFIGURATIONS, 1);
+        IS_WRONG(configurations[1].kernel, past[i], CONFIGURATIONS, 1);
+        IS_WRONG(configurations[1].fdt, past[i], CONFIGURATIONS, 1);
+        IS_WRONG(configurations[1].ramdisk, past[i], CONFIGURATIONS, 1);
+        IS_WRONG(configurations[1].firmware, past[i], CONFIGURATIONS, 1);
+        IS_WRONG(configurations[1].loadables, past[i], CONFIGURATIONS, 1);
+        IS_WRONG(configurations[1].script, past[i], CONFIGURATIONS, 1);
     }
 #undef IS_WRONG
 }
@@ -767,19 +769,23 @@ static void try_numbers(struct memory file)
     memset(&fit, 0xa5, sizeof fit);
     for (int i = 0; i < 6; i++) {
         const uint32_t limit = i < 3 ? limits[i] : BOOTIMG_LIMIT, depth = i < 3 ? BOOTIMG_DEPTH : depths[i - 3];
+        const uint32_t argument = i < 3 ? BOOTIMG_ARGUMENT_LIMIT : BOOTIMG_ARGUMENT_DEPTH;
         CHECK(bootimg_legacy(file.bytes, file.size, limit, depth, &fields, &answer) == BOOTIMG_WRONG_ARGUMENT);
-        CHECK(bootimg_fit(file.bytes, file.size, limit, depth, &fit, &answer) == BOOTIMG_WRONG_ARGUMENT);
+        CHECK(answer.reason == argument);
+        CHECK(bootimg_fit(file.bytes, file.size, limit, depth, &fit, &answer) == BOOTIMG_WRONG_ARGUMENT && answer.reason == argument);
         for (call.call = 0; call.call < ARRAYS; call.call++) {
             CHECK(fill_array(&call, limit, depth, element, 1, &answer) == BOOTIMG_WRONG_ARGUMENT);
-            CHECK(answer.size == 0 && answer.value == 0 && answer.cause == 0);
+            CHECK(answer.size == 0 && answer.value == 0 && answer.cause == 0 && answer.reason == argument);
         }
     }
     call.call = LISTED;
     call.key = BOOTIMG_SCRIPT + 1;
     CHECK(fill_array(&call, BOOTIMG_LIMIT, BOOTIMG_DEPTH, element, 1, &answer) == BOOTIMG_WRONG_ARGUMENT);
+    CHECK(answer.reason == BOOTIMG_ARGUMENT_KEY);
     call.call = CONCERNS;
     call.kinds = 2 * BOOTIMG_SIGNED;
     CHECK(fill_array(&call, BOOTIMG_LIMIT, BOOTIMG_DEPTH, element, 1, &answer) == BOOTIMG_WRONG_ARGUMENT);
+    CHECK(answer.reason == BOOTIMG_ARGUMENT_KINDS);
     CHECK(is_unchanged(element, sizeof element) && is_unchanged((const uint8_t *)&fields, sizeof fields));
     CHECK(is_unchanged((const uint8_t *)&fit, sizeof fit));
 }

@@ -29,14 +29,14 @@ COMMANDS = {
     "update": {"--external", "--align", "--time", "--hashes"},
     "extract": {"--part", "--image", "--config", "--default", "--key", "--index"},
     "list": {"--json"},
-    "describe": {"--json"},
+    "describe": {"--json", "--deep"},
     "scan": {"--json"},
     "show": {"--layout", "--json"},
     "verify": {"--json"},
     "check": {"--allow", "--signed", "--json"},
     "convert": set(),
 }
-FLAGS = {"--external", "--hashes", "--default", "--json", "--layout", "--signed"}
+FLAGS = {"--external", "--hashes", "--default", "--json", "--layout", "--signed", "--deep"}
 SELECTIONS = {"--part", "--image", "--config", "--default"}
 
 
@@ -115,6 +115,38 @@ def differences(entry):
     if outcome([calls.resolve(), *words, path]) != wanted:
         found.append("calls.c")
     return found, entry["arguments"] + [path], wanted
+
+
+def compared(entry):
+    """How the module and the call for C differ from the program on a run that compares the file with another one, or None if it is none
+    of one call. The program refuses a file that is over the limit while it reads it, before it looks at the other one."""
+    command, *words = entry["arguments"] or [""]
+    if command != "compare" or not entry["file"]:
+        return None
+    options, images, seen = [], [], set()
+    while words:
+        word = words.pop(0)
+        if word in ("--json", "--deep", "--quiet") and word not in seen:
+            seen.add(word)
+            options.append(word)
+        elif word in ("--ignore", "--limit") and words and (value := value_for_calls(word, words.pop(0))):
+            options += value
+        elif word == "-" or not word.startswith("-") and (runs / word).is_file():
+            images.append(str(runs / (entry["file"] if word == "-" else word)))
+        else:
+            return None
+    if len(images) != 2 or options.count("--limit") > 1 or options.count("--ignore") > 8:
+        return None
+    limit = int(options[options.index("--limit") + 1]) if "--limit" in options else bootimg.LIMIT
+    if any(os.path.getsize(image) > limit for image in images):
+        return None
+    status, output, errors = outcome([program.resolve(), command, *options, *images])
+    found = []
+    if by_module([command, *options, *images]) != (status, output, errors):
+        found.append("bootimg.compare")
+    if "--quiet" not in seen and outcome([calls.resolve(), command, *options, *images]) != (status, output, errors):
+        found.append("calls.c")
+    return [f"{name}: {' '.join(entry['arguments'])}" for name in found], "--deep" in seen
 
 
 def by_module_or_reason(path, words, form):
@@ -317,6 +349,17 @@ for found in values:
         print(f"FAILED: {name}")
 if len(values) < 30:
     print("FAILED: too few runs get one value")
+
+of_two = [found for found in map(compared, entries) if found is not None]
+passed += sum(2 - len(found) for found, _ in of_two)
+failed += sum(len(found) for found, _ in of_two)
+for found, _ in of_two:
+    for name in found:
+        print(f"FAILED: {name}")
+for count, what in (sum(is_deep for _, is_deep in of_two), "deep"), (sum(not is_deep for _, is_deep in of_two), "other"):
+    failed += count < 50
+    if count < 50:
+        print(f"FAILED: too few {what} runs compare: {count}")
 
 of_edits = [found for found in map(edited, entries) if found is not None]
 passed += sum(2 - len(found) for found in of_edits)

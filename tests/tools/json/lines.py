@@ -75,9 +75,17 @@ def code(value):
     return str(number(value) if type(value) is int else name(value))
 
 
-def digest(value):
-    size, sha256 = members(value, "size", "sha256")
-    return f"size {number(size)} sha256 {string(sha256, '[0-9a-f]{64}')}"
+def payload_lines(word, value, path):
+    """The line of a payload, which begins with this, and the lines of the devicetree that it is, if they are there. The payload has this
+    path."""
+    is_tree = type(value) is dict and "devicetree" in value
+    size, sha256, *tree = members(value, "size", "sha256", *["devicetree"] * is_tree)
+    yield f"{word} size {number(size)} sha256 {string(sha256, '[0-9a-f]{64}')}"
+    if is_tree:
+        boot_cpu, reserved, root = members(tree[0], "boot_cpu", "reservations", "root")
+        yield f"inside {path} boot-cpu {number(boot_cpu)}"
+        yield from [f"inside {path} {line}" for line in reservations(reserved)]
+        yield from node(root, (), path)
 
 
 def reservations(value):
@@ -158,7 +166,8 @@ def description(value):
     if is_legacy(value):
         *fields, parts = members(value, *LEGACY)
         yield from header(fields)
-        yield from [f"part {i} {digest(part)}" for i, part in enumerate(array(parts))]
+        for i, part in enumerate(array(parts)):
+            yield from payload_lines(f"part {i}", part, f"part-{i}")
         return
     kind, boot_cpu, reserved, root = members(value, "kind", "boot_cpu", "reservations", "root")
     yield f"kind {string(kind, 'fit')}"
@@ -167,22 +176,25 @@ def description(value):
     yield from node(root, ())
 
 
-def node(value, above):
-    """The lines of a node and of those below it. `above` has the names of the nodes above it but the root, or is empty for the root."""
+def node(value, above, outside=""):
+    """The lines of a node and of those below it. `above` has the names of the nodes above it but the root, or is empty for the root.
+    `outside` is the path of the payload that the tree is in, or empty for the image itself."""
     demand(type(value) is dict, "a node", value)
     names = (*above, name(value.get("name"))) if above or "name" in value else ()
-    path = "/" + "/".join(names)
-    is_image = len(names) == 2 and names[0] == "images"
+    path = f"{outside}{'/' * bool(outside)}/{'/'.join(names)}"
+    is_image = not outside and len(names) == 2 and names[0] == "images"
     *first, properties, children = members(
         value, *["name"] * bool(names), *["payload"] * is_image, "properties", "children")
     yield f"node {path}"
-    if is_image:
-        yield f"payload {path} {'none' if first[1] is None else digest(first[1])}"
+    if is_image and first[1] is None:
+        yield f"payload {path} none"
+    elif is_image:
+        yield from payload_lines(f"payload {path}", first[1], path)
     for each in array(properties):
         yield " ".join([f"property {path}", *words_of_property(each)])
     for child in array(children):
         demand(type(child) is dict and "name" in child, "a node with a name", child)
-        yield from node(child, names)
+        yield from node(child, names, outside)
 
 
 def words_of_property(value):
