@@ -93,6 +93,7 @@ complete -c bootimg -n '__bootimg_is normalise normalize show describe update ex
 complete -c bootimg -n '__bootimg_is show' -l layout -d 'Also show the regions of the file by their offsets'
 complete -c bootimg -n '__bootimg_is show list describe compare diff verify check scan' -l json -d 'Write JSON instead of lines'
 complete -c bootimg -n '__bootimg_is list verify check scan' -F
+complete -c bootimg -n '__bootimg_is describe compare diff' -l deep -d 'Also look inside each payload or part that is a devicetree'
 complete -c bootimg -n '__bootimg_is compare diff' -l ignore -x -d 'What is left out of both images' -a '(__fish_complete_list , "printf %s\n time signatures")'
 complete -c bootimg -n '__bootimg_is compare diff' -l quiet -d 'Write nothing'
 complete -c bootimg -n '__bootimg_is compare diff' -F
