@@ -180,9 +180,9 @@ enum bootimg_cause {
 #define BOOTIMG_FINDS_NOTHING 18u
 
 /* `reason` with BOOTIMG_WRONG_ARGUMENT: the parameter of the call with this name.
- * BOOTIMG_ARGUMENT_PLACE stands for `place` and `name` of bootimg_get, and BOOTIMG_ARGUMENT_FIELDS
- * for the region of the name. `form`, `limit` and `depth` of bootimg_build_options have their own
- * numbers, and BOOTIMG_ARGUMENT_OPTIONS stands for its other members. */
+ * BOOTIMG_ARGUMENT_PLACE is `place` or `name` of bootimg_get, and BOOTIMG_ARGUMENT_FIELDS is the
+ * region of the name. `form`, `limit` and `depth` of bootimg_build_options have their own numbers,
+ * and BOOTIMG_ARGUMENT_OPTIONS is the struct or one of its other members. */
 enum bootimg_argument {
     BOOTIMG_ARGUMENT_OPTIONS = 1,
     BOOTIMG_ARGUMENT_LIMIT = 2,

@@ -41,7 +41,8 @@ pub record IsNameOfCode (field code : ℕ) (text : List ℕ) (value : ℕ) : Typ
 
 -- Why no name is written: a number is wrong, or the code has no name.
 abbrev pub IsCodeNameFailure : (field code : ℕ) → Failure → Type 0
-IsCodeNameFailure field code (WrongArgument found index) = IsWrong (CodeCheck field code) found index
+IsCodeNameFailure field code (WrongArgument found index) =
+    IsWrong (CodeCheck field code) found index
 IsCodeNameFailure field code (NotFound reason index) =
     HasCodeOfField field code × (name_of_code (names_of_field field) code ≡ None)
     × (reason ≡ 14) × (index ≡ 0)

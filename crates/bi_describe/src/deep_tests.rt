@@ -15,7 +15,7 @@ use std::test::Fail;
 /// A flattened image tree with one image, `a`, whose payload is a devicetree: its root has the
 /// model `m`.
 #[rattlefmt::skip]
-const D1: &[u8; 213] =
+const FIT_M: &[u8; 213] =
     b"\xd0\x0d\xfe\xed\x00\x00\x00\xd5\x00\x00\x00\x38\x00\x00\x00\xd0\x00\x00\x00\x28\
       \x00\x00\x00\x11\x00\x00\x00\x10\x00\x00\x00\x00\x00\x00\x00\x05\x00\x00\x00\x98\
       \x00\x00\x00\x00\x00\x00\x00\x00\x00\x00\x00\x00\x00\x00\x00\x00\x00\x00\x00\x01\
@@ -30,7 +30,7 @@ const D1: &[u8; 213] =
 
 /// The same with the model `n`.
 #[rattlefmt::skip]
-const D2: &[u8; 213] =
+const FIT_N: &[u8; 213] =
     b"\xd0\x0d\xfe\xed\x00\x00\x00\xd5\x00\x00\x00\x38\x00\x00\x00\xd0\x00\x00\x00\x28\
       \x00\x00\x00\x11\x00\x00\x00\x10\x00\x00\x00\x00\x00\x00\x00\x05\x00\x00\x00\x98\
       \x00\x00\x00\x00\x00\x00\x00\x00\x00\x00\x00\x00\x00\x00\x00\x00\x00\x00\x00\x01\
@@ -95,7 +95,7 @@ const E2: &[u8; 373] =
 
 /// A legacy image with two parts, the second of which is the devicetree with the model `m`.
 #[rattlefmt::skip]
-const L1: &[u8; 176] =
+const LEGACY_M: &[u8; 176] =
     b"\x27\x05\x19\x56\x62\x7a\x90\xc1\x00\x00\x00\x00\x00\x00\x00\x70\x00\x00\x80\x00\
       \x00\x00\x80\x00\xdf\x90\x9a\x4e\x05\x02\x04\x00\x6b\x00\x00\x00\x00\x00\x00\x00\
       \x00\x00\x00\x00\x00\x00\x00\x00\x00\x00\x00\x00\x00\x00\x00\x00\x00\x00\x00\x00\
@@ -108,7 +108,7 @@ const L1: &[u8; 176] =
 
 /// The same with the time 5 and the model `n`.
 #[rattlefmt::skip]
-const L2: &[u8; 176] =
+const LEGACY_N: &[u8; 176] =
     b"\x27\x05\x19\x56\x1a\xf1\xcb\x4d\x00\x00\x00\x05\x00\x00\x00\x70\x00\x00\x80\x00\
       \x00\x00\x80\x00\x70\x39\xd7\x84\x05\x02\x04\x00\x6b\x00\x00\x00\x00\x00\x00\x00\
       \x00\x00\x00\x00\x00\x00\x00\x00\x00\x00\x00\x00\x00\x00\x00\x00\x00\x00\x00\x00\
@@ -199,7 +199,7 @@ fn deep_descriptions(rt: HostRuntime) -> Result<(), Fail> {
              property /configurations/c/signature q\nnode /configurations/c/other\n",
         ),
         (
-            L1.as_slice(),
+            LEGACY_M.as_slice(),
             "kind legacy\nname k\ntime 0\nload 0x00008000\nentry 0x00008000\nos linux\narch arm\n\
              type multi\ncompression none\n\
              part 0 size 3 sha256 \
@@ -220,7 +220,7 @@ fn deep_descriptions(rt: HostRuntime) -> Result<(), Fail> {
         let short = Limits::new(text.len() as u32 - 1, 64).unwrap();
         assert!(rt; describe_deep(rt.alloc(), file, short, Format::Lines).is_err());
     }
-    let json = describe_deep(rt.alloc(), D1, limits(), Format::Json)?;
+    let json = describe_deep(rt.alloc(), FIT_M, limits(), Format::Json)?;
     assert_eq!(rt;
         json.as_str(),
         "{\"kind\":\"fit\",\"boot_cpu\":0,\"reservations\":[],\"root\":{\"properties\":[],\
@@ -245,8 +245,8 @@ fn comparing_with_what_is_inside(rt: HostRuntime) -> Result<(), Fail> {
         (
             [].as_slice(),
             true,
-            D1.as_slice(),
-            D2.as_slice(),
+            FIT_M.as_slice(),
+            FIT_N.as_slice(),
             "-payload /images/a size 96 sha256 \
              ff0b63de1f60df58dccfc46cce9fe816adb8fc59d7ac6c7cc20d7c4539b71fb4\n\
              +payload /images/a size 96 sha256 \
@@ -256,36 +256,36 @@ fn comparing_with_what_is_inside(rt: HostRuntime) -> Result<(), Fail> {
         (
             [b"/images/a// model".as_slice()].as_slice(),
             true,
-            D1.as_slice(),
-            D2.as_slice(),
+            FIT_M.as_slice(),
+            FIT_N.as_slice(),
             "",
         ),
         (
             [b"/images/a".as_slice()].as_slice(),
             false,
-            D1.as_slice(),
-            D2.as_slice(),
+            FIT_M.as_slice(),
+            FIT_N.as_slice(),
             "",
         ),
         (
             [b"/".as_slice()].as_slice(),
             true,
-            D1.as_slice(),
-            D2.as_slice(),
+            FIT_M.as_slice(),
+            FIT_N.as_slice(),
             "",
         ),
         (
             [b"/images/a//".as_slice()].as_slice(),
             true,
-            D1.as_slice(),
-            D2.as_slice(),
+            FIT_M.as_slice(),
+            FIT_N.as_slice(),
             "",
         ),
         (
             [b"/nothing".as_slice()].as_slice(),
             true,
-            D1.as_slice(),
-            D2.as_slice(),
+            FIT_M.as_slice(),
+            FIT_N.as_slice(),
             "-payload /images/a size 96 sha256 \
              ff0b63de1f60df58dccfc46cce9fe816adb8fc59d7ac6c7cc20d7c4539b71fb4\n\
              +payload /images/a size 96 sha256 \
@@ -295,8 +295,8 @@ fn comparing_with_what_is_inside(rt: HostRuntime) -> Result<(), Fail> {
         (
             [b"time".as_slice()].as_slice(),
             false,
-            L1.as_slice(),
-            L2.as_slice(),
+            LEGACY_M.as_slice(),
+            LEGACY_N.as_slice(),
             "-part 1 size 94 sha256 \
              a2da98827f29682186a6fb1d62bc191099a4cd1e214d311f00b927ee74748e4b\n\
              +part 1 size 94 sha256 \
@@ -305,15 +305,15 @@ fn comparing_with_what_is_inside(rt: HostRuntime) -> Result<(), Fail> {
         (
             [b"time".as_slice(), b"part-1"].as_slice(),
             true,
-            L1.as_slice(),
-            L2.as_slice(),
+            LEGACY_M.as_slice(),
+            LEGACY_N.as_slice(),
             "",
         ),
         (
             [b"time".as_slice(), b"part-1// model"].as_slice(),
             true,
-            L1.as_slice(),
-            L2.as_slice(),
+            LEGACY_M.as_slice(),
+            LEGACY_N.as_slice(),
             "",
         ),
         (
@@ -346,7 +346,7 @@ fn comparing_with_what_is_inside(rt: HostRuntime) -> Result<(), Fail> {
         (
             [b"time".as_slice()].as_slice(),
             true,
-            L1.as_slice(),
+            LEGACY_M.as_slice(),
             E2.as_slice(),
             "-kind legacy\n+kind fit\n",
         ),
@@ -360,25 +360,29 @@ fn comparing_with_what_is_inside(rt: HostRuntime) -> Result<(), Fail> {
 #[test]
 fn comparing_deep_descriptions(rt: HostRuntime) -> Result<(), Fail> {
     for (one, other, expected) in [
-        (D1.as_slice(), D1.as_slice(), ""),
+        (FIT_M.as_slice(), FIT_M.as_slice(), ""),
         (
-            D1.as_slice(),
-            D2.as_slice(),
+            FIT_M.as_slice(),
+            FIT_N.as_slice(),
             "-payload /images/a size 96 sha256 \
              ff0b63de1f60df58dccfc46cce9fe816adb8fc59d7ac6c7cc20d7c4539b71fb4\n\
              +payload /images/a size 96 sha256 \
              445a6ab14b173e197a745ab47cd76f1b0abd9cd424b0c3daa0cb064f41990aef\n\
              -property /images/a// model \"m\"\n+property /images/a// model \"n\"\n",
         ),
-        (D1.as_slice(), L1.as_slice(), "-kind fit\n+kind legacy\n"),
+        (
+            FIT_M.as_slice(),
+            LEGACY_M.as_slice(),
+            "-kind fit\n+kind legacy\n",
+        ),
     ] {
         let result = compare_deep(rt.alloc(), one, other, limits(), Format::Lines)?;
         assert_eq!(rt; result.differences.as_str(), expected);
         assert_eq!(rt; result.same, expected.is_empty());
     }
     let short = Limits::new(220, 64).unwrap();
-    assert!(rt; compare_deep(rt.alloc(), D1, D1, short, Format::Lines).is_ok());
-    let refused = match compare_deep(rt.alloc(), D1, D2, short, Format::Lines) {
+    assert!(rt; compare_deep(rt.alloc(), FIT_M, FIT_M, short, Format::Lines).is_ok());
+    let refused = match compare_deep(rt.alloc(), FIT_M, FIT_N, short, Format::Lines) {
         Err(CompareError::One(_)) => true,
         _ => false,
     };
@@ -390,9 +394,9 @@ fn comparing_deep_descriptions(rt: HostRuntime) -> Result<(), Fail> {
 fn piping_deep_descriptions(rt: HostRuntime) -> Result<(), Fail> {
     for format in [Format::Lines, Format::Json] {
         for file in [
-            D1.as_slice(),
+            FIT_M.as_slice(),
             E1.as_slice(),
-            L1.as_slice(),
+            LEGACY_M.as_slice(),
             NESTED.as_slice(),
         ] {
             let mut reader = file;
@@ -413,9 +417,9 @@ fn words_for_something_inside(rt: HostRuntime) -> Result<(), Fail> {
     let model = [b"/images/a// model".as_slice()];
     let payload = "-payload /images/a size 96 sha256 \
          ff0b63de1f60df58dccfc46cce9fe816adb8fc59d7ac6c7cc20d7c4539b71fb4\n";
-    let plain = differences(&rt, rt.alloc(), &model, false, D1, D2)?;
+    let plain = differences(&rt, rt.alloc(), &model, false, FIT_M, FIT_N)?;
     assert!(rt; plain.as_str().starts_with(payload));
-    let alone = differences(&rt, rt.alloc(), &model, true, D1, NESTED)?;
+    let alone = differences(&rt, rt.alloc(), &model, true, FIT_M, NESTED)?;
     assert_eq!(rt;
         alone.as_str(),
         "-payload /images/a size 96 sha256 \
@@ -425,10 +429,10 @@ fn words_for_something_inside(rt: HostRuntime) -> Result<(), Fail> {
          -inside /images/a boot-cpu 0\n-node /images/a//\n"
     );
     let image = [b"/images/a".as_slice(), b"/images/a//".as_slice()];
-    assert!(rt; differences(&rt, rt.alloc(), &image, true, D1, D2)?.is_empty());
+    assert!(rt; differences(&rt, rt.alloc(), &image, true, FIT_M, FIT_N)?.is_empty());
     let part = [b"time".as_slice(), b"part-1//".as_slice()];
-    assert!(rt; differences(&rt, rt.alloc(), &part, true, L1, L2)?.is_empty());
+    assert!(rt; differences(&rt, rt.alloc(), &part, true, LEGACY_M, LEGACY_N)?.is_empty());
     let other_part = [b"time".as_slice(), b"part-0//".as_slice()];
-    assert!(rt; !differences(&rt, rt.alloc(), &other_part, true, L1, L2)?.is_empty());
+    assert!(rt; !differences(&rt, rt.alloc(), &other_part, true, LEGACY_M, LEGACY_N)?.is_empty());
     Ok(())
 }
